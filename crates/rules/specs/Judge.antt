@@ -1,0 +1,53 @@
+-- The judge. "It answers yes or no, the row of least slack (lower row on a tie) and that slack."
+use Prim.Native.Nat.{ℕ}
+use mathlib.Core.Bool.{cond}
+use mathlib.Core.List.{List, [], _∷_, _++_, map}
+use lib.IntN.{pos}
+use lib.ListN.{length, take, replicate}
+use lib.Signed.{ltZ}
+use Rattle.rules.specs.declared.Row.{Row}
+use Rattle.rules.specs.declared.Table.{Table}
+use Rattle.rules.specs.declared.Check.{Check}
+use Rattle.rules.specs.declared.Check.the-variants as Checks
+use Rattle.rules.specs.declared.Verdict.{Verdict}
+use Rattle.rules.specs.declared.Verdict.the-variants.{Correct, Incorrect, Refused}
+use Rattle.rules.specs.Orders.{checkBoth}
+use Rattle.rules.specs.Rows.{rowsOf}
+use Rattle.rules.specs.Worst.{slack}
+
+-- the row of least slack among row b and the rows of the list, which come after it
+abbrev pub leastSlack : Table → List ℕ → ℕ → List ℕ → ℕ
+leastSlack t o b [] = b
+leastSlack t o b (i ∷ is) = leastSlack t o (cond (ltZ (slack t o i) (slack t o b)) i b) is
+
+-- the row of least slack, the lower row on a tie
+unfoldable pub tightest : Table → List ℕ → ℕ
+tightest t o = leastSlack t o 1 (rowsOf t)
+
+-- yes exactly if no slack is below zero (in slots)
+abbrev pub verdictAt : Table → List ℕ → ℕ → Verdict
+verdictAt t o i = cond (ltZ (slack t o i) (pos 0)) (Incorrect i (slack t o i)) (Correct i (slack t o i))
+
+abbrev pub judgeChecked : Check → Table → List ℕ → Verdict
+judgeChecked Checks.Passed t o = verdictAt t o (tightest t o)
+judgeChecked (Checks.Refused r) t o = Refused r
+
+-- the judge's answer for any table and any sixty-four numbers: checks 3, 4, 5, 6, then the verdict
+unfoldable pub judgeOf : Table → List ℕ → Verdict
+judgeOf t o = judgeChecked (checkBoth t o) t o
+
+-- "The judge borrows the rows as a list of records. The list's length is n." A longer list than 64 is refused by its n.
+abbrev pub column : (Row → ℕ) → List Row → List ℕ
+column f rows = take 64 (map f rows ++ replicate 64 0)
+
+unfoldable pub tableOf : List Row → ℕ → ℕ → Table
+tableOf rows normal degraded =
+    record {
+      n = length rows;
+      normal = normal;
+      degraded = degraded;
+      release = column (λ r. r .release) rows;
+      work = column (λ r. r .work) rows;
+      deadline = column (λ r. r .deadline) rows;
+      level = column (λ r. r .level) rows;
+    }

@@ -1,0 +1,17 @@
+pub mod Lists
+pub mod Need
+pub mod Rows
+pub mod Tables
+pub mod Orders
+pub mod Slots
+pub mod Correct
+pub mod Worst
+pub mod Choice
+pub mod Judge
+pub mod Calls
+pub mod Numbers
+pub mod Fields
+pub mod Sheets
+pub mod Program
+pub mod Cases
+pub mod TextCases

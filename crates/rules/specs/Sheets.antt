@@ -1,0 +1,66 @@
+-- The sheet and its reader. "A line ends with byte 10. The first line holds row count n, N, G (25 bytes).
+-- Then n lines hold a, c, d, level (33 bytes each). Nothing follows the last line."
+use Prim.Native.Nat.{ℕ, _+_, _-_, _*_}
+use mathlib.Core.Bool.{Bool, cond, _&&_}
+use mathlib.Core.List.{List, [], _∷_, _++_, map}
+use lib.Dec.{eqb, ltb}
+use lib.ListN.{length, getD, take, replicate}
+use Rattle.rules.specs.declared.Table.{Table}
+use Rattle.rules.specs.declared.Refusal.the-variants.{Length, Malformed, RowCount}
+use Rattle.rules.specs.declared.Check.{Check}
+use Rattle.rules.specs.declared.Check.the-variants.{Passed, Refused}
+use Rattle.rules.specs.declared.Reading.{Reading}
+use Rattle.rules.specs.Fields.{valueOf, isField, fieldAt}
+use Rattle.rules.specs.Lists.{all, rowsTo}
+use Rattle.rules.specs.Tables.{countOk, checkTable, zeroTable}
+
+-- k fields and a line end are well formed from byte start on
+unfoldable pub isLine : List ℕ → ℕ → ℕ → Bool
+isLine bytes start k = all (λ j. isField (fieldAt bytes (start + 8 * (j - 1)))) (rowsTo k) && eqb (getD bytes (start + 8 * k) 0) 10
+
+-- the number in the j-th field (from 1) of the line that starts at a byte
+unfoldable pub numberAt : List ℕ → ℕ → ℕ → ℕ
+numberAt bytes start j = valueOf (fieldAt bytes (start + 8 * (j - 1)))
+
+-- the byte at which row i's line starts
+abbrev pub lineOf : ℕ → ℕ
+lineOf i = 25 + 33 * (i - 1)
+
+-- the j-th figures of the first n rows, zeros after
+unfoldable pub columnOf : List ℕ → ℕ → ℕ → List ℕ
+columnOf bytes n j = take 64 (map (λ i. numberAt bytes (lineOf i) j) (rowsTo n) ++ replicate 64 0)
+
+-- the table that the bytes state
+unfoldable pub tableIn : List ℕ → Table
+tableIn bytes =
+    let n = numberAt bytes 0 1 in
+    record {
+      n = n;
+      normal = numberAt bytes 0 2;
+      degraded = numberAt bytes 0 3;
+      release = columnOf bytes n 1;
+      work = columnOf bytes n 2;
+      deadline = columnOf bytes n 3;
+      level = columnOf bytes n 4;
+    }
+
+-- "Sheet checks come in this order: 1 for under 25 bytes, 2 in the first line, 3, 1 for length, 2 by row, 4, 5 by row."
+unfoldable pub checkSheet : List ℕ → Check
+checkSheet bytes =
+    cond (ltb (length bytes) 25)
+    (Refused Length)
+    (cond (isLine bytes 0 3)
+    (cond (countOk (numberAt bytes 0 1))
+    (cond (eqb (length bytes) (25 + 33 * numberAt bytes 0 1))
+    (cond (all (λ i. isLine bytes (lineOf i) 4) (rowsTo (numberAt bytes 0 1))) (checkTable (tableIn bytes)) (Refused Malformed))
+    (Refused Length))
+    (Refused RowCount))
+    (Refused Malformed))
+
+abbrev pub readChecked : Check → Table → Reading
+readChecked Passed t = record { check = Passed; table = t }
+readChecked (Refused r) t = record { check = Refused r; table = zeroTable }
+
+-- the reader's answer for any bytes: the number and the whole table, all zero on a refusal
+unfoldable pub readOf : List ℕ → Reading
+readOf bytes = readChecked (checkSheet bytes) (tableIn bytes)

@@ -1,0 +1,65 @@
+-- Which tables are accepted: checks 3, 4 and 5, in this order.
+-- "Limits: n 1 to 64; N 1 to 1,000; G 1 to N; c 1 to 1,000,000; d at most 1,000,000; a below d; level 0 or 1.
+-- A table's rows after the n-th are all zero, else 5."
+use Prim.Native.Nat.{ℕ}
+use mathlib.Core.Bool.{Bool, true, false, cond, _&&_}
+use mathlib.Core.Path.{_≡_}
+use lib.Dec.{ltb, leb}
+use lib.ListN.{drop, replicate}
+use Rattle.rules.specs.declared.Table.{Table}
+use Rattle.rules.specs.declared.Refusal.the-variants.{RowCount, Speeds, RowLimits}
+use Rattle.rules.specs.declared.Check.{Check}
+use Rattle.rules.specs.declared.Check.the-variants.{Passed, Refused}
+use Rattle.rules.specs.Lists.{all, allZero}
+use Rattle.rules.specs.Rows.{at, rowsOf, releaseOf, workOf, deadlineOf}
+
+-- n is from 1 to 64 rows
+abbrev pub countOk : ℕ → Bool
+countOk n = leb 1 n && leb n 64
+
+-- N is from 1 to 1,000 and G from 1 to N, in work units per slot
+abbrev pub speedsOk : ℕ → ℕ → Bool
+speedsOk normal degraded = leb 1 normal && leb normal 1000 && leb 1 degraded && leb degraded normal
+
+-- row i is within its limits
+unfoldable pub rowOk : Table → ℕ → Bool
+rowOk t i =
+    leb 1 (workOf t i)
+    && leb (workOf t i) 1000000
+    && leb (deadlineOf t i) 1000000
+    && ltb (releaseOf t i) (deadlineOf t i)
+    && leb (at (t .level) i) 1
+
+-- the rows after the n-th are all zero
+unfoldable pub tailOk : Table → Bool
+tailOk t = allZero (drop (t .n) (t .release)) && allZero (drop (t .n) (t .work)) && allZero (drop (t .n) (t .deadline)) && allZero (drop (t .n) (t .level))
+
+-- checks 3, 4, 5
+unfoldable pub checkTable : Table → Check
+checkTable t =
+    cond (countOk (t .n))
+    (cond (speedsOk (t .normal) (t .degraded))
+    (cond (all (rowOk t) (rowsOf t) && tailOk t) Passed (Refused RowLimits))
+    (Refused Speeds))
+    (Refused RowCount)
+
+-- "A table is accepted if no check on tables (here 3 to 5) refuses it."
+abbrev pub Accepted : Table → Type 0
+Accepted t = checkTable t ≡ Passed
+
+abbrev pub passed : Check → Bool
+passed Passed = true
+passed (Refused r) = false
+
+-- the table of zeros
+abbrev pub zeroTable : Table
+zeroTable =
+    record {
+      n = 0;
+      normal = 0;
+      degraded = 0;
+      release = replicate 64 0;
+      work = replicate 64 0;
+      deadline = replicate 64 0;
+      level = replicate 64 0;
+    }

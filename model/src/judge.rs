@@ -1,0 +1,58 @@
+//! The judge of orders.
+
+use crate::order::{check_table_and_order, Order};
+use crate::plan::slack;
+use crate::table::{Row, Table, ROWS};
+
+/// The judge's answer: "yes or no, the row of least slack (lower row on a tie)
+/// and that slack". A refusal (3 to 6) is all zero: no, row 0, slack 0.
+#[derive(Clone, Copy, Debug, PartialEq, Eq)]
+pub struct Verdict {
+    pub number: u32,
+    pub yes: bool,
+    pub row: u8,
+    /// The least slack, in slots.
+    pub slack: i64,
+}
+
+/// "The judge borrows the rows as a list of records. The list's length is n."
+/// Speeds are in work units per slot.
+pub fn judge(normal: u32, degraded: u32, rows: &[Row], order: &Order) -> Verdict {
+    if rows.len() > ROWS {
+        return refused(3);
+    }
+    judge_table(&Table::of(normal, degraded, rows), order)
+}
+
+/// The judge on a table: it checks 3, 4, 5, then 6, and "says yes exactly if the
+/// order is correct", which is that no slack is below zero.
+pub fn judge_table(table: &Table, order: &Order) -> Verdict {
+    let refusal = check_table_and_order(table, order);
+    if refusal != 0 {
+        return refused(refusal);
+    }
+    let mut least_row = 1;
+    let mut least = slack(table, order, 1);
+    for row in 2..=table.n as u8 {
+        let of_row = slack(table, order, row);
+        if of_row < least {
+            least_row = row;
+            least = of_row;
+        }
+    }
+    Verdict {
+        number: 0,
+        yes: least >= 0,
+        row: least_row,
+        slack: least,
+    }
+}
+
+fn refused(number: u32) -> Verdict {
+    Verdict {
+        number,
+        yes: false,
+        row: 0,
+        slack: 0,
+    }
+}

@@ -1,0 +1,90 @@
+//! A small generator with fixed seeds, so that every test run is the same.
+
+use crate::table::{Row, Table};
+
+/// The splitmix64 generator.
+pub struct Random {
+    state: u64,
+}
+
+impl Random {
+    /// The generator that starts from this seed.
+    pub fn seeded(seed: u64) -> Random {
+        Random { state: seed }
+    }
+
+    /// The next 64-bit word.
+    pub fn word(&mut self) -> u64 {
+        self.state = self.state.wrapping_add(0x9E37_79B9_7F4A_7C15);
+        let mut z = self.state;
+        z = (z ^ (z >> 30)).wrapping_mul(0xBF58_476D_1CE4_E5B9);
+        z = (z ^ (z >> 27)).wrapping_mul(0x94D0_49BB_1331_11EB);
+        z ^ (z >> 31)
+    }
+
+    /// A number from `least` to `most`, both included.
+    pub fn between(&mut self, least: u32, most: u32) -> u32 {
+        let span = u64::from(most) - u64::from(least) + 1;
+        (u64::from(least) + self.word() % span) as u32
+    }
+
+    /// True once in `out_of` times.
+    pub fn once_in(&mut self, out_of: u32) -> bool {
+        self.between(1, out_of) == 1
+    }
+
+    /// One of these.
+    pub fn one_of<T: Copy>(&mut self, of: &[T]) -> T {
+        of[self.between(0, of.len() as u32 - 1) as usize]
+    }
+
+    /// These in a random sequence.
+    pub fn shuffled<T: Copy>(&mut self, of: &[T]) -> Vec<T> {
+        let mut rest = of.to_vec();
+        let mut sequence = Vec::new();
+        while !rest.is_empty() {
+            let index = self.between(0, rest.len() as u32 - 1) as usize;
+            sequence.push(rest.remove(index));
+        }
+        sequence
+    }
+}
+
+/// The ranges from which an accepted table is drawn.
+#[derive(Clone, Copy, Debug)]
+pub struct Ranges {
+    /// Most rows.
+    pub rows: u32,
+    /// Largest normal speed, in work units per slot.
+    pub speed: u32,
+    /// Latest release, in slots.
+    pub release: u32,
+    /// Largest need at N, in slots; the work follows from it.
+    pub need: u32,
+    /// Longest time from release to deadline, in slots.
+    pub window: u32,
+}
+
+/// An accepted table: 1 to `rows` rows, every figure from its range.
+pub fn table_in(random: &mut Random, ranges: Ranges) -> Table {
+    let n = random.between(1, ranges.rows);
+    table_of_rows_in(random, n, ranges)
+}
+
+/// An accepted table of exactly n rows, every other figure from its range.
+pub fn table_of_rows_in(random: &mut Random, n: u32, ranges: Ranges) -> Table {
+    let normal = random.between(1, ranges.speed);
+    let degraded = random.between(1, normal);
+    let rows: Vec<Row> = (0..n).map(|_| row_in(random, normal, ranges)).collect();
+    Table::of(normal, degraded, &rows)
+}
+
+fn row_in(random: &mut Random, normal: u32, ranges: Ranges) -> Row {
+    let release = random.between(0, ranges.release);
+    Row {
+        release,
+        work: random.between(1, ranges.need * normal),
+        deadline: release + random.between(1, ranges.window),
+        level: random.between(0, 1),
+    }
+}

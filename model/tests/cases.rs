@@ -1,0 +1,423 @@
+//! The cases of document 01, its example for every number, and the cases it
+//! says are also run.
+
+mod common;
+
+use common::{p1, p2, p3, p4, row, table};
+use model::calls::LAST_CLOCK;
+use model::judge::{judge, judge_table, Verdict};
+use model::order::{check_order, order_of, NO_ORDER};
+use model::plan::{passes_lowest, plan, slack, worst_finish, Plan};
+use model::program::planning_program;
+use model::record::Record;
+use model::run::run;
+use model::sheet::{read_sheet, sheet_of, write_sheet};
+use model::table::{check_table, Row, Table};
+
+fn accepted(rows: &[u8]) -> Plan {
+    Plan {
+        number: 0,
+        order: order_of(rows),
+        left: 0,
+    }
+}
+
+fn no_order(left: u64) -> Plan {
+    Plan {
+        number: 7,
+        order: NO_ORDER,
+        left,
+    }
+}
+
+#[test]
+fn p1_order_and_slacks() {
+    let order = order_of(&[1, 2, 3, 4]);
+    assert_eq!(plan(&p1()), accepted(&[1, 2, 3, 4]));
+    let slacks: Vec<i64> = (1..=4).map(|row| slack(&p1(), &order, row)).collect();
+    assert_eq!(slacks, [0, 2, 0, 0]);
+    for latest in [2, 3] {
+        assert!(!passes_lowest(&p1(), &[1, 2, 3, 4], &[], latest));
+    }
+    let least = Verdict {
+        number: 0,
+        yes: true,
+        row: 1,
+        slack: 0,
+    };
+    assert_eq!(judge_table(&p1(), &order), least);
+}
+
+#[test]
+fn p1_program_text() {
+    let expected = concat!(
+        "       0       4\n",
+        "       1       1       0\n",
+        "       2       2       2\n",
+        "       3       3       0\n",
+        "       4       4       0\n",
+    );
+    assert_eq!(planning_program(&sheet_of(&p1())), expected.as_bytes());
+}
+
+#[test]
+fn p2_order_of_the_paper() {
+    assert_eq!(plan(&p2()), accepted(&[3, 1, 2, 4]));
+}
+
+#[test]
+fn p3_no_order_and_two_rows_left() {
+    assert_eq!(plan(&p3()), no_order(0b11));
+    assert_eq!(plan(&p3()).rows_left(), 2);
+    assert_eq!(planning_program(&sheet_of(&p3())), b"       7       2\n");
+}
+
+#[test]
+fn p4_no_order() {
+    assert_eq!(plan(&p4()), no_order(0b11));
+}
+
+#[test]
+fn p5_one_lo_row() {
+    for degraded in 1..=3 {
+        assert_eq!(plan(&table(3, degraded, &[[0, 3, 1, 0]])), accepted(&[1]));
+        assert_eq!(plan(&table(3, degraded, &[[0, 4, 1, 0]])), no_order(1));
+    }
+}
+
+#[test]
+fn p6_one_hi_row() {
+    assert_eq!(plan(&table(2, 2, &[[0, 2, 1, 1]])), accepted(&[1]));
+    assert_eq!(plan(&table(2, 1, &[[0, 2, 1, 1]])), no_order(1));
+}
+
+#[test]
+fn p7_degraded_run_of_p3() {
+    let before = run(&p3(), &order_of(&[1, 2]), &[1; 4]);
+    assert_eq!(before.closing[..2], [1, 0]);
+    let state = run(&p3(), &order_of(&[1, 2]), &[1; 5]);
+    assert_eq!(state.closing[..2], [1, 5]);
+    assert_eq!(
+        state.got[..2],
+        [1, 4],
+        "row 1 is dropped with 1 of 2 work units"
+    );
+    assert_eq!(state.used[..2], [1, 4]);
+    assert!(state.closing[1] > p3().deadline[1], "row 2 is late");
+}
+
+#[test]
+fn p8_normal_run_of_p3() {
+    let state = run(&p3(), &order_of(&[1, 2]), &[2; 3]);
+    assert_eq!(state.closing[..2], [1, 3]);
+    assert_eq!(state.got[..2], [2, 4]);
+}
+
+/// A table of n rows, each with work 1 and the same latest deadline n.
+fn rows_of_one_slot(n: usize) -> Vec<Row> {
+    vec![row([0, 1, n as u32, 0]); n]
+}
+
+#[test]
+fn sixty_four_rows_are_planned() {
+    let full = Table::of(1, 1, &rows_of_one_slot(64));
+    let answer = plan(&full);
+    assert_eq!(answer.number, 0);
+    // Equal deadlines: the lower row takes the lower place.
+    let falling: Vec<u8> = (1..=64).rev().collect();
+    assert_eq!(answer.order, order_of(&falling));
+    assert_eq!(read_sheet(&sheet_of(&full)), (0, full));
+
+    let mut tight = full;
+    tight.deadline = [63; 64];
+    assert_eq!(plan(&tight), no_order(u64::MAX));
+    assert_eq!(plan(&tight).rows_left(), 64);
+    assert_eq!(planning_program(&sheet_of(&tight)), b"       7      64\n");
+}
+
+#[test]
+fn sixty_five_rows_are_refused() {
+    let rows = rows_of_one_slot(65);
+    let sheet = write_sheet(65, 1, 1, &rows);
+    assert_eq!(read_sheet(&sheet), (3, Table::ZERO));
+    assert_eq!(planning_program(&sheet), b"       3       0\n");
+    assert_eq!(judge(1, 1, &rows, &NO_ORDER), refused_verdict(3));
+    assert_eq!(judge(1, 1, &[], &NO_ORDER), refused_verdict(3));
+}
+
+fn refused_verdict(number: u32) -> Verdict {
+    Verdict {
+        number,
+        yes: false,
+        row: 0,
+        slack: 0,
+    }
+}
+
+#[test]
+fn deadline_one_million_and_one_more() {
+    let last = table(1, 1, &[[0, 1_000_000, 1_000_000, 1]]);
+    assert_eq!(plan(&last), accepted(&[1]));
+    let program = planning_program(&sheet_of(&last));
+    assert_eq!(program, b"       0       1\n       1       1       0\n");
+
+    let over = table(1, 1, &[[0, 1_000_000, 1_000_001, 1]]);
+    let refused = Plan {
+        number: 5,
+        order: NO_ORDER,
+        left: 0,
+    };
+    assert_eq!(plan(&over), refused);
+    assert_eq!(read_sheet(&sheet_of(&over)), (5, Table::ZERO));
+    assert_eq!(judge_table(&over, &order_of(&[1])), refused_verdict(5));
+
+    let most = slack(&table(1, 1, &[[0, 1, 1_000_000, 0]]), &order_of(&[1]), 1);
+    assert_eq!(most, 999_999, "the largest slack, in slots");
+}
+
+#[test]
+fn the_least_slack_there_is() {
+    // 64 rows of 1,000,000 slots each, all released in slot 999,999: the lowest
+    // finishes at 64,999,999.
+    let rows = vec![row([999_999, 1_000_000, 1_000_000, 1]); 64];
+    let full = Table::of(1, 1, &rows);
+    let order: Vec<u8> = (1..=64).collect();
+    assert_eq!(worst_finish(&full, &order_of(&order), 64), 64_999_999);
+}
+
+#[test]
+fn clock_one_before_the_last() {
+    let (number, fresh) = Record::fresh(&p3(), &order_of(&[1, 2]));
+    assert_eq!(number, 0);
+    let late = Record {
+        clock: LAST_CLOCK - 1,
+        ..fresh
+    };
+    assert_eq!(late.clock, 1_999_999);
+
+    let one = late.one_slot(5);
+    assert_eq!((one.number, one.row, one.record.clock), (0, 1, 2_000_000));
+    assert_eq!(one.record.closing[0], 2_000_000);
+
+    let over = one.record.one_slot(5);
+    assert_eq!((over.number, over.row), (8, 0));
+    assert_eq!(over.record, one.record);
+
+    let forward = late.forward(&[5, 5, 5]);
+    assert_eq!((forward.number, forward.worked), (8, 1));
+    assert_eq!(forward.record, one.record);
+
+    let nothing = one.record.forward(&[]);
+    assert_eq!((nothing.number, nothing.worked), (0, 0));
+    assert_eq!(nothing.record, one.record);
+}
+
+#[test]
+fn two_million_slots_from_a_fresh_record() {
+    let (_, fresh) = Record::fresh(&p3(), &order_of(&[1, 2]));
+    let supplies = vec![0; 2_000_001];
+    let all = fresh.forward(&supplies);
+    assert_eq!((all.number, all.worked), (8, 2_000_000));
+    assert_eq!(all.record.used[..2], [1, 1_999_999]);
+    assert_eq!(all.record.closing[..2], [1, 0]);
+    assert!(all.record.is_sound());
+    let within = fresh.forward(&supplies[..2_000_000]);
+    assert_eq!((within.number, within.worked), (0, 2_000_000));
+    assert_eq!(within.record, all.record);
+}
+
+#[test]
+fn number_1_no_bytes() {
+    assert_eq!(read_sheet(b""), (1, Table::ZERO));
+    assert_eq!(planning_program(b""), b"       1       0\n");
+}
+
+#[test]
+fn number_2_leading_zeros_in_the_count() {
+    let mut sheet = sheet_of(&p1());
+    sheet[..8].copy_from_slice(b"00000004");
+    assert_eq!(read_sheet(&sheet), (2, Table::ZERO));
+    assert_eq!(planning_program(&sheet), b"       2       0\n");
+}
+
+#[test]
+fn number_3_count_65() {
+    let mut counted = p1();
+    counted.n = 65;
+    assert_eq!(check_table(&counted), 3);
+    assert_eq!(plan(&counted).number, 3);
+    counted.n = 0;
+    assert_eq!(check_table(&counted), 3);
+    assert_eq!(Record::fresh(&counted, &NO_ORDER), (3, Record::ZERO));
+}
+
+#[test]
+fn number_4_degraded_above_normal() {
+    for (normal, degraded) in [(2, 3), (0, 0), (5, 0), (1_001, 1), (u32::MAX, u32::MAX)] {
+        let fast = Table {
+            normal,
+            degraded,
+            ..p1()
+        };
+        assert_eq!(check_table(&fast), 4, "N {normal}, G {degraded}");
+        assert_eq!(read_sheet_number(&fast), 4);
+    }
+    let fastest = Table {
+        normal: 1_000,
+        degraded: 1_000,
+        ..p1()
+    };
+    assert_eq!(check_table(&fastest), 0);
+}
+
+/// The reader's number for the sheet of this table, speeds cut to eight digits.
+fn read_sheet_number(table: &Table) -> u32 {
+    let cut = |speed: u32| speed.min(99_999_999);
+    let rows = table.rows();
+    read_sheet(&write_sheet(
+        table.n,
+        cut(table.normal),
+        cut(table.degraded),
+        &rows,
+    ))
+    .0
+}
+
+#[test]
+fn number_5_release_at_the_deadline() {
+    let refused: [[u32; 4]; 8] = [
+        [4, 1, 4, 0],
+        [5, 1, 4, 0],
+        [0, 0, 4, 0],
+        [0, 1_000_001, 4, 0],
+        [0, 1, 1_000_001, 0],
+        [0, 1, 0, 0],
+        [0, 1, 4, 2],
+        [0, 1, 4, u32::MAX],
+    ];
+    for figures in refused {
+        let limits = table(2, 1, &[[0, 1, 1, 0], figures]);
+        assert_eq!(check_table(&limits), 5, "{figures:?}");
+        assert_eq!(
+            Record::fresh(&limits, &order_of(&[1, 2])),
+            (5, Record::ZERO)
+        );
+    }
+    assert_eq!(check_table(&table(2, 1, &[[3, 1_000_000, 4, 1]])), 0);
+}
+
+#[test]
+fn number_5_figures_after_the_last_row() {
+    for index in [4, 63] {
+        for column in 0..4 {
+            let mut behind = p1();
+            match column {
+                0 => behind.release[index] = 1,
+                1 => behind.work[index] = 1,
+                2 => behind.deadline[index] = 1,
+                _ => behind.level[index] = 1,
+            }
+            assert_eq!(check_table(&behind), 5, "column {column}, index {index}");
+        }
+    }
+}
+
+#[test]
+fn number_6_row_1_twice() {
+    let refused: [&[u8]; 8] = [
+        &[1, 1],
+        &[1],
+        &[2],
+        &[0, 1, 2],
+        &[1, 0, 2],
+        &[1, 3],
+        &[1, 2, 1],
+        &[1, 255],
+    ];
+    for rows in refused {
+        assert_eq!(check_order(2, &order_of(rows)), 6, "{rows:?}");
+        assert_eq!(judge_table(&p3(), &order_of(rows)), refused_verdict(6));
+        assert_eq!(Record::fresh(&p3(), &order_of(rows)), (6, Record::ZERO));
+    }
+    let mut last_place = order_of(&[1, 2]);
+    last_place[63] = 1;
+    assert_eq!(check_order(2, &last_place), 6);
+    assert_eq!(check_order(2, &order_of(&[1, 2])), 0);
+    assert_eq!(check_order(2, &order_of(&[2, 1])), 0);
+}
+
+#[test]
+fn number_8_clock_two_million() {
+    let (_, fresh) = Record::fresh(&p3(), &order_of(&[1, 2]));
+    let over = Record {
+        clock: 2_000_000,
+        ..fresh
+    };
+    let one = over.one_slot(5);
+    assert_eq!((one.number, one.row, one.record), (8, 0, over));
+    let forward = over.forward(&[5]);
+    assert_eq!(
+        (forward.number, forward.worked, forward.record),
+        (8, 0, over)
+    );
+}
+
+#[test]
+fn number_9_clock_above_two_million() {
+    let (_, fresh) = Record::fresh(&p3(), &order_of(&[1, 2]));
+    let broken = Record {
+        clock: 2_000_001,
+        ..fresh
+    };
+    let one = broken.one_slot(5);
+    assert_eq!((one.number, one.row, one.record), (9, 0, broken));
+    for supplies in [&[][..], &[5][..]] {
+        let forward = broken.forward(supplies);
+        assert_eq!(
+            (forward.number, forward.worked, forward.record),
+            (9, 0, broken)
+        );
+    }
+}
+
+#[test]
+fn checks_on_a_table_come_in_their_order() {
+    let wrong = Table {
+        n: 65,
+        normal: 0,
+        ..table(1, 1, &[[4, 1, 4, 0]])
+    };
+    let order = order_of(&[1, 1]);
+    assert_eq!(judge_table(&wrong, &order).number, 3);
+    let counted = Table { n: 1, ..wrong };
+    assert_eq!(judge_table(&counted, &order).number, 4);
+    let paced = Table {
+        normal: 1,
+        ..counted
+    };
+    assert_eq!(judge_table(&paced, &order).number, 5);
+    let mut limited = paced;
+    limited.deadline[0] = 5;
+    assert_eq!(judge_table(&limited, &order).number, 6);
+    assert_eq!(judge_table(&limited, &order_of(&[1])).number, 0);
+}
+
+#[test]
+fn judge_names_the_row_of_least_slack() {
+    // P3 under 1 2: row 1 finishes at 1 (slack 1), row 2 at 1 + 4 = 5 (slack -1).
+    let late = Verdict {
+        number: 0,
+        yes: false,
+        row: 2,
+        slack: -1,
+    };
+    assert_eq!(judge_table(&p3(), &order_of(&[1, 2])), late);
+    // Two rows of one slot each, the lower one late by 1: its slack counts.
+    let pair = table(1, 1, &[[0, 1, 1, 0], [0, 1, 2, 0]]);
+    assert_eq!(judge_table(&pair, &order_of(&[2, 1])).row, 1);
+    assert_eq!(judge_table(&pair, &order_of(&[2, 1])).slack, -1);
+    // Equal slacks of 0: the lower row, whichever stands higher.
+    let tie = table(1, 1, &[[0, 1, 2, 0], [0, 1, 1, 0]]);
+    let both = judge_table(&tie, &order_of(&[2, 1]));
+    assert_eq!((both.yes, both.row, both.slack), (true, 1, 0));
+}
