@@ -1,18 +1,17 @@
-//! The cases of document 01, its example for every number, and the cases it
-//! says are also run.
+//! The cases of document 01 and those it says are also run.
 
 mod common;
 
-use common::{p1, p2, p3, p4, row, table};
+use common::{p1, p2, p3, p4, refused_verdict, row, table};
 use model::calls::LAST_CLOCK;
 use model::judge::{judge, judge_table, Verdict};
-use model::order::{check_order, order_of, NO_ORDER};
+use model::order::{order_of, NO_ORDER};
 use model::plan::{passes_lowest, plan, slack, worst_finish, Plan};
 use model::program::planning_program;
 use model::record::Record;
 use model::run::run;
 use model::sheet::{read_sheet, sheet_of, write_sheet};
-use model::table::{check_table, Row, Table};
+use model::table::{Row, Table};
 
 fn accepted(rows: &[u8]) -> Plan {
     Plan {
@@ -145,15 +144,6 @@ fn sixty_five_rows_are_refused() {
     assert_eq!(judge(1, 1, &[], &NO_ORDER), refused_verdict(3));
 }
 
-fn refused_verdict(number: u32) -> Verdict {
-    Verdict {
-        number,
-        yes: false,
-        row: 0,
-        slack: 0,
-    }
-}
-
 #[test]
 fn deadline_one_million_and_one_more() {
     let last = table(1, 1, &[[0, 1_000_000, 1_000_000, 1]]);
@@ -224,182 +214,6 @@ fn two_million_slots_from_a_fresh_record() {
     let within = fresh.forward(&supplies[..2_000_000]);
     assert_eq!((within.number, within.worked), (0, 2_000_000));
     assert_eq!(within.record, all.record);
-}
-
-#[test]
-fn number_1_no_bytes() {
-    assert_eq!(read_sheet(b""), (1, Table::ZERO));
-    assert_eq!(planning_program(b""), b"       1       0\n");
-}
-
-#[test]
-fn number_2_leading_zeros_in_the_count() {
-    let mut sheet = sheet_of(&p1());
-    sheet[..8].copy_from_slice(b"00000004");
-    assert_eq!(read_sheet(&sheet), (2, Table::ZERO));
-    assert_eq!(planning_program(&sheet), b"       2       0\n");
-}
-
-#[test]
-fn number_3_count_65() {
-    let mut counted = p1();
-    counted.n = 65;
-    assert_eq!(check_table(&counted), 3);
-    assert_eq!(plan(&counted).number, 3);
-    counted.n = 0;
-    assert_eq!(check_table(&counted), 3);
-    assert_eq!(Record::fresh(&counted, &NO_ORDER), (3, Record::ZERO));
-}
-
-#[test]
-fn number_4_degraded_above_normal() {
-    for (normal, degraded) in [(2, 3), (0, 0), (5, 0), (1_001, 1), (u32::MAX, u32::MAX)] {
-        let fast = Table {
-            normal,
-            degraded,
-            ..p1()
-        };
-        assert_eq!(check_table(&fast), 4, "N {normal}, G {degraded}");
-        assert_eq!(read_sheet_number(&fast), 4);
-    }
-    let fastest = Table {
-        normal: 1_000,
-        degraded: 1_000,
-        ..p1()
-    };
-    assert_eq!(check_table(&fastest), 0);
-}
-
-/// The reader's number for the sheet of this table, speeds cut to eight digits.
-fn read_sheet_number(table: &Table) -> u32 {
-    let cut = |speed: u32| speed.min(99_999_999);
-    let rows = table.rows();
-    read_sheet(&write_sheet(
-        table.n,
-        cut(table.normal),
-        cut(table.degraded),
-        &rows,
-    ))
-    .0
-}
-
-#[test]
-fn number_5_release_at_the_deadline() {
-    let refused: [[u32; 4]; 8] = [
-        [4, 1, 4, 0],
-        [5, 1, 4, 0],
-        [0, 0, 4, 0],
-        [0, 1_000_001, 4, 0],
-        [0, 1, 1_000_001, 0],
-        [0, 1, 0, 0],
-        [0, 1, 4, 2],
-        [0, 1, 4, u32::MAX],
-    ];
-    for figures in refused {
-        let limits = table(2, 1, &[[0, 1, 1, 0], figures]);
-        assert_eq!(check_table(&limits), 5, "{figures:?}");
-        assert_eq!(
-            Record::fresh(&limits, &order_of(&[1, 2])),
-            (5, Record::ZERO)
-        );
-    }
-    assert_eq!(check_table(&table(2, 1, &[[3, 1_000_000, 4, 1]])), 0);
-}
-
-#[test]
-fn number_5_figures_after_the_last_row() {
-    for index in [4, 63] {
-        for column in 0..4 {
-            let mut behind = p1();
-            match column {
-                0 => behind.release[index] = 1,
-                1 => behind.work[index] = 1,
-                2 => behind.deadline[index] = 1,
-                _ => behind.level[index] = 1,
-            }
-            assert_eq!(check_table(&behind), 5, "column {column}, index {index}");
-        }
-    }
-}
-
-#[test]
-fn number_6_row_1_twice() {
-    let refused: [&[u8]; 8] = [
-        &[1, 1],
-        &[1],
-        &[2],
-        &[0, 1, 2],
-        &[1, 0, 2],
-        &[1, 3],
-        &[1, 2, 1],
-        &[1, 255],
-    ];
-    for rows in refused {
-        assert_eq!(check_order(2, &order_of(rows)), 6, "{rows:?}");
-        assert_eq!(judge_table(&p3(), &order_of(rows)), refused_verdict(6));
-        assert_eq!(Record::fresh(&p3(), &order_of(rows)), (6, Record::ZERO));
-    }
-    let mut last_place = order_of(&[1, 2]);
-    last_place[63] = 1;
-    assert_eq!(check_order(2, &last_place), 6);
-    assert_eq!(check_order(2, &order_of(&[1, 2])), 0);
-    assert_eq!(check_order(2, &order_of(&[2, 1])), 0);
-}
-
-#[test]
-fn number_8_clock_two_million() {
-    let (_, fresh) = Record::fresh(&p3(), &order_of(&[1, 2]));
-    let over = Record {
-        clock: 2_000_000,
-        ..fresh
-    };
-    let one = over.one_slot(5);
-    assert_eq!((one.number, one.row, one.record), (8, 0, over));
-    let forward = over.forward(&[5]);
-    assert_eq!(
-        (forward.number, forward.worked, forward.record),
-        (8, 0, over)
-    );
-}
-
-#[test]
-fn number_9_clock_above_two_million() {
-    let (_, fresh) = Record::fresh(&p3(), &order_of(&[1, 2]));
-    let broken = Record {
-        clock: 2_000_001,
-        ..fresh
-    };
-    let one = broken.one_slot(5);
-    assert_eq!((one.number, one.row, one.record), (9, 0, broken));
-    for supplies in [&[][..], &[5][..]] {
-        let forward = broken.forward(supplies);
-        assert_eq!(
-            (forward.number, forward.worked, forward.record),
-            (9, 0, broken)
-        );
-    }
-}
-
-#[test]
-fn checks_on_a_table_come_in_their_order() {
-    let wrong = Table {
-        n: 65,
-        normal: 0,
-        ..table(1, 1, &[[4, 1, 4, 0]])
-    };
-    let order = order_of(&[1, 1]);
-    assert_eq!(judge_table(&wrong, &order).number, 3);
-    let counted = Table { n: 1, ..wrong };
-    assert_eq!(judge_table(&counted, &order).number, 4);
-    let paced = Table {
-        normal: 1,
-        ..counted
-    };
-    assert_eq!(judge_table(&paced, &order).number, 5);
-    let mut limited = paced;
-    limited.deadline[0] = 5;
-    assert_eq!(judge_table(&limited, &order).number, 6);
-    assert_eq!(judge_table(&limited, &order_of(&[1])).number, 0);
 }
 
 #[test]

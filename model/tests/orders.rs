@@ -2,7 +2,7 @@
 
 mod common;
 
-use common::{all_rows, rows_at_level, rows_in_word};
+use common::{all_rows, rows_at_level, rows_in_word, SMALL};
 use model::judge::{judge, judge_table};
 use model::order::{check_order, orders, Order, NO_ORDER};
 use model::plan::{passes_lowest, plan, slack};
@@ -10,14 +10,6 @@ use model::random::{table_in, Random, Ranges};
 use model::run::{kept_deadline, run};
 use model::sheet::{sheet_of, write_line};
 use model::table::{Table, HI};
-
-const SMALL: Ranges = Ranges {
-    rows: 5,
-    speed: 4,
-    release: 8,
-    need: 3,
-    window: 11,
-};
 
 const TINY: Ranges = Ranges {
     rows: 3,
@@ -109,7 +101,7 @@ fn survives_random_courses(table: &Table, order: &Order, random: &mut Random) ->
 fn an_order_is_answered_exactly_if_a_correct_one_exists() {
     let mut random = Random::seeded(21);
     let mut answered = [[0u32; 2]; 6];
-    for _ in 0..12_000 {
+    for _ in 0..40_000 {
         let table = table_in(&mut random, SMALL);
         let answer = plan(&table);
         let exists = orders(table.n)
@@ -135,7 +127,7 @@ fn an_order_is_answered_exactly_if_a_correct_one_exists() {
     println!("answers 0 and 7 by row count: {answered:?}");
     for by_count in &answered[1..] {
         assert!(
-            by_count[0] >= 200 && by_count[1] >= 200,
+            by_count[0] >= 700 && by_count[1] >= 700,
             "both answers are common: {answered:?}"
         );
     }
@@ -157,7 +149,7 @@ fn no_row_left_passes(table: &Table, left: &[u8]) {
 fn slacks_judge_as_every_course_of_speed_does() {
     let mut random = Random::seeded(22);
     let (mut correct, mut incorrect, mut without) = (0, 0, 0);
-    for _ in 0..1_500 {
+    for _ in 0..9_000 {
         let table = table_in(&mut random, TINY);
         let mut exists = false;
         for order in orders(table.n) {
@@ -175,14 +167,14 @@ fn slacks_judge_as_every_course_of_speed_does() {
         without += u32::from(!exists);
     }
     println!("{correct} correct orders, {incorrect} others; {without} tables have none");
-    assert!(correct > 500 && incorrect > 500 && (300..1_200).contains(&without));
+    assert!(correct > 3_000 && incorrect > 3_000 && (2_000..7_000).contains(&without));
 }
 
 #[test]
 fn slacks_judge_as_random_courses_of_speed_do() {
     let mut random = Random::seeded(23);
     let (mut correct, mut incorrect) = (0, 0);
-    for _ in 0..3_000 {
+    for _ in 0..10_000 {
         let table = table_in(&mut random, SMALL);
         let all = orders(table.n);
         for order in [random.one_of(&all), plan(&table).order] {
@@ -200,7 +192,7 @@ fn slacks_judge_as_random_courses_of_speed_do() {
         }
     }
     println!("{correct} correct orders, {incorrect} others");
-    assert!(correct > 500 && incorrect > 500);
+    assert!(correct > 2_000 && incorrect > 2_000);
 }
 
 #[test]

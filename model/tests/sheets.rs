@@ -34,7 +34,7 @@ fn fields_of_the_rule() {
         b"      -4",
         b"      +4",
         b"\t      4",
-        b"\0\0\0\0\0\0\04",
+        b"\x00\x00\x00\x00\x00\x00\x004",
         b"      4\n",
     ];
     for bytes in malformed {

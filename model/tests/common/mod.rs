@@ -1,6 +1,11 @@
-//! Tables that several test files share.
+//! What several test files share: tables, answers, random runs.
 #![allow(dead_code)]
 
+use model::judge::Verdict;
+use model::order::{orders, Order};
+use model::random::{table_in, Random, Ranges};
+use model::record::Record;
+use model::run::State;
 use model::table::{Row, Table};
 
 /// A row from its figures: a (slots), c (work units), d (slots), level.
@@ -65,4 +70,51 @@ pub fn rows_in_word(word: u64) -> Vec<u8> {
     (1..=64u8)
         .filter(|&row| (word >> (row - 1)) % 2 == 1)
         .collect()
+}
+
+/// The judge's refusal with this number: all zero.
+pub fn refused_verdict(number: u32) -> Verdict {
+    Verdict {
+        number,
+        yes: false,
+        row: 0,
+        slack: 0,
+    }
+}
+
+/// Small tables on which both answers, 0 and 7, are common.
+pub const SMALL: Ranges = Ranges {
+    rows: 5,
+    speed: 4,
+    release: 8,
+    need: 3,
+    window: 11,
+};
+
+/// An accepted table with one of its orders.
+pub fn table_and_order(random: &mut Random) -> (Table, Order) {
+    let table = table_in(random, SMALL);
+    let order = random.one_of(&orders(table.n));
+    (table, order)
+}
+
+/// Supplies of every kind, in work units per slot: none, about the two speeds,
+/// the largest there is.
+pub fn supplies(random: &mut Random, slots: u32) -> Vec<u32> {
+    (0..slots)
+        .map(|_| match random.between(0, 9) {
+            0..=1 => 0,
+            2 => u32::MAX,
+            3 => random.word() as u32,
+            _ => random.between(0, 5),
+        })
+        .collect()
+}
+
+/// The fresh record of an accepted table and one of its orders.
+pub fn fresh(table: &Table, order: &Order) -> Record {
+    let (number, record) = Record::fresh(table, order);
+    assert_eq!(number, 0);
+    assert_eq!(record, Record::holding(table, order, &State::FRESH));
+    record
 }

@@ -1,0 +1,5 @@
+pub mod Tests
+pub mod Counts
+pub mod Sorting
+pub mod Backlog
+pub mod Sweep

@@ -1,0 +1,188 @@
+//! The plausible faults of document 01, each built into a planner of its own, and
+//! the smallest tables on which that planner and the true one differ. Run with
+//! `--nocapture` to read the tables.
+
+#[path = "../common/mod.rs"]
+mod common;
+mod planners;
+mod search;
+
+use common::{p1, table as table_of};
+use model::order::{order_of, NO_ORDER};
+use model::plan::{plan, word_of, Plan};
+use model::table::Table;
+use planners::{
+    Planner, DROPPING_LATE, DROPPING_LATE_FALLING, LO_AT_DEGRADED, LO_LEFT_OUT, ROUNDING_ONCE,
+    TRUE_PLANNER, TWO_LATEST,
+};
+use search::{every_table, print, smallest, witness, Kind, KINDS, TRIED};
+
+/// An answer 0 with this order.
+fn answers(rows: &[u8]) -> Plan {
+    Plan {
+        number: 0,
+        order: order_of(rows),
+        left: 0,
+    }
+}
+
+/// An answer 7 with these rows left.
+fn leaves(rows: &[u8]) -> Plan {
+    Plan {
+        number: 7,
+        order: NO_ORDER,
+        left: word_of(rows),
+    }
+}
+
+/// The smallest witness of these kinds is this table with these two answers.
+fn expect(planner: &Planner, kinds: &[Kind], table: Table, truth: Plan, faulty: Plan) {
+    let found = smallest(planner, kinds).expect(planner.name);
+    assert_eq!(found.table, table, "{}", planner.name);
+    assert_eq!(found.truth, truth, "{}", planner.name);
+    assert_eq!(found.faulty, faulty, "{}", planner.name);
+}
+
+#[test]
+fn the_loop_without_a_fault_is_the_true_planner() {
+    let mut tried = 0;
+    for (n, most) in TRIED {
+        for sum in 0..=most {
+            every_table(n, sum, &mut |table| {
+                assert!(witness(&TRUE_PLANNER, table).is_none());
+                tried += 1;
+            });
+        }
+    }
+    println!("{tried} tables");
+    assert!(tried > 90_000);
+    assert_eq!(TRUE_PLANNER.plan(&p1()), plan(&p1()));
+    assert_eq!(TRUE_PLANNER.name, "no fault");
+}
+
+#[test]
+fn trying_only_the_two_latest_deadlines() {
+    // Row 1 passes lowest before row 2 is released, but is never tried.
+    expect(
+        &TWO_LATEST,
+        &KINDS,
+        table_of(1, 1, &[[0, 1, 1, 0], [1, 2, 2, 0]]),
+        leaves(&[2]),
+        leaves(&[1, 2]),
+    );
+    expect(
+        &TWO_LATEST,
+        &[Kind::OtherCorrectOrder],
+        table_of(1, 1, &[[0, 1, 1, 0], [1, 1, 2, 0], [1, 1, 3, 1]]),
+        answers(&[2, 3, 1]),
+        answers(&[1, 2, 3]),
+    );
+    // No table tried up to three rows makes it refuse wrongly; four rows do.
+    assert!(smallest(&TWO_LATEST, &[Kind::RefusesWrongly]).is_none());
+    let four = table_of(
+        2,
+        1,
+        &[[2, 1, 3, 0], [2, 1, 4, 1], [0, 2, 3, 1], [0, 1, 2, 0]],
+    );
+    for (table, order) in [(four, [3, 1, 2, 4]), (p1(), [1, 2, 3, 4])] {
+        let (kind, found) = witness(&TWO_LATEST, &table).unwrap();
+        print(&TWO_LATEST, kind, &found);
+        assert_eq!(kind, Kind::RefusesWrongly);
+        assert_eq!(found.truth, answers(&order));
+        assert_eq!(found.faulty, leaves(&[1, 2, 3, 4]));
+    }
+}
+
+#[test]
+fn charging_a_lo_job_its_need_at_degraded_speed() {
+    // Row 1 is charged 2 slots above row 2, where its allowance is 1 slot.
+    expect(
+        &LO_AT_DEGRADED,
+        &KINDS,
+        table_of(2, 1, &[[0, 2, 1, 0], [0, 1, 2, 1]]),
+        answers(&[1, 2]),
+        leaves(&[1, 2]),
+    );
+    expect(
+        &LO_AT_DEGRADED,
+        &[Kind::OtherRowsLeft],
+        table_of(2, 1, &[[0, 3, 1, 0], [0, 1, 3, 1]]),
+        leaves(&[1]),
+        leaves(&[1, 2]),
+    );
+    assert!(smallest(&LO_AT_DEGRADED, &[Kind::AnswersWronglyAnOrder]).is_none());
+}
+
+#[test]
+fn dropping_late_jobs_in_the_planners_runs() {
+    // Row 1 is given up at its deadline 1, which frees a slot for row 2. One row
+    // alone stands above, so no order above hides the fault.
+    let pair = table_of(1, 1, &[[0, 2, 1, 0], [0, 1, 2, 0]]);
+    for planner in [&DROPPING_LATE, &DROPPING_LATE_FALLING] {
+        expect(planner, &KINDS, pair, leaves(&[1, 2]), leaves(&[1]));
+    }
+    let wrongly = &[Kind::AnswersWronglyAnOrder];
+    let three = table_of(1, 1, &[[0, 1, 2, 0], [0, 1, 1, 0], [0, 1, 2, 0]]);
+    expect(
+        &DROPPING_LATE,
+        wrongly,
+        three,
+        leaves(&[1, 2, 3]),
+        answers(&[2, 1, 3]),
+    );
+    // The same three rows: the order above decides which row comes lowest.
+    assert_eq!(DROPPING_LATE_FALLING.plan(&three), answers(&[2, 3, 1]));
+    expect(
+        &DROPPING_LATE,
+        &[Kind::OtherIncorrectOrder],
+        table_of(1, 1, &[[0, 1, 2, 0], [0, 1, 3, 1], [0, 1, 1, 0]]),
+        answers(&[3, 1, 2]),
+        answers(&[3, 2, 1]),
+    );
+}
+
+#[test]
+fn leaving_lo_work_out_of_ii() {
+    expect(
+        &LO_LEFT_OUT,
+        &KINDS,
+        table_of(1, 1, &[[0, 1, 1, 0], [0, 1, 1, 1]]),
+        leaves(&[1, 2]),
+        answers(&[1, 2]),
+    );
+    expect(
+        &LO_LEFT_OUT,
+        &[Kind::OtherRowsLeft],
+        table_of(1, 1, &[[0, 2, 1, 0], [0, 1, 1, 1]]),
+        leaves(&[1, 2]),
+        leaves(&[1]),
+    );
+    assert!(smallest(&LO_LEFT_OUT, &[Kind::RefusesWrongly]).is_none());
+}
+
+#[test]
+fn rounding_total_work_up_once() {
+    // Two jobs of 1 work unit each cannot share the one slot of 2 work units.
+    expect(
+        &ROUNDING_ONCE,
+        &KINDS,
+        table_of(2, 1, &[[0, 1, 1, 0], [0, 1, 1, 0]]),
+        leaves(&[1, 2]),
+        answers(&[2, 1]),
+    );
+    expect(
+        &ROUNDING_ONCE,
+        &[Kind::OtherIncorrectOrder],
+        table_of(2, 1, &[[0, 1, 1, 0], [0, 1, 2, 1]]),
+        answers(&[1, 2]),
+        answers(&[2, 1]),
+    );
+    expect(
+        &ROUNDING_ONCE,
+        &[Kind::OtherRowsLeft],
+        table_of(2, 1, &[[0, 1, 2, 0], [0, 3, 1, 0]]),
+        leaves(&[1, 2]),
+        leaves(&[2]),
+    );
+    assert!(smallest(&ROUNDING_ONCE, &[Kind::RefusesWrongly]).is_none());
+}

@@ -1,0 +1,183 @@
+//! Planners with one fault each, and one without.
+
+use model::order::{order_of, Order, NO_ORDER};
+use model::plan::{passes_lowest, trial_order, trial_sequence, word_of, worst_speed, Plan};
+use model::run::{kept_deadline, step, State};
+use model::table::{Table, HI, LO};
+
+/// The rows tried at a place, in their sequence, given the rows left.
+pub type Sequence = fn(&Table, &[u8]) -> Vec<u8>;
+
+/// Does this row pass lowest among the rows left, the placed ones below it?
+pub type Trial = fn(&Table, &[u8], &[u8], u8) -> bool;
+
+/// A planner: how it chooses the rows to try and how it tries one.
+pub struct Planner {
+    pub name: &'static str,
+    pub sequence: Sequence,
+    pub trial: Trial,
+}
+
+impl Planner {
+    /// The planner's loop of document 01 with this planner's two parts. The
+    /// table is accepted.
+    pub fn plan(&self, table: &Table) -> Plan {
+        let mut left: Vec<u8> = (1..=table.n as u8).collect();
+        let mut placed: Vec<u8> = Vec::new();
+        while !left.is_empty() {
+            let passing = (self.sequence)(table, &left)
+                .into_iter()
+                .find(|&row| (self.trial)(table, &left, &placed, row));
+            let Some(row) = passing else {
+                return Plan {
+                    number: 7,
+                    order: NO_ORDER,
+                    left: word_of(&left),
+                };
+            };
+            left.retain(|&other| other != row);
+            placed.insert(0, row);
+        }
+        Plan {
+            number: 0,
+            order: order_of(&placed),
+            left: 0,
+        }
+    }
+}
+
+/// No fault: the two parts as the model has them.
+pub const TRUE_PLANNER: Planner = Planner {
+    name: "no fault",
+    sequence: trial_sequence,
+    trial: passes_lowest,
+};
+
+/// "Trying only the two latest deadlines": one LO and one HI row at each place.
+pub const TWO_LATEST: Planner = Planner {
+    name: "trying only the two latest deadlines",
+    sequence: two_latest,
+    trial: passes_lowest,
+};
+
+pub fn two_latest(table: &Table, left: &[u8]) -> Vec<u8> {
+    let sequence = trial_sequence(table, left);
+    [LO, HI]
+        .into_iter()
+        .filter_map(|level| {
+            let mut at_level = sequence
+                .iter()
+                .filter(|&&row| table.row(row).level == level);
+            at_level.next().copied()
+        })
+        .collect()
+}
+
+/// "Charging a LO job its need at G, not N, in HI tests."
+pub const LO_AT_DEGRADED: Planner = Planner {
+    name: "charging a LO job its need at G in HI tests",
+    sequence: trial_sequence,
+    trial: passes_with_lo_at_degraded,
+};
+
+pub fn passes_with_lo_at_degraded(table: &Table, left: &[u8], placed: &[u8], row: u8) -> bool {
+    if table.row(row).level == LO {
+        return passes_lowest(table, left, placed, row);
+    }
+    // In a run at G the normal speed enters through LO allowances alone.
+    let allowances_at_degraded = Table {
+        normal: table.degraded,
+        ..*table
+    };
+    passes_lowest(&allowances_at_degraded, left, placed, row)
+}
+
+/// "Dropping late jobs in the planner's runs, so that order above matters": the
+/// rows above stand in row order.
+pub const DROPPING_LATE: Planner = Planner {
+    name: "dropping late jobs in the planner's runs",
+    sequence: trial_sequence,
+    trial: |table, left, placed, row| {
+        passes_with_late_dropped(table, &trial_order(left, placed, row), row)
+    },
+};
+
+/// The same fault with the rows above in falling row order.
+pub const DROPPING_LATE_FALLING: Planner = Planner {
+    name: "dropping late jobs in the planner's runs, rows above in falling row order",
+    sequence: trial_sequence,
+    trial: |table, left, placed, row| {
+        let falling: Vec<u8> = left.iter().rev().copied().collect();
+        passes_with_late_dropped(table, &trial_order(&falling, placed, row), row)
+    },
+};
+
+pub fn passes_with_late_dropped(table: &Table, order: &Order, row: u8) -> bool {
+    let supply = worst_speed(table, row);
+    let mut state = State::FRESH;
+    while state.clock < table.row(row).deadline {
+        drop_late_rows(table, &mut state);
+        step(table, order, &mut state, supply);
+    }
+    kept_deadline(table, &state, row)
+}
+
+/// Closes every open row whose deadline the clock has reached.
+pub fn drop_late_rows(table: &Table, state: &mut State) {
+    for index in 0..table.n as usize {
+        if state.closing[index] == 0 && table.deadline[index] <= state.clock {
+            state.closing[index] = state.clock;
+        }
+    }
+}
+
+/// "Leaving LO work out of (ii)": a HI row is tried among the HI rows alone.
+pub const LO_LEFT_OUT: Planner = Planner {
+    name: "leaving LO work out of (ii)",
+    sequence: trial_sequence,
+    trial: passes_without_lo,
+};
+
+pub fn passes_without_lo(table: &Table, left: &[u8], placed: &[u8], row: u8) -> bool {
+    if table.row(row).level == LO {
+        return passes_lowest(table, left, placed, row);
+    }
+    // LO rows left stand below the row tried and so never hold it up.
+    let (high, low): (Vec<u8>, Vec<u8>) = left
+        .iter()
+        .copied()
+        .partition(|&other| table.row(other).level == HI);
+    passes_lowest(table, &high, &[low.as_slice(), placed].concat(), row)
+}
+
+/// "Rounding total work up once, not each job's need": a slot is shared, so that
+/// what one job leaves of it goes to the next.
+pub const ROUNDING_ONCE: Planner = Planner {
+    name: "rounding total work up once",
+    sequence: trial_sequence,
+    trial: passes_with_slots_shared,
+};
+
+pub fn passes_with_slots_shared(table: &Table, left: &[u8], placed: &[u8], row: u8) -> bool {
+    let order = trial_order(left, placed, row);
+    let at_normal = table.row(row).level == LO;
+    // A slot has N × G parts. A work unit takes G parts at N and N parts at G.
+    let slot_parts = table.normal * table.degraded;
+    let mut demand: Vec<u32> = (table.rows().iter())
+        .map(|job| match (at_normal, job.level) {
+            (false, HI) => job.work * table.normal,
+            _ => job.work * table.degraded,
+        })
+        .collect();
+    for clock in 0..table.row(row).deadline {
+        let mut parts = slot_parts;
+        for &other in &order[..table.n as usize] {
+            if table.row(other).release <= clock {
+                let taken = parts.min(demand[other as usize - 1]);
+                demand[other as usize - 1] -= taken;
+                parts -= taken;
+            }
+        }
+    }
+    demand[row as usize - 1] == 0
+}

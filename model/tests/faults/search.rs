@@ -1,0 +1,152 @@
+//! The search for the smallest table on which a planner differs from the true one.
+//!
+//! A table is smaller than another if it has fewer rows, or as many and a lower
+//! sum of all its figures (N, G, and every a, c, d and level). All tables up to
+//! the sums in `TRIED` are tried in this sequence.
+
+use crate::planners::Planner;
+use model::plan::{plan, slack, Plan};
+use model::table::{Row, Table};
+
+/// How a faulty answer differs from the true one.
+#[derive(Clone, Copy, Debug, PartialEq, Eq)]
+pub enum Kind {
+    /// 0 though no correct order exists.
+    AnswersWronglyAnOrder,
+    /// 7 though a correct order exists.
+    RefusesWrongly,
+    /// Both 0, another order that is correct too.
+    OtherCorrectOrder,
+    /// Both 0, an order that is not correct.
+    OtherIncorrectOrder,
+    /// Both 7, other rows left.
+    OtherRowsLeft,
+}
+
+pub const KINDS: [Kind; 5] = [
+    Kind::AnswersWronglyAnOrder,
+    Kind::RefusesWrongly,
+    Kind::OtherIncorrectOrder,
+    Kind::OtherCorrectOrder,
+    Kind::OtherRowsLeft,
+];
+
+/// How these two answers to a table differ, if they do.
+pub fn difference(table: &Table, truth: &Plan, faulty: &Plan) -> Option<Kind> {
+    if truth == faulty {
+        return None;
+    }
+    Some(match (truth.number, faulty.number) {
+        (7, 0) => Kind::AnswersWronglyAnOrder,
+        (0, 7) => Kind::RefusesWrongly,
+        (7, 7) => Kind::OtherRowsLeft,
+        _ if (1..=table.n as u8).all(|row| slack(table, &faulty.order, row) >= 0) => {
+            Kind::OtherCorrectOrder
+        }
+        _ => Kind::OtherIncorrectOrder,
+    })
+}
+
+/// Calls `visit` with every accepted table of n rows whose figures sum to `sum`.
+pub fn every_table(n: u32, sum: u32, visit: &mut dyn FnMut(&Table)) {
+    for normal in 1..=sum {
+        for degraded in 1..=normal.min(sum - normal) {
+            let of_rows = sum - normal - degraded;
+            every_list_of_rows(n, of_rows, &mut Vec::new(), &mut |rows| {
+                visit(&Table::of(normal, degraded, rows));
+            });
+        }
+    }
+}
+
+/// Calls `visit` with `rows` followed by n more rows whose figures sum to `sum`.
+pub fn every_list_of_rows(n: u32, sum: u32, rows: &mut Vec<Row>, visit: &mut dyn FnMut(&[Row])) {
+    if n == 0 {
+        if sum == 0 {
+            visit(rows);
+        }
+        return;
+    }
+    for of_row in 0..=sum {
+        every_row(of_row, &mut |row| {
+            rows.push(row);
+            every_list_of_rows(n - 1, sum - of_row, rows, visit);
+            rows.pop();
+        });
+    }
+}
+
+/// Calls `visit` with every row within its limits whose figures sum to `sum`.
+pub fn every_row(sum: u32, visit: &mut dyn FnMut(Row)) {
+    for level in 0..=sum.min(1) {
+        for deadline in 1..=sum - level {
+            for release in 0..deadline.min(sum - level - deadline) {
+                let work = sum - level - deadline - release;
+                visit(Row {
+                    release,
+                    work,
+                    deadline,
+                    level,
+                });
+            }
+        }
+    }
+}
+
+/// The largest sum of figures tried for each row count, in the sequence tried.
+pub const TRIED: [(u32, u32); 3] = [(1, 16), (2, 18), (3, 15)];
+
+/// A table on which a planner with a fault differs from the true one.
+pub struct Witness {
+    pub table: Table,
+    pub truth: Plan,
+    pub faulty: Plan,
+}
+
+/// The smallest table on which this planner differs from the true one in one of
+/// these kinds, among the tables tried.
+pub fn smallest(planner: &Planner, kinds: &[Kind]) -> Option<Witness> {
+    let mut found = None;
+    for (n, most) in TRIED {
+        for sum in 0..=most {
+            every_table(n, sum, &mut |table| {
+                if found.is_none() {
+                    found = witness(planner, table).filter(|(kind, _)| kinds.contains(kind));
+                }
+            });
+            if let Some((kind, witness)) = found {
+                print(planner, kind, &witness);
+                return Some(witness);
+            }
+        }
+    }
+    None
+}
+
+/// How this planner differs from the true one on this table, if it does.
+pub fn witness(planner: &Planner, table: &Table) -> Option<(Kind, Witness)> {
+    let (truth, faulty) = (plan(table), planner.plan(table));
+    let kind = difference(table, &truth, &faulty)?;
+    let witness = Witness {
+        table: *table,
+        truth,
+        faulty,
+    };
+    Some((kind, witness))
+}
+
+pub fn print(planner: &Planner, kind: Kind, witness: &Witness) {
+    let table = &witness.table;
+    let mut text = format!("{}\n  {kind:?}\n", planner.name);
+    text += &format!("  N {}, G {}, rows", table.normal, table.degraded);
+    for job in table.rows() {
+        let (a, c, d, level) = (job.release, job.work, job.deadline, job.level);
+        text += &format!(" ({a} {c} {d} {level})");
+    }
+    for (name, answer) in [("true", &witness.truth), ("faulty", &witness.faulty)] {
+        let order = &answer.order[..table.n as usize];
+        let (number, left) = (answer.number, answer.left);
+        text += &format!("\n  {name}: {number}, order {order:?}, rows left {left:#b}");
+    }
+    println!("{text}");
+}

@@ -1,0 +1,188 @@
+//! Check 9: sound records stay sound, and each clause violated alone is refused.
+
+mod common;
+
+use common::{all_rows, fresh, supplies, table, table_and_order};
+use model::calls::LAST_CLOCK;
+use model::order::order_of;
+use model::random::Random;
+use model::record::{Record, Unsound};
+use model::run::step;
+use model::table::LO;
+
+#[test]
+fn every_step_from_a_fresh_record_keeps_it_sound() {
+    let mut random = Random::seeded(45);
+    let (mut done, mut dropped) = (0, 0);
+    for _ in 0..1_000 {
+        let (table, order) = table_and_order(&mut random);
+        let mut record = fresh(&table, &order);
+        assert!(record.is_sound());
+        for supply in supplies(&mut random, 40) {
+            let slot = record.one_slot(supply);
+            assert_eq!(slot.number, 0);
+            assert_eq!((slot.record.table, slot.record.order), (table, order));
+            assert_eq!(slot.record.reasons(), []);
+            record = slot.record;
+        }
+        for row in all_rows(&table) {
+            let index = row as usize - 1;
+            if record.closing[index] != 0 {
+                let all = record.got[index] == table.work[index];
+                assert!(all || table.level[index] == LO);
+                *(if all { &mut done } else { &mut dropped }) += 1;
+            }
+        }
+    }
+    assert!(
+        done > 500 && dropped > 200,
+        "{done} done, {dropped} dropped"
+    );
+}
+
+/// A sound record that need not be reachable by running: any figures that the
+/// line of number 9 lets through.
+fn sound_record(random: &mut Random) -> Record {
+    let (table, order) = table_and_order(random);
+    let clock = random.one_of(&[0, 1, 2, 5, 20, 1_999_998, 1_999_999, 2_000_000]);
+    let mut record = Record {
+        clock,
+        ..fresh(&table, &order)
+    };
+    for row in all_rows(&table) {
+        loop {
+            let index = row as usize - 1;
+            record.got[index] = random.between(0, table.work[index]);
+            record.used[index] = random.between(0, clock.min(6));
+            record.closing[index] = random.one_of(&[0, clock / 2, clock]);
+            if record.is_sound() {
+                break;
+            }
+        }
+    }
+    record
+}
+
+#[test]
+fn sound_records_that_no_run_reaches_step_by_the_same_rule() {
+    let mut random = Random::seeded(46);
+    let (mut unreached, mut refused) = (0, 0);
+    for _ in 0..5_000 {
+        let record = sound_record(&mut random);
+        let supply = random.between(0, 5);
+        let slot = record.one_slot(supply);
+        let used: u32 = record.used.iter().sum();
+        unreached += u32::from(used > record.clock);
+        assert!(slot.record.is_sound());
+        if record.clock == LAST_CLOCK {
+            assert_eq!((slot.number, slot.row, slot.record), (8, 0, record));
+            refused += 1;
+            continue;
+        }
+        let mut state = record.state();
+        let row = step(&record.table, &record.order, &mut state, supply);
+        assert_eq!((slot.number, slot.row), (0, row));
+        assert_eq!(slot.record.state(), state);
+    }
+    assert!(unreached > 200 && refused > 200, "{unreached} {refused}");
+}
+
+/// A record of three rows at clock 10: row 1 LO and dropped, row 2 HI and open,
+/// row 3 LO and open. N is 2 and G is 1.
+fn sound_example() -> Record {
+    let table = table(2, 1, &[[0, 4, 5, 0], [0, 9, 20, 1], [3, 6, 12, 0]]);
+    let mut record = Record {
+        clock: 10,
+        ..fresh(&table, &order_of(&[1, 3, 2]))
+    };
+    (record.got[0], record.used[0], record.closing[0]) = (3, 2, 2);
+    (record.got[1], record.used[1], record.closing[1]) = (5, 6, 0);
+    (record.got[2], record.used[2], record.closing[2]) = (2, 2, 0);
+    record
+}
+
+/// The example with one change, refused for this reason and no other.
+fn refused_for(reason: Unsound, change: impl Fn(&mut Record)) {
+    let mut record = sound_example();
+    assert_eq!(record.reasons(), []);
+    assert_eq!(record.one_slot(1).number, 0);
+    change(&mut record);
+    assert_eq!(record.reasons(), [reason]);
+    let slot = record.one_slot(1);
+    assert_eq!((slot.number, slot.row, slot.record), (9, 0, record));
+    for supplies in [&[][..], &[1, 1][..]] {
+        let forward = record.forward(supplies);
+        assert_eq!(
+            (forward.number, forward.worked, forward.record),
+            (9, 0, record)
+        );
+    }
+}
+
+#[test]
+fn check_9_refuses_each_clause_alone() {
+    refused_for(Unsound::TableOrOrder(3), |r| r.table.n = 65);
+    refused_for(Unsound::TableOrOrder(3), |r| r.table.n = 0);
+    refused_for(Unsound::TableOrOrder(4), |r| r.table.degraded = 3);
+    refused_for(Unsound::TableOrOrder(5), |r| r.table.level[1] = 2);
+    refused_for(Unsound::TableOrOrder(5), |r| r.table.release[3] = 1);
+    refused_for(Unsound::TableOrOrder(6), |r| r.order[0] = 2);
+    refused_for(Unsound::TableOrOrder(6), |r| r.order[3] = 1);
+    refused_for(Unsound::Clock, |r| r.clock = 2_000_001);
+    refused_for(Unsound::Clock, |r| r.clock = u32::MAX);
+    // Row 1 is closed by its allowance, so that only the work got is wrong.
+    refused_for(Unsound::GotOverWork, |r| r.got[0] = 5);
+    refused_for(Unsound::GotOverWork, |r| r.got[1] = u32::MAX);
+    refused_for(Unsound::UsedOverClock, |r| r.used[1] = 11);
+    refused_for(Unsound::UsedOverClock, |r| r.used[0] = u32::MAX);
+    refused_for(Unsound::ClosingOverClock, |r| r.closing[0] = 11);
+    refused_for(Unsound::ClosingOverClock, |r| r.closing[0] = u32::MAX);
+    // Open though the work is got, HI and LO.
+    refused_for(Unsound::OpenThoughFinished, |r| r.got[1] = 9);
+    refused_for(Unsound::OpenThoughFinished, |r| r.got[2] = 6);
+    // Open though the allowance of 2 or 3 slots is used up, or more than that.
+    refused_for(Unsound::OpenThoughFinished, |r| r.closing[0] = 0);
+    refused_for(Unsound::OpenThoughFinished, |r| r.used[2] = 3);
+    refused_for(Unsound::OpenThoughFinished, |r| r.used[2] = 4);
+    // Closed with neither, HI (which has no allowance) and LO.
+    refused_for(Unsound::ClosedWithNeither, |r| r.closing[1] = 9);
+    refused_for(Unsound::ClosedWithNeither, |r| r.closing[2] = 9);
+    refused_for(Unsound::ClosedWithNeither, |r| r.used[0] = 1);
+    for index in [3, 63] {
+        refused_for(Unsound::EntryAfterLastRow, |r| r.got[index] = 1);
+        refused_for(Unsound::EntryAfterLastRow, |r| r.used[index] = 1);
+        refused_for(Unsound::EntryAfterLastRow, |r| r.closing[index] = 1);
+    }
+}
+
+#[test]
+fn check_9_lets_the_limits_themselves_through() {
+    let accepted = |change: fn(&mut Record)| {
+        let mut record = sound_example();
+        change(&mut record);
+        assert_eq!(record.reasons(), []);
+        let slot = record.one_slot(1);
+        assert_eq!(slot.number, if record.clock == LAST_CLOCK { 8 } else { 0 });
+    };
+    accepted(|r| r.clock = 2_000_000);
+    accepted(|r| r.used[1] = 10);
+    accepted(|r| r.closing[0] = 10);
+    accepted(|r| r.got[0] = 4);
+    accepted(|r| r.used[0] = 10);
+    accepted(|r| (r.got[1], r.closing[1]) = (9, 10));
+    accepted(|r| (r.got[1], r.used[1], r.closing[1]) = (9, 0, 1));
+    accepted(|r| (r.got[2], r.used[2], r.closing[2]) = (0, 3, 1));
+}
+
+#[test]
+fn check_9_comes_before_8() {
+    let mut record = Record {
+        clock: LAST_CLOCK,
+        ..sound_example()
+    };
+    assert_eq!(record.one_slot(5).number, 8);
+    assert_eq!(record.forward(&[5]).number, 8);
+    record.closing[1] = 9;
+    assert_eq!(record.one_slot(5).number, 9);
+    assert_eq!(record.forward(&[5]).number, 9);
+}
