@@ -1,6 +1,6 @@
 //! The sheet: its fields, its reader, and a writer of sheets for tests.
 
-use crate::table::{check_table, count_is_within_limit, speeds_are_within_limits, Row, Table};
+use crate::table::{check_table, count_is_within_limit, Row, Table};
 
 /// Bytes in a field ("Fields are 8 bytes").
 pub const FIELD: usize = 8;
@@ -81,9 +81,7 @@ fn read_or_refuse(bytes: &[u8]) -> Result<Table, u32> {
             level,
         });
     }
-    if !speeds_are_within_limits(normal, degraded) {
-        return Err(4);
-    }
+    // The count has passed 3, so what is left of these checks is 4, then 5.
     let table = Table::of(normal, degraded, &rows);
     match check_table(&table) {
         0 => Ok(table),

@@ -6,7 +6,7 @@ use common::{p1, p2, p3, p4, refused_verdict, row, table};
 use model::calls::LAST_CLOCK;
 use model::judge::{judge, judge_table, Verdict};
 use model::order::{order_of, NO_ORDER};
-use model::plan::{passes_lowest, plan, slack, worst_finish, Plan};
+use model::plan::{passes_lowest, plan, slack, Plan};
 use model::program::planning_program;
 use model::record::Record;
 use model::run::run;
@@ -168,11 +168,11 @@ fn deadline_one_million_and_one_more() {
 #[test]
 fn the_least_slack_there_is() {
     // 64 rows of 1,000,000 slots each, all released in slot 999,999: the lowest
-    // finishes at 64,999,999.
+    // finishes at 64,999,999, which is 63,999,999 slots late.
     let rows = vec![row([999_999, 1_000_000, 1_000_000, 1]); 64];
     let full = Table::of(1, 1, &rows);
     let order: Vec<u8> = (1..=64).collect();
-    assert_eq!(worst_finish(&full, &order_of(&order), 64), 64_999_999);
+    assert_eq!(slack(&full, &order_of(&order), 64), -63_999_999);
 }
 
 #[test]

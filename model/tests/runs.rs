@@ -191,6 +191,20 @@ fn done_and_dropped() {
 }
 
 #[test]
+fn a_deadline_is_kept_by_work_got_and_closing_from_1_to_d() {
+    // Row 1 of P3: work 2, deadline 2.
+    let kept = |got: u32, closing: u32| {
+        let mut state = State::FRESH;
+        (state.got[0], state.closing[0]) = (got, closing);
+        kept_deadline(&p3(), &state, 1)
+    };
+    assert!(kept(2, 1) && kept(2, 2));
+    assert!(!kept(2, 3), "late");
+    assert!(!kept(2, 0), "open");
+    assert!(!kept(1, 1), "dropped");
+}
+
+#[test]
 fn rows_left_out_of_the_table_stay_zero() {
     let state = run(&p3(), &order_of(&[2, 1]), &[3; 20]);
     for index in 2..64 {

@@ -50,7 +50,10 @@ fn sound_record(random: &mut Random) -> Record {
         ..fresh(&table, &order)
     };
     for row in all_rows(&table) {
+        let mut attempts = 0;
         loop {
+            attempts += 1;
+            assert!(attempts < 10_000, "no sound figures for {record:?}");
             let index = row as usize - 1;
             record.got[index] = random.between(0, table.work[index]);
             record.used[index] = random.between(0, clock.min(6));

@@ -1,15 +1,15 @@
 -- The cases P1 to P8 of document 01 as one table, computed from the definitions and checked by one theorem,
 -- with cases of our own beside them that tell each plausible fault from the truth.
-use Prim.Native.Nat.{ℕ, zero, suc}
-use mathlib.Core.Bool.{Bool, true, false, cond, not, _&&_}
+use Prim.Native.Nat.{ℕ, suc}
+use mathlib.Core.Bool.{Bool, true, false, not, _&&_}
 use mathlib.Core.List.{List, [], _∷_, _++_, map}
 use lib.Dec.{T, eqb, ltb}
 use lib.IntN.{ℤ, pos, negsuc}
-use lib.ListN.{replicate, length}
+use lib.ListN.{replicate}
 use Rattle.rules.specs.declared.Row.{Row}
 use Rattle.rules.specs.declared.Table.{Table}
 use Rattle.rules.specs.Calls.{tellForward}
-use Rattle.rules.specs.Choice.{planOf, padded, passes, sequence, choice, fill, taker, word, falling, insert}
+use Rattle.rules.specs.Choice.{planOf, padded, passes, sequence, choice, fill, taker, word}
 use Rattle.rules.specs.Judge.{tableOf, judgeOf, tightest}
 use Rattle.rules.specs.Lists.{all, same}
 use Rattle.rules.specs.Need.{need}

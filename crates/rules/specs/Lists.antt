@@ -1,5 +1,5 @@
 -- Small list functions that the definitions share.
-use Prim.Native.Nat.{ℕ, zero, suc, _+_, max}
+use Prim.Native.Nat.{ℕ, zero, suc, _+_, max, min}
 use mathlib.Core.Bool.{Bool, true, false, cond, _&&_}
 use mathlib.Core.List.{List, [], _∷_, _++_}
 use lib.Dec.{eqb}
@@ -54,3 +54,8 @@ sum f (x ∷ xs) = f x + sum f xs
 abbrev pub greatest : (ℕ → ℕ) → List ℕ → ℕ
 greatest f [] = 0
 greatest f (x ∷ xs) = max (f x) (greatest f xs)
+
+-- the least of b and f over the list
+abbrev pub least : (ℕ → ℕ) → ℕ → List ℕ → ℕ
+least f b [] = b
+least f b (x ∷ xs) = least f (min b (f x)) xs

@@ -6,9 +6,7 @@ use lib.ListN.{take}
 use Rattle.rules.specs.declared.Table.{Table}
 use Rattle.rules.specs.declared.Check.the-variants as Checks
 use Rattle.rules.specs.declared.Planned.the-variants as Plans
-use Rattle.rules.specs.declared.Planning.{Planning}
 use Rattle.rules.specs.declared.Planned.{Planned}
-use Rattle.rules.specs.declared.Reading.{Reading}
 use Rattle.rules.specs.declared.Check.{Check}
 use Rattle.rules.specs.Choice.{planOf}
 use Rattle.rules.specs.Fields.{written}

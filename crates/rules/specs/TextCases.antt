@@ -3,10 +3,10 @@ use Prim.Native.Nat.{ℕ}
 use Prim.Native.Char.{code}
 use Prim.Native.String.{String}
 use Prim.Native.String as Strings
-use mathlib.Core.Bool.{Bool, _&&_}
+use mathlib.Core.Bool.{Bool}
 use mathlib.Core.List.{List, [], _∷_}
 use lib.Count.{ones, onesIn}
-use lib.Dec.{T, eqb}
+use lib.Dec.{T}
 use Rattle.rules.specs.Choice.{planOf, padded, passes, sequence, choice, fill, taker, word}
 use Rattle.rules.specs.Fields.{digitAt, written, digitOf, valueOf, isField}
 use Rattle.rules.specs.Lists.{all, same}

@@ -1,11 +1,11 @@
 -- The backlog of a set of rows: the slots of released work that are still to be run, whatever the order.
 use Prim.Native.Nat.{ℕ, zero, suc, _+_, _-_, _≤_, _<_}
-use mathlib.Core.Path.{_≡_, refl}
+use mathlib.Core.Path.{_≡_}
 use mathlib.Core.List.{List}
 use native.Mathlib.Omega.{arith}
 use lib.Dec.{eqb}
 use Rattle.rules.specs.Lists.{sum}
-use Rattle.theory.specs.Tests.{gate, by-ltb, by-bool}
+use Rattle.theory.specs.Tests.{gate, by-ltb}
 use Rattle.theory.specs.Counts.{Within, Same, sum-within, sum-same}
 
 -- f u slots of work arrive with slot u, and each slot runs one

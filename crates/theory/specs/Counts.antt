@@ -1,6 +1,6 @@
 -- Lists of rows as sets: how often a row stands in a list, and sums over lists that hold the same rows.
-use Prim.Native.Nat.{ℕ, zero, suc, _+_, _-_, _≤_, _<_, max}
-use mathlib.Core.Bool.{Bool, true, false, cond}
+use Prim.Native.Nat.{ℕ, suc, _+_, _-_, _≤_}
+use mathlib.Core.Bool.{Bool, true, false}
 use mathlib.Core.Path.{_≡_, refl, sym, _∙_}
 use mathlib.Core.List.{List, [], _∷_, _++_}
 use mathlib.Core.Logic.{_⊎_, inl, inr}
@@ -8,7 +8,7 @@ use native.Mathlib.Omega.{arith}
 use lib.Dec.{eqb}
 use lib.ListN.{length}
 use borrow.Author.Tests.{eq-eqb, ne-eqb}
-use Rattle.rules.specs.Lists.{rowsTo, first, count, keep, erase, sum, greatest}
+use Rattle.rules.specs.Lists.{first, count, erase, sum}
 use Rattle.theory.specs.Tests.{by-bool, by-eqb, not-both}
 
 -- the row stands in the list
@@ -37,6 +37,10 @@ pub count-append : (x : ℕ) (a b : List ℕ) → count x (a ++ b) ≡ count x a
 count-append x [] b = omega arith
 count-append x (y ∷ a) b = by-bool (eqb x y) (λ e. rw e (omega (arith, count-append x a b))) (λ e. rw e (count-append x a b))
 
+-- the last of a list stands in it
+pub in-last : (a : List ℕ) (x : ℕ) → In x (a ++ (x ∷ []))
+in-last a x = omega (arith, count-append x a (x ∷ []), count-same x [])
+
 pub count-erase-same : (x : ℕ) (l : List ℕ) → count x (erase x l) ≡ count x l - 1
 count-erase-same x [] = omega arith
 count-erase-same x (y ∷ l) = by-bool (eqb x y) (λ e. rw e (omega arith)) (λ e. rw (e, e) (count-erase-same x l))
@@ -48,12 +52,11 @@ count-erase-other x y (z ∷ l) h =
     (λ e q. rw (e, ne-eqb x z (λ w. h (w ∙ sym q))))
     (λ e q. rw e (by-bool (eqb x z) (λ f. rw (f, count-erase-other x y l h)) (λ f. rw (f, count-erase-other x y l h))))
 
--- a row that stands in the list, taken out and put in front
-pub erase-front : (x : ℕ) (l : List ℕ) → In x l → Same l (x ∷ erase x l)
-erase-front x l h y =
-    by-eqb y x
-    (λ e q. rw (q, eq-eqb x x refl, count-erase-same x l) (omega arith))
-    (λ e q. rw (e, count-erase-other y x l q))
+-- a row that stands in the list, taken out and put last
+pub erase-last : (i : ℕ) (l : List ℕ) → In i l → Same (erase i l ++ (i ∷ [])) l
+erase-last i l h x = count-append x (erase i l) (i ∷ []) ∙ by-eqb x i
+    (λ _ q. rw q (omega (arith, count-erase-same i l, count-same i [])))
+    (λ _ q. omega (arith, count-erase-other x i l q, count-other x i [] q))
 
 pub length-erase : (x : ℕ) (l : List ℕ) → In x l → suc (length (erase x l)) ≡ length l
 length-erase x [] i = absurd (omega arith)
@@ -187,10 +190,10 @@ first-above p (y ∷ a) b x i e =
     (λ f. rw f (in-head y a))
     (λ f. rw f (in-tail (first p (a ++ b)) y a (first-above p a b x (rw (ne-eqb x y (λ w. not-both (p y) (rw w at e) f)) at i) e)))
 
--- where the first that passes is 0, and 0 does not pass, no row passes
-pub first-none : (p : ℕ → Bool) (l : List ℕ) → p 0 ≡ false → first p l ≡ 0 → (x : ℕ) → In x l → p x ≡ false
+-- where the first that passes is 0, and 0 is no row of the list, no row passes
+pub first-none : (p : ℕ → Bool) (l : List ℕ) → (In 0 l → ⊥) → first p l ≡ 0 → (x : ℕ) → In x l → p x ≡ false
 first-none p [] z h x i = absurd (omega arith)
 first-none p (y ∷ l) z h x i =
     by-bool (p y)
-    (λ e. let w : y ≡ 0 = rw e at h in absurd (not-both (p y) e (rw w z)))
-    (λ e. by-eqb x y (λ f q. rw q e) (λ f q. first-none p l z (rw e at h) x (rw f at i)))
+    (λ e. let w : y ≡ 0 = rw e at h in absurd (z (rw w (in-head 0 l))))
+    (λ e. by-eqb x y (λ f q. rw q e) (λ f q. first-none p l (λ k. z (in-tail 0 y l k)) (rw e at h) x (rw f at i)))

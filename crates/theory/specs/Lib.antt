@@ -3,3 +3,16 @@ pub mod Counts
 pub mod Sorting
 pub mod Backlog
 pub mod Sweep
+pub mod Caps
+pub mod Facts
+pub mod Cells
+pub mod Demand
+pub mod Invariant
+pub mod Left
+pub mod Sustain
+pub mod Exact
+pub mod Places
+pub mod Finishes
+pub mod Verdict
+pub mod Choosing
+pub mod Results

@@ -1,13 +1,13 @@
 -- The sweep: one pass over rows sorted by release finds the finish.
 use Prim.Native.Nat.{ℕ, zero, suc, _+_, _-_, _≤_, _<_, max}
-use mathlib.Core.Bool.{Bool, true, false, cond, _&&_}
-use mathlib.Core.Path.{_≡_, refl, sym}
-use mathlib.Core.List.{List, [], _∷_, _++_}
+use mathlib.Core.Bool.{true, false, cond, _&&_}
+use mathlib.Core.Path.{_≡_, refl}
+use mathlib.Core.List.{List, [], _∷_}
 use native.Mathlib.Omega.{arith}
-use lib.Dec.{ltb, leb, eqb}
-use borrow.Author.Tests.{lt-ltb, le-ltb, ne-eqb, eq-eqb}
+use lib.Dec.{ltb, leb}
+use borrow.Author.Tests.{lt-ltb, le-ltb, ne-eqb}
 use Rattle.rules.specs.Lists.{sum}
-use Rattle.theory.specs.Tests.{gate, by-ltb, by-leb, by-eqb, by-bool}
+use Rattle.theory.specs.Tests.{by-ltb, by-leb, by-eqb, by-bool}
 use Rattle.theory.specs.Counts.{In, in-head, in-tail, sum-same}
 use Rattle.theory.specs.Sorting.{Sorted, sortBy, sorted-sort, same-sort}
 use Rattle.theory.specs.Backlog.{backlog, Finish, arrivals, finish-set}

@@ -1,0 +1,137 @@
+-- The results of this crate, to be cited by name. Each is a statement about the definitions of `rules` and is preceded by what it says.
+-- Lists of rows are compared by how often each row stands in them (Counts): `In x l`, row x stands in l; `Within a b`, what stands in a
+-- stands in b; `Same a b`, the two hold the same rows. A list that is within the table's rows holds each row at most once.
+use Prim.Native.Nat.{ℕ, _+_, _*_, _≤_}
+use mathlib.Core.Bool.{true, false}
+use mathlib.Core.Path.{_≡_, sym, subst}
+use mathlib.Core.List.{List, [], _∷_, _++_}
+use mathlib.Core.Logic.{_↔_}
+use native.Mathlib.Omega.{arith}
+use lib.IntN.{pos}
+use lib.ListN.{length}
+use lib.Signed.{ltZ}
+use Rattle.rules.specs.declared.Table.{Table}
+use Rattle.rules.specs.Lists.{sum, greatest, erase}
+use Rattle.rules.specs.Rows.{isRow, isLow, isHigh, rowsOf, releaseOf, deadlineOf}
+use Rattle.rules.specs.Tables.{Accepted}
+use Rattle.rules.specs.Orders.{isOrder}
+use Rattle.rules.specs.Slots.{after}
+use Rattle.rules.specs.Correct.{KeptIn, Correct, Window}
+use Rattle.rules.specs.Worst.{worstSpeed, worstFinish, slack}
+use Rattle.rules.specs.Choice.{passes, choice, padded}
+use Rattle.theory.specs.Tests.{not-is}
+use Rattle.theory.specs.Counts.{In, Within, Same, in-head, in-tail, erase-last, count-append, sum-within}
+use Rattle.theory.specs.Backlog.{finish-set, finish-only}
+use Rattle.theory.specs.Sorting.{Sorted}
+use Rattle.theory.specs.Sweep.{sweep}
+use Rattle.theory.specs.Caps.{cap, cap-most}
+use Rattle.theory.specs.Facts.{Row, TableFacts, row-is, is-row, rows-in, facts}
+use Rattle.theory.specs.Places.{placed, length-rows}
+use Rattle.theory.specs.Finishes.{worst-runs, worst-slower, worst-finish, worst-bound, within-rows}
+use Rattle.theory.specs.Finishes as Finishes
+use Rattle.theory.specs.Verdict.{slack-meets, meets-slack, kept, all-meet, correct}
+use Rattle.theory.specs.Choosing.{rows-of, once-of, moved, choice-filled, no-order}
+use Rattle.theory.specs.Choosing as Choosing
+
+module _ (t : Table) (accepted : Accepted t) where
+  abbrev f : TableFacts t
+  f = facts t accepted
+
+  -- 1. SET ONLY. The worst finish of row i depends on which rows stand above it and not on their order; the rows below do not matter.
+  pub set-only : (a b c d : List ℕ) (i : ℕ) → Within (a ++ (i ∷ [])) (rowsOf t) → Same a c → worstFinish t (a ++ (i ∷ b)) i ≡ worstFinish t (c ++ (i ∷ d)) i
+  set-only a b c d i w s =
+      let both : Same (a ++ (i ∷ [])) (c ++ (i ∷ [])) = λ x. omega (arith, s x, count-append x a (i ∷ []), count-append x c (i ∷ [])) in
+      let v : Within (c ++ (i ∷ [])) (rowsOf t) = λ x. omega (arith, w x, both x) in
+      let p = worst-finish t f a b i (rows-of t f (a ++ (i ∷ [])) w) (once-of t f (a ++ (i ∷ [])) w) in
+      let q = worst-finish t f c d i (rows-of t f (c ++ (i ∷ [])) v) (once-of t f (c ++ (i ∷ [])) v) in
+      finish-only _ (releaseOf t i) (worstFinish t (a ++ (i ∷ b)) i) (worstFinish t (c ++ (i ∷ d)) i)
+      (finish-set (releaseOf t) (cap t (worstSpeed t i)) (a ++ (i ∷ [])) (c ++ (i ∷ [])) both (releaseOf t i) (worstFinish t (a ++ (i ∷ b)) i) p) q
+
+  module _ (o : List ℕ) (order : isOrder t o ≡ true) where
+    -- 2. SUSTAINABILITY. A row whose slack is not below zero has kept its deadline at every clock from d on, if every slot from the
+    -- earliest release to d-1 supplied at least N, whatever the other slots supplied.
+    pub sustainable : (i : ℕ) → isRow t i ≡ true → ltZ (slack t o i) (pos 0) ≡ false → (σ : ℕ → ℕ) → Window t σ i (t .normal)
+        → (k : ℕ) → deadlineOf t i ≤ k → KeptIn t (after t o σ k) i
+    sustainable i r s σ w k q =
+        kept t f o order i (row-is t i r) (slack-meets t o i s) σ (λ u p l. omega (arith, w u p l, worst-slower t f i)) k (omega arith)
+
+    -- The same for a HI row, if those slots supplied at least G.
+    pub sustainable-degraded : (i : ℕ) → isRow t i ≡ true → isHigh t i ≡ true → ltZ (slack t o i) (pos 0) ≡ false → (σ : ℕ → ℕ) → Window t σ i (t .degraded)
+        → (k : ℕ) → deadlineOf t i ≤ k → KeptIn t (after t o σ k) i
+    sustainable-degraded i r h s σ w k q =
+        kept t f o order i (row-is t i r) (slack-meets t o i s) σ (λ u p l. rw (not-is (isLow t i) h) (w u p l)) k (omega arith)
+
+    -- The same for any row at its own worst speed, N for LO and G for HI.
+    pub sustainable-worst : (i : ℕ) → isRow t i ≡ true → ltZ (slack t o i) (pos 0) ≡ false → (σ : ℕ → ℕ) → Window t σ i (worstSpeed t i)
+        → (k : ℕ) → deadlineOf t i ≤ k → KeptIn t (after t o σ k) i
+    sustainable-worst i r s σ w k q = kept t f o order i (row-is t i r) (slack-meets t o i s) σ w k (omega arith)
+
+    -- 3. VERDICT. An order is correct, over all courses of speed, exactly if no row's slack is below zero.
+    pub verdict : Correct t o ↔ ((i : ℕ) → isRow t i ≡ true → ltZ (slack t o i) (pos 0) ≡ false)
+    verdict = (
+      λ c i r. meets-slack t o i (all-meet t f o order c i (row-is t i r)),
+      λ h. correct t f o order (λ i r. slack-meets t o i (h i (is-row t i r))),
+    )
+
+  -- 4. SWEEP. One pass over the rows down to i, sorted by release, finds i's worst finish: the busy time grows by each row's cap from its
+  -- release on, and the pass stops at a row released after i that finds the processor free.
+  pub worst-sweep : (a b : List ℕ) (i : ℕ) → Within (a ++ (i ∷ [])) (rowsOf t) → (l : List ℕ) → Sorted (releaseOf t) 0 l → Same l (a ++ (i ∷ []))
+      → worstFinish t (a ++ (i ∷ b)) i ≡ sweep (releaseOf t) (cap t (worstSpeed t i)) (releaseOf t i) 0 l
+  worst-sweep a b i w l s p = Finishes.worst-sweep t f a b i (rows-of t f (a ++ (i ∷ [])) w) (once-of t f (a ++ (i ∷ [])) w) l s p
+
+  -- 5. ANTITONE. A row that passes lowest in a set passes lowest in every subset that holds it.
+  pub antitone : (s r : List ℕ) (i : ℕ) → Within s (rowsOf t) → Within r s → In i r → passes t s i ≡ true → passes t r i ≡ true
+  unfolding passes
+  antitone s r i w v k p =
+      let j : In i s = omega (arith, v i) in
+      moved t f (erase i s) [] (erase i r) [] i (λ x. omega (arith, w x, erase-last i s j x)) (λ x. omega (arith, v x, erase-last i s j x, erase-last i r k x)) p
+
+  -- 6. CHOICE. If the choice leaves no row, the order that it makes passes check 6 and is correct.
+  pub choice-order : choice t .left ≡ [] → isOrder t (padded (choice t .placed)) ≡ true
+  choice-order none = Choosing.choice-order t f none
+
+  pub choice-correct : choice t .left ≡ [] → Correct t (padded (choice t .placed))
+  choice-correct none = Choosing.choice-correct t f none
+
+  -- If the choice leaves rows, no order that passes check 6 is correct.
+  pub choice-none : (x : ℕ) → In x (choice t .left) → (o : List ℕ) → isOrder t o ≡ true → Correct t o → ⊥
+  choice-none x i o e c = Choosing.choice-none t f x i o e c
+
+  -- In the set that the choice leaves no row passes lowest.
+  pub choice-stuck : (x : ℕ) → In x (choice t .left) → passes t (choice t .left) x ≡ false
+  choice-stuck = choice-filled t f .stuck
+
+  -- The rows placed and the rows left are together the rows of the table.
+  pub choice-every : Same (choice t .left ++ choice t .placed) (rowsOf t)
+  choice-every = choice-filled t f .filling .every
+
+  -- Any set of rows in which no row passes lowest rules out every order.
+  pub stuck-none : (s : List ℕ) → Within s (rowsOf t) → ((x : ℕ) → In x s → passes t s x ≡ false) → (x : ℕ) → In x s → (o : List ℕ) → isOrder t o ≡ true → Correct t o → ⊥
+  stuck-none = no-order t f
+
+  -- 7. BOUNDS. What a sweep adds, the latest release and every row's cap, is at most 65,000,000 slots.
+  pub sum-bound : (s : ℕ) → 1 ≤ s → (l : List ℕ) → Within l (rowsOf t) → greatest (releaseOf t) (rowsOf t) + sum (cap t s) l ≤ 65000000
+  sum-bound s s1 l w =
+      omega (arith, sum-within (cap t s) l (rowsOf t) w, most (rowsOf t) (λ x i. rows-in t x i), latest (rowsOf t) (λ x i. rows-in t x i), length-rows (t .n), f .few)
+    where
+      most : (l : List ℕ) → ((x : ℕ) → In x l → Row t x) → sum (cap t s) l ≤ 1000000 * length l
+      most [] r = omega arith
+      most (x ∷ l) r =
+          omega (arith, cap-most t s x (f .runs) s1, f .row x (r x (in-head x l)) .light, most l (λ y i. r y (in-tail y x l i)))
+
+      latest : (l : List ℕ) → ((x : ℕ) → In x l → Row t x) → greatest (releaseOf t) l ≤ 1000000
+      latest [] r = omega arith
+      latest (x ∷ l) r =
+          let g = f .row x (r x (in-head x l)) in
+          omega (arith, g .before, g .soon, latest l (λ y i. r y (in-tail y x l i)))
+
+  -- A worst finish is at most 65,000,000 slots.
+  pub finish-bound : (a b : List ℕ) (i : ℕ) → Within (a ++ (i ∷ [])) (rowsOf t) → worstFinish t (a ++ (i ∷ b)) i ≤ 65000000
+  finish-bound a b i w =
+      omega (arith, worst-bound t f a b i (rows-of t f (a ++ (i ∷ [])) w) (once-of t f (a ++ (i ∷ [])) w), sum-bound (worstSpeed t i) (worst-runs t f i) (a ++ (i ∷ [])) w)
+
+  -- Under an order that passes check 6 this holds of every row.
+  pub order-bound : (o : List ℕ) → isOrder t o ≡ true → (i : ℕ) → isRow t i ≡ true → worstFinish t o i ≤ 65000000
+  order-bound o e i r =
+      let p = placed t o e i (row-is t i r) in
+      subst (λ (l : List ℕ). worstFinish t l i ≤ 65000000) (sym (p .whole)) (finish-bound (p .above) (p .below) i (within-rows t f (p .above ++ (i ∷ [])) (p .rows) (p .once)))

@@ -1,0 +1,113 @@
+-- A row that meets its deadline in its own worst run keeps it in every run that supplies as much; an order is correct exactly if all do.
+use Prim.Native.Nat.{ℕ, zero, suc, _+_, _-_, _≤_, _<_}
+use mathlib.Core.Bool.{true, false}
+use mathlib.Core.Path.{_≡_, sym, ap, subst, _∙_}
+use mathlib.Core.List.{List, [], _∷_, _++_, append-assoc}
+use native.Mathlib.Omega.{arith}
+use lib.Dec.{ltb, leb}
+use lib.IntN.{pos, _-ℤ_}
+use lib.Signed.{ltZ}
+use borrow.Author.Tests.{le-ltb, le-leb, leb-true, ltb-false}
+use Rattle.rules.specs.declared.Table.{Table}
+use Rattle.rules.specs.Rows.{at, isLow, workOf, deadlineOf}
+use Rattle.rules.specs.Orders.{isOrder}
+use Rattle.rules.specs.Slots.{after}
+use Rattle.rules.specs.Correct.{KeptIn, Kept, Correct, earliest, Window}
+use Rattle.rules.specs.Worst.{worstSpeed, worstFinish, slack, meets}
+use Rattle.theory.specs.Tests.{by-bool, not-is}
+use Rattle.theory.specs.Counts.{In, in-last}
+use Rattle.theory.specs.Facts.{Row, row-is, is-row, TableFacts}
+use Rattle.theory.specs.Cells.{Cell, cellAt}
+use Rattle.theory.specs.Invariant.{Held, held, got-high, got-normal}
+use Rattle.theory.specs.Sustain.{closed-by, closed-stays}
+use Rattle.theory.specs.Exact.{closed-finish}
+use Rattle.theory.specs.Places.{placed}
+use Rattle.theory.specs.Finishes.{earliest-first, worst-runs, worst-slower, worst-finish, Clear, meets-clear}
+
+-- a slack is below zero exactly if the finish is after the deadline
+pub late-is : (d k : ℕ) → ltZ (pos d -ℤ pos k) (pos 0) ≡ ltb d k
+late-is d zero = le-ltb (d + 0) 0 (omega arith) ∙ sym (le-ltb d 0 (omega arith))
+late-is d (suc k) = by-bool (ltb d (suc k)) (λ e. rw e) (λ e. rw e (le-ltb (d - suc k) 0 (omega arith)))
+
+pub slack-meets : (t : Table) (o : List ℕ) (i : ℕ) → ltZ (slack t o i) (pos 0) ≡ false → meets t o i ≡ true
+unfolding slack meets
+slack-meets t o i e = le-leb (worstFinish t o i) (deadlineOf t i) (ltb-false (deadlineOf t i) (worstFinish t o i) (sym (late-is (deadlineOf t i) (worstFinish t o i)) ∙ e))
+
+pub meets-slack : (t : Table) (o : List ℕ) (i : ℕ) → meets t o i ≡ true → ltZ (slack t o i) (pos 0) ≡ false
+unfolding slack meets
+meets-slack t o i e = late-is (deadlineOf t i) (worstFinish t o i) ∙ le-ltb (deadlineOf t i) (worstFinish t o i) (leb-true (worstFinish t o i) (deadlineOf t i) e)
+
+-- row i's cell shows that it has kept its deadline
+pub record KeptCell (t : Table) (i : ℕ) (x : Cell) : Type 0 where
+  pub done : x .got ≡ workOf t i
+  pub closed : 1 ≤ x .closing
+  pub inTime : x .closing ≤ deadlineOf t i
+
+module _ (t : Table) (f : TableFacts t) where
+  -- a closed row has got its work where its slots supplied its worst speed
+  got-all : (u i : ℕ) (x : Cell) → Held t (worstSpeed t i) u i x → 1 ≤ x .closing → x .got ≡ workOf t i
+  got-all u i x h c =
+      by-bool (isLow t i)
+      (λ e. got-normal t u i x (f .runs) (subst (λ (s : ℕ). Held t s u i x) (rw e) h) c)
+      (λ e. got-high t (worstSpeed t i) u i x h e c)
+
+  -- row i below the rows of a, with b below it
+  kept-below : (a b : List ℕ) (i : ℕ) → ((x : ℕ) → In x (a ++ (i ∷ [])) → Row t x) → Clear t (a ++ (i ∷ [])) i → (σ : ℕ → ℕ) → Window t σ i (worstSpeed t i)
+      → (k : ℕ) → deadlineOf t i ≤ k → KeptIn t (after t (a ++ (i ∷ []) ++ b) σ k) i
+  kept-below a b i rows c σ w k q =
+      let x : KeptCell t i (cellAt (after t (a ++ (i ∷ []) ++ b) σ k) i) = subst (KeptCell t i) (sym later) (record { done = got-all (c .at) i now hold closed; closed = closed; inTime = omega (arith, hold .past, c .by) }) in
+      record { done = x .done; closed = x .closed; inTime = x .inTime }
+    where
+      own : Row t i
+      own = rows i (in-last a i)
+
+      now : Cell
+      now = cellAt (after t (a ++ (i ∷ []) ++ b) σ (c .at)) i
+
+      enough : (u : ℕ) → earliest t ≤ u → u < c .at → worstSpeed t i ≤ σ u
+      enough u p r = w u p (omega (arith, c .by))
+
+      hold : Held t (worstSpeed t i) (c .at) i now
+      hold = held t f (a ++ (i ∷ []) ++ b) σ (worstSpeed t i) (earliest t) (c .at) (earliest-first t) enough (c .at) (omega arith) i own
+
+      closed : 1 ≤ now .closing
+      closed = closed-by t f (a ++ (i ∷ [])) b rows σ (worstSpeed t i) (earliest t) (c .at) (worst-runs t f i) (earliest-first t) enough (c .clear) i (in-last a i) (c .after)
+
+      later : cellAt (after t (a ++ (i ∷ []) ++ b) σ k) i ≡ now
+      later = ap (λ (u : ℕ). cellAt (after t (a ++ (i ∷ []) ++ b) σ u) i) (let e : k ≡ k - c .at + c .at = omega (arith, c .by) in e) ∙ closed-stays t f (a ++ (i ∷ []) ++ b) σ i own (c .at) (k - c .at) closed
+
+  -- an order under check 6
+  module _ (o : List ℕ) (e : isOrder t o ≡ true) where
+    -- every clock from the deadline on
+    pub kept : (i : ℕ) → Row t i → meets t o i ≡ true → (σ : ℕ → ℕ) → Window t σ i (worstSpeed t i) → (k : ℕ) → deadlineOf t i ≤ k → KeptIn t (after t o σ k) i
+    kept i r m σ w k q =
+        let p = placed t o e i r in
+        let whole : o ≡ p .above ++ (i ∷ []) ++ p .below = p .whole ∙ sym (append-assoc (p .above) (i ∷ []) (p .below)) in
+        let c = meets-clear t f (p .above) (p .below) i (p .rows) (p .once) (subst (λ (l : List ℕ). meets t l i ≡ true) (p .whole) m) in
+        subst (λ (l : List ℕ). KeptIn t (after t l σ k) i) (sym whole) (kept-below (p .above) (p .below) i (p .rows) c σ w k q)
+
+    -- the run at exactly a row's worst speed is itself a course of speed
+    kept-worst : Correct t o → (i : ℕ) → Row t i → Kept t o (λ _. worstSpeed t i) i
+    kept-worst c i r =
+        by-bool (isLow t i)
+        (λ l. c .normal (λ _. worstSpeed t i) (λ u. rw l (omega arith)) i (is-row t i r))
+        (λ l. c .degraded (λ _. worstSpeed t i) (λ u. rw l (omega arith)) i (is-row t i r) (rw l))
+
+    pub all-meet : Correct t o → (i : ℕ) → Row t i → meets t o i ≡ true
+    unfolding meets
+    all-meet c i r =
+        let p = placed t o e i r in
+        let whole : o ≡ p .above ++ (i ∷ []) ++ p .below = p .whole ∙ sym (append-assoc (p .above) (i ∷ []) (p .below)) in
+        let k = kept-worst c i r .closed in
+        subst (λ (l : List ℕ). leb (worstFinish t l i) (deadlineOf t i) ≡ true) (sym (p .whole))
+        (le-leb (worstFinish t (p .above ++ (i ∷ p .below)) i) (deadlineOf t i)
+        (closed-finish t f (p .above) (p .below) i (p .rows) (p .once) (worstSpeed t i) (worst-runs t f i) (worst-slower t f i) (worstFinish t (p .above ++ (i ∷ p .below)) i) (deadlineOf t i)
+        (worst-finish t f (p .above) (p .below) i (p .rows) (p .once))
+        (subst (λ (l : List ℕ). 1 ≤ at (after t l (λ _. worstSpeed t i) (deadlineOf t i) .closing) i) whole k)))
+
+    pub correct : ((i : ℕ) → Row t i → meets t o i ≡ true) → Correct t o
+    correct h =
+        record {
+          normal = λ σ s i r. kept i (row-is t i r) (h i (row-is t i r)) σ (λ u p q. omega (arith, s u, worst-slower t f i)) (deadlineOf t i) (omega arith);
+          degraded = λ σ s i r g. kept i (row-is t i r) (h i (row-is t i r)) σ (λ u p q. rw (not-is (isLow t i) g) (s u)) (deadlineOf t i) (omega arith);
+        }
