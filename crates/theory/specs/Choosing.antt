@@ -16,19 +16,11 @@ use Rattle.rules.specs.Correct.{Correct}
 use Rattle.rules.specs.Worst.{meets}
 use Rattle.rules.specs.Choice.{insert, falling, sequence, passes, taker, Choice, fill, choice, padded}
 use Rattle.theory.specs.Tests.{by-bool, by-eqb, by-leb, not-both, and-both}
-use Rattle.theory.specs.Counts.{In, Once, Within, Same, part, last-of, count-append, count-same, count-other, count-erase-same, count-erase-other, erase-last, length-erase, first-in, first-passes, first-none, sum-same}
+use Rattle.theory.specs.Counts.{In, Once, Within, Same, part, last-of, count-append, count-same, count-other, count-erase-same, count-erase-other, erase-last, length-erase, first-in, first-passes, first-none, same-size}
 use Rattle.theory.specs.Facts.{Row, in-rows, rows-in, in-all, count-rows, count-zero, TableFacts}
 use Rattle.theory.specs.Places.{order-rows, rows-once, length-rows, count-zeros}
 use Rattle.theory.specs.Finishes.{clear-within, meets-clear, clear-meets}
 use Rattle.theory.specs.Verdict.{all-meet, correct}
-
-size : (l : List ℕ) → length l ≡ sum (λ _. 1) l
-size [] = refl
-size (x ∷ l) = omega (arith, size l)
-
--- lists of the same rows are of one length
-pub same-size : (a b : List ℕ) → Same a b → length a ≡ length b
-same-size a b s = omega (arith, size a, size b, sum-same (λ _. 1) a b s)
 
 -- the trial sequence holds the rows
 

@@ -128,6 +128,14 @@ sum-within f (x ∷ a) b h =
 pub sum-same : (f : ℕ → ℕ) (a b : List ℕ) → Same a b → sum f a ≡ sum f b
 sum-same f a b h = omega (arith, sum-within f a b (λ x. omega (arith, h x)), sum-within f b a (λ x. omega (arith, h x)))
 
+size : (l : List ℕ) → length l ≡ sum (λ _. 1) l
+size [] = refl
+size (x ∷ l) = omega (arith, size l)
+
+-- lists of the same rows are of one length
+pub same-size : (a b : List ℕ) → Same a b → length a ≡ length b
+same-size a b s = omega (arith, size a, size b, sum-same (λ _. 1) a b s)
+
 pub in-tail : (x y : ℕ) (l : List ℕ) → In x l → In x (y ∷ l)
 in-tail x y l h = by-bool (eqb x y) (λ e. rw e (omega arith)) (λ e. rw e h)
 

@@ -1,7 +1,7 @@
 -- Case analysis on a test, and what passed tests say.
 use Prim.Native.Nat.{ℕ, _≤_, _<_}
 use mathlib.Core.Bool.{Bool, true, false, not, _&&_}
-use mathlib.Core.Path.{_≡_, refl}
+use mathlib.Core.Path.{_≡_, refl, _∙_}
 use native.Mathlib.Omega.{arith}
 use lib.Dec.{ltb, leb, eqb}
 use borrow.Author.Tests.{ltb-true, ltb-false, leb-true, leb-false, eqb-true, eqb-false}
@@ -42,3 +42,22 @@ and-both false b p q = p
 pub not-is : (b : Bool) → not b ≡ true → b ≡ false
 not-is true e = absurd (not-both false e refl)
 not-is false e = refl
+
+pub and-true : (a : Bool) → a && true ≡ a
+and-true true = refl
+and-true false = refl
+
+pub and-false : (a : Bool) → a && false ≡ false
+and-false true = refl
+and-false false = refl
+
+pub and-assoc : (a b c : Bool) → a && b && c ≡ a && (b && c)
+and-assoc true b c = refl
+and-assoc false b c = refl
+
+-- what a flag is where code joins two tests: the second test where the first passed, else the first
+pub both : (a b f : Bool) → a ≡ true → f ≡ b → f ≡ a && b
+both a b f p q = rw p q
+
+pub neither : (a b f : Bool) → a ≡ false → f ≡ a → f ≡ a && b
+neither a b f p q = q ∙ rw p

@@ -1,0 +1,42 @@
+-- A refused table answers for itself; an accepted one has at most 64 rows, so that check 6 can follow.
+use mathlib.Core.Path.{sym, _∙_}
+use Rattle.rules.specs.Orders.{checkBoth}
+use Rattle.rules.specs.Tables.{Accepted}
+use Rattle.checks.specs.Limits.{limited}
+use borrow.Author.Needs.{needs}
+use Rattle.checks.proofs.check_both.Statement.{statement}
+use Rattle.checks.proofs.check_both.Tie as tie
+
+check-table-requires : tie.Need-check-table-requires
+check-table-requires c κs = search needs
+
+enum-known-table : tie.Need-enum-known-table
+enum-known-table c = search needs
+
+enum-told : tie.Need-enum-told
+enum-told c = search needs
+
+accepted : (c : tie.After-enum-told) → Accepted (c .before .before .before .args .t)
+accepted c = sym (c .before .before .check-table .ensures) ∙ c .enum-told .given .1
+
+check-order-requires : tie.Need-check-order-requires
+check-order-requires c κs = limited _ (accepted c) .rows-to
+
+returns : tie.Need-returns
+unfolding checkBoth
+returns c = rw (sym (c .before .before .before .check-table .ensures) ∙ c .before .table .given .1)
+
+returns-2 : tie.Need-returns-2
+unfolding checkBoth
+returns-2 c = rw (accepted (c .before)) (c .check-order .ensures)
+
+pub check-both-spec : {M : Type 1} → statement M
+check-both-spec =
+    tie.close
+    (tie.spec
+    check-table-requires
+    enum-known-table
+    enum-told
+    check-order-requires
+    returns
+    returns-2)

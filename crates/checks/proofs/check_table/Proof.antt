@@ -1,0 +1,101 @@
+-- The first check that fails answers, and the checks before it passed.
+use Prim.Native.Nat.{_≤_}
+use borrow.Author.Tests.{leb-true, not-true, not-false}
+use mathlib.Core.Path.{_≡_, sym, _∙_}
+use mathlib.Core.Bool.{true}
+use lib.Dec.{leb}
+use Rattle.rules.specs.declared.Table.{Table}
+use Rattle.rules.specs.Lists.{all}
+use Rattle.rules.specs.Rows.{rowsOf}
+use Rattle.rules.specs.Tables.{countOk, speedsOk, rowOk, checkTable}
+use Rattle.theory.specs.Tests.{and-right}
+use borrow.Author.Needs.{needs}
+use Rattle.checks.proofs.check_table.Statement.{statement}
+use Rattle.checks.proofs.check_table.Tie as tie
+
+count-ok-requires : tie.Need-count-ok-requires
+count-ok-requires c κs = search needs
+
+-- the table, past each check that passed
+abbrev table1 : tie.Else1 → Table
+table1 c = c .before .before .args .t
+
+abbrev table2 : tie.Else2 → Table
+table2 c = table1 (c .before .before)
+
+abbrev table3 : tie.Else3 → Table
+table3 c = table2 (c .before .before)
+
+counted : (c : tie.Else1) → countOk (table1 c .n) ≡ true
+counted c = sym (c .before .count-ok .ensures) ∙ not-false _ (c .if1 .left)
+
+few : (c : tie.Else1) → table1 c .n ≤ 64
+few c =
+    let n = table1 c .n in
+    leb-true n 64 (and-right (leb 1 n) (leb n 64) (counted c))
+
+paced : (c : tie.Else2) → speedsOk (table2 c .normal) (table2 c .degraded) ≡ true
+paced c = sym (c .before .speeds-ok .ensures) ∙ not-false _ (c .if2 .left)
+
+limited : (c : tie.Else3) → all (rowOk (table3 c)) (rowsOf (table3 c)) ≡ true
+limited c = sym (c .before .rows-ok .ensures) ∙ not-false _ (c .if3 .left)
+
+returns : tie.Need-returns
+unfolding checkTable
+returns c = rw (sym (c .before .count-ok .ensures) ∙ not-true _ (c .if1 .taken))
+
+speeds-ok-requires : tie.Need-speeds-ok-requires
+speeds-ok-requires c κs = search needs
+
+returns-2 : tie.Need-returns-2
+unfolding checkTable
+returns-2 c = rw (counted (c .before .before), sym (c .before .speeds-ok .ensures) ∙ not-true _ (c .if2 .taken))
+
+rows-ok-requires : tie.Need-rows-ok-requires
+rows-ok-requires c κs = few (c .before .before)
+
+returns-3 : tie.Need-returns-3
+unfolding checkTable
+returns-3 c =
+    rw (
+      counted (c .before .before .before .before),
+      paced (c .before .before),
+      sym (c .before .rows-ok .ensures) ∙ not-true _ (c .if3 .taken),
+    )
+
+tail-ok-requires : tie.Need-tail-ok-requires
+tail-ok-requires c κs = few (c .before .before .before .before)
+
+returns-4 : tie.Need-returns-4
+unfolding checkTable
+returns-4 c =
+    rw (
+      counted (c .before .before .before .before .before .before),
+      paced (c .before .before .before .before),
+      limited (c .before .before),
+      sym (c .before .tail-ok .ensures) ∙ not-true _ (c .if4 .taken),
+    )
+
+returns-5 : tie.Need-returns-5
+unfolding checkTable
+returns-5 c =
+    rw (
+      counted (c .before .before .before .before .before .before),
+      paced (c .before .before .before .before),
+      limited (c .before .before),
+      sym (c .before .tail-ok .ensures) ∙ not-false _ (c .if4 .left),
+    )
+
+pub check-table-spec : {M : Type 1} → statement M
+check-table-spec =
+    tie.close
+    (tie.spec
+    count-ok-requires
+    returns
+    speeds-ok-requires
+    returns-2
+    rows-ok-requires
+    returns-3
+    tail-ok-requires
+    returns-4
+    returns-5)

@@ -1,0 +1,102 @@
+-- The first k rows passed; a row that fails ends the search, since then not all rows pass.
+use Prim.Native.Nat.{_≤_, _-_}
+use mathlib.Core.Bool.{true}
+use mathlib.Core.Path.{_≡_, refl, sym, _∙_}
+use native.Mathlib.Omega.{arith}
+use borrow.Author.Needs.{needs}
+use borrow.Author.Tests.{not-true, not-false}
+use Rattle.rules.specs.Lists.{all, rowsTo}
+use Rattle.rules.specs.Tables.{rowOk}
+use Rattle.checks.specs.Limits.{row-limits}
+use Rattle.checks.specs.RowLists.{all-rows-more, all-rows-fail}
+use Rattle.checks.proofs.rows_ok.Statement.{statement}
+use Rattle.checks.proofs.rows_ok.Tie as tie
+
+abbrev Inv-loop : tie.InvT-loop
+Inv-loop t n k₀ k = (k ≤ n) × (n ≤ 64) × (all (rowOk t) (rowsTo k) ≡ true)
+
+abbrev μ-loop : tie.MeasureT-loop
+μ-loop t n k₀ k = n - k
+
+cast-n : tie.Need-cast-n Inv-loop μ-loop
+cast-n c = search needs
+
+loop-holds : tie.Need-loop-holds Inv-loop μ-loop
+loop-holds c = (search needs, search needs, refl)
+
+mul-row-ok : tie.Need-mul-row-ok Inv-loop μ-loop
+mul-row-ok c = search needs
+
+element-copy-out-row-ok : tie.Need-element-copy-out-row-ok Inv-loop μ-loop
+element-copy-out-row-ok c = search needs
+
+mul-row-ok-2 : tie.Need-mul-row-ok-2 Inv-loop μ-loop
+mul-row-ok-2 c = search needs
+
+element-copy-out-row-ok-2 : tie.Need-element-copy-out-row-ok-2 Inv-loop μ-loop
+element-copy-out-row-ok-2 c = search needs
+
+mul-row-ok-3 : tie.Need-mul-row-ok-3 Inv-loop μ-loop
+mul-row-ok-3 c = search needs
+
+element-copy-out-row-ok-3 : tie.Need-element-copy-out-row-ok-3 Inv-loop μ-loop
+element-copy-out-row-ok-3 c = search needs
+
+mul-row-ok-4 : tie.Need-mul-row-ok-4 Inv-loop μ-loop
+mul-row-ok-4 c = search needs
+
+element-copy-out-row-ok-4 : tie.Need-element-copy-out-row-ok-4 Inv-loop μ-loop
+element-copy-out-row-ok-4 c = search needs
+
+row-ok-requires : tie.Need-row-ok-requires Inv-loop μ-loop
+row-ok-requires c κs = search needs
+
+returns : tie.Need-returns Inv-loop μ-loop
+returns c =
+    let s = c .before .before .before .before .before .before .before .before in
+    let l = c .before .before .before .before .before .before .before .loop in
+    let bad = row-limits (s .args .t1) (l .k) ∙ sym (c .before .row-ok .ensures) ∙ not-true _ (c .if1 .taken) in
+    sym (all-rows-fail (rowOk (s .args .t1)) (l .k) (s .args .t1 .n) (omega arith) bad)
+
+add-k : tie.Need-add-k Inv-loop μ-loop
+add-k c = search needs
+
+loop-less : tie.Need-loop-less Inv-loop μ-loop
+loop-less c = search needs
+
+loop-again : tie.Need-loop-again Inv-loop μ-loop
+loop-again c =
+    let s = c .before .before .before .before .before .before .before .before in
+    let l = c .before .before .before .before .before .before .before .loop in
+    let good = row-limits (s .args .t1) (l .k) ∙ sym (c .before .row-ok .ensures) ∙ not-false _ (c .if1 .left) in
+    (omega arith, omega arith, all-rows-more (rowOk (s .args .t1)) (l .k) ∙ rw (l .inv .2) good)
+
+returns-2 : tie.Need-returns-2 Inv-loop μ-loop
+returns-2 c =
+    let s = c .before .before in
+    let l = c .before .loop in
+    let e : l .k ≡ s .args .t1 .n = omega arith in
+    sym (rw e at (l .inv .2))
+
+pub rows-ok-spec : {M : Type 1} → statement M
+rows-ok-spec =
+    tie.close
+    (tie.spec
+    Inv-loop
+    μ-loop
+    cast-n
+    loop-holds
+    mul-row-ok
+    element-copy-out-row-ok
+    mul-row-ok-2
+    element-copy-out-row-ok-2
+    mul-row-ok-3
+    element-copy-out-row-ok-3
+    mul-row-ok-4
+    element-copy-out-row-ok-4
+    row-ok-requires
+    returns
+    add-k
+    loop-less
+    loop-again
+    returns-2)

@@ -1,0 +1,4 @@
+pub mod NeedLaws
+pub mod RowLists
+pub mod Limits
+pub mod Counts

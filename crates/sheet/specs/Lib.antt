@@ -1,0 +1,3 @@
+pub mod Scan
+pub mod Lines
+pub mod SheetsDiffer

@@ -1,0 +1,195 @@
+//! The C example on paper: plans a sheet and runs it slot by slot by the model
+//! alone, and prints the same text as the example for the same arguments.
+//!
+//!     paper [SHEET [SUPPLY ...]]
+//!
+//! SHEET is a file, or - for standard input, which is also taken when it is
+//! left out. Each SUPPLY is what one slot supplies, in work units, from slot 0
+//! on; the last one is repeated. Without any, every slot supplies N.
+
+use model::calls::one_slot_on_paper;
+use model::plan::plan;
+use model::program::KEPT;
+use model::run::{chosen, kept_deadline, State};
+use model::sheet::read_sheet;
+use model::table::Table;
+use std::fs::File;
+use std::io::{self, BufWriter, Read, Write};
+use std::process::ExitCode;
+
+const REFUSED: u8 = 1;
+const NOT_USABLE: u8 = 2;
+
+fn words_for(number: u32) -> &'static str {
+    match number {
+        0 => "an order was made",
+        1 => "the sheet's length is wrong",
+        2 => "a field or line end of the sheet is malformed",
+        3 => "the row count is outside 1 to 64",
+        4 => "a speed is outside its limits",
+        5 => "a row is outside its limits",
+        7 => "no correct order exists",
+        8 => "the clock is 2,000,000 and rows are still open",
+        _ => unreachable!("no other number comes up in a run on paper"),
+    }
+}
+
+/// The rows as the text lists them, a space before each.
+fn listed(rows: impl Iterator<Item = u8>) -> String {
+    rows.map(|row| format!(" {row}")).collect()
+}
+
+fn rows_left(left: u64) -> String {
+    listed((1..=64u8).filter(|row| (left >> (row - 1)) % 2 == 1))
+}
+
+fn is_done(table: &Table, state: &State, row: u8) -> bool {
+    state.got[row as usize - 1] == table.row(row).work
+}
+
+fn closing_word(table: &Table, state: &State, row: u8) -> &'static str {
+    if is_done(table, state, row) {
+        "done"
+    } else {
+        "dropped"
+    }
+}
+
+fn deadline_word(table: &Table, state: &State, row: u8) -> &'static str {
+    if kept_deadline(table, state, row) {
+        "kept"
+    } else if is_done(table, state, row) {
+        "late"
+    } else {
+        "not kept"
+    }
+}
+
+/// What a slot has brought its row, and its closing if the slot closed it.
+fn after_slot(table: &Table, state: &State, row: u8) -> String {
+    if row == 0 {
+        return String::new();
+    }
+    let index = row as usize - 1;
+    let got = format!(
+        ", got {} of {} work units",
+        state.got[index], table.work[index]
+    );
+    match state.closing[index] {
+        0 => got,
+        closing => format!("{got}, {} at {closing}", closing_word(table, state, row)),
+    }
+}
+
+fn summary_line(table: &Table, state: &State, row: u8) -> String {
+    format!(
+        "row {row}: {} at {}, deadline {}, {}",
+        closing_word(table, state, row),
+        state.closing[row as usize - 1],
+        table.row(row).deadline,
+        deadline_word(table, state, row)
+    )
+}
+
+/// The supply of a slot in work units: from the list, its last one repeated, or
+/// N without a list.
+fn supply_of(supplies: &[u32], normal: u32, slot: u32) -> u32 {
+    match supplies.last() {
+        None => normal,
+        Some(&last) => supplies.get(slot as usize).copied().unwrap_or(last),
+    }
+}
+
+fn refuse(out: &mut impl Write, number: u32) -> io::Result<u8> {
+    writeln!(out, "number {number}: {}", words_for(number))?;
+    Ok(REFUSED)
+}
+
+/// Reads, plans and runs a sheet; gives the exit status.
+fn plan_and_run(out: &mut impl Write, sheet: &[u8], supplies: &[u32]) -> io::Result<u8> {
+    let (number, table) = read_sheet(sheet);
+    if number != 0 {
+        return refuse(out, number);
+    }
+    let answer = plan(&table);
+    if answer.number == 7 {
+        let left = rows_left(answer.left);
+        writeln!(out, "number 7: {}, rows left:{left}", words_for(7))?;
+        return Ok(REFUSED);
+    }
+    let places = answer.order.into_iter().take(table.n as usize);
+    writeln!(out, "number 0: {}", words_for(0))?;
+    writeln!(out, "order:{}", listed(places))?;
+    let mut state = State::FRESH;
+    while state.closing[..table.n as usize].contains(&0) {
+        let slot = state.clock;
+        let row = chosen(&table, &answer.order, &state);
+        let supply = supply_of(supplies, table.normal, slot);
+        let (number, _) = one_slot_on_paper(&table, &answer.order, &mut state, supply);
+        if number != 0 {
+            return refuse(out, number);
+        }
+        let started = if row == 0 {
+            "idle".to_string()
+        } else {
+            format!("row {row}")
+        };
+        let brought = after_slot(&table, &state, row);
+        writeln!(
+            out,
+            "slot {slot}: {started}, supply {supply} work units{brought}"
+        )?;
+    }
+    for row in 1..=table.n as u8 {
+        writeln!(out, "{}", summary_line(&table, &state, row))?;
+    }
+    Ok(0)
+}
+
+/// At most one byte more than the longest sheet, which is enough to refuse a
+/// longer one.
+fn read_file(name: &str) -> io::Result<Vec<u8>> {
+    let mut sheet = Vec::new();
+    let kept = KEPT as u64;
+    if name == "-" {
+        io::stdin().lock().take(kept).read_to_end(&mut sheet)?;
+    } else {
+        File::open(name)?.take(kept).read_to_end(&mut sheet)?;
+    }
+    Ok(sheet)
+}
+
+/// A supply in work units from decimal digits, 0 to 4,294,967,295.
+fn read_supply(text: &str) -> Option<u32> {
+    if text.bytes().all(|byte| byte.is_ascii_digit()) {
+        text.parse().ok()
+    } else {
+        None
+    }
+}
+
+fn not_usable(what: &str, name: &str) -> ExitCode {
+    eprintln!("{what}: {name}\nusage: paper [SHEET [SUPPLY ...]]");
+    ExitCode::from(NOT_USABLE)
+}
+
+fn main() -> ExitCode {
+    let arguments: Vec<String> = std::env::args().skip(1).collect();
+    let name = arguments.first().map_or("-", String::as_str);
+    let mut supplies = Vec::new();
+    for text in arguments.iter().skip(1) {
+        match read_supply(text) {
+            Some(supply) => supplies.push(supply),
+            None => return not_usable("not a supply from 0 to 4294967295", text),
+        }
+    }
+    let Ok(sheet) = read_file(name) else {
+        return not_usable("cannot be read", name);
+    };
+    let mut out = BufWriter::new(io::stdout().lock());
+    let status = plan_and_run(&mut out, &sheet, &supplies);
+    match status.and_then(|status| out.flush().map(|()| status)) {
+        Ok(status) => ExitCode::from(status),
+        Err(_) => not_usable("cannot be written", "standard output"),
+    }
+}
