@@ -1,3 +1,13 @@
 pub mod Records
 pub mod Answers
 pub mod RecordCases
+pub mod AllRows
+pub mod Figures
+pub mod Places
+pub mod Columns
+pub mod Checked
+pub mod Sound
+pub mod Stepping
+pub mod Kept
+pub mod Fresh
+pub mod Coming

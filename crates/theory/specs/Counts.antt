@@ -1,12 +1,12 @@
 -- Lists of rows as sets: how often a row stands in a list, and sums over lists that hold the same rows.
-use Prim.Native.Nat.{ℕ, suc, _+_, _-_, _≤_}
+use Prim.Native.Nat.{_<_, zero, ℕ, suc, _+_, _-_, _≤_}
 use mathlib.Core.Bool.{Bool, true, false}
 use mathlib.Core.Path.{_≡_, refl, sym, _∙_}
 use mathlib.Core.List.{List, [], _∷_, _++_}
 use mathlib.Core.Logic.{_⊎_, inl, inr}
 use native.Mathlib.Omega.{arith}
 use lib.Dec.{eqb}
-use lib.ListN.{length}
+use lib.ListN.{length, getD}
 use borrow.Author.Tests.{eq-eqb, ne-eqb}
 use Rattle.rules.specs.Lists.{first, count, erase, sum}
 use Rattle.theory.specs.Tests.{by-bool, by-eqb, not-both}
@@ -141,6 +141,12 @@ in-tail x y l h = by-bool (eqb x y) (λ e. rw e (omega arith)) (λ e. rw e h)
 
 pub in-head : (x : ℕ) (l : List ℕ) → In x (x ∷ l)
 in-head x l = omega (arith, count-same x l)
+
+-- an entry of a list stands in it
+pub in-entry : (l : List ℕ) (k : ℕ) → k < length l → In (getD l k 0) l
+in-entry [] k h = absurd (omega arith)
+in-entry (x ∷ l) zero h = in-head x l
+in-entry (x ∷ l) (suc k) h = in-tail (getD l k 0) x l (in-entry l k (omega arith))
 
 pub sum-le : (f g : ℕ → ℕ) (l : List ℕ) → ((x : ℕ) → In x l → f x ≤ g x) → sum f l ≤ sum g l
 sum-le f g [] h = omega arith

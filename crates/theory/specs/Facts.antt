@@ -8,10 +8,12 @@ use lib.Dec.{ltb, leb}
 use borrow.Author.Tests.{leb-true, ltb-true, lt-ltb, le-leb}
 use Rattle.rules.specs.declared.Table.{Table}
 use Rattle.rules.specs.declared.Refusal.{Refusal}
-use Rattle.rules.specs.declared.Refusal.the-variants.{RowCount, Speeds, RowLimits}
+use Rattle.rules.specs.declared.Refusal.the-variants.{RowCount, Speeds, RowLimits, NotAnOrder}
+use Rattle.rules.specs.declared.Check.{Check}
 use Rattle.rules.specs.declared.Check.the-variants.{Passed, Refused}
 use Rattle.rules.specs.Lists.{all, rowsTo, count}
 use Rattle.rules.specs.Rows.{at, isRow, rowsOf, releaseOf, workOf, deadlineOf}
+use Rattle.rules.specs.Orders.{isOrder, checkOrder, andThen, checkBoth}
 use Rattle.rules.specs.Tables.{countOk, speedsOk, rowOk, tailOk, checkTable, Accepted}
 use Rattle.theory.specs.Tests.{by-bool, by-eqb, by-leb, and-left, and-right, and-both}
 use Rattle.theory.specs.Counts.{In, count-append, count-other, in-head, in-tail}
@@ -68,6 +70,7 @@ pub record RowFacts (t : Table) (i : ℕ) : Type 0 where
   pub light : workOf t i ≤ 1000000
   pub soon : deadlineOf t i ≤ 1000000
   pub before : releaseOf t i < deadlineOf t i
+  pub level : at (t .level) i ≤ 1
 
 row-facts : (t : Table) (i : ℕ) → rowOk t i ≡ true → RowFacts t i
 unfolding rowOk
@@ -77,6 +80,7 @@ row-facts t i e =
       light = leb-true (workOf t i) 1000000 (and-right a b (and-left (a && b) c d3));
       soon = leb-true (deadlineOf t i) 1000000 (and-right (a && b) c d3);
       before = ltb-true (releaseOf t i) (deadlineOf t i) (and-right (a && b && c) d d4);
+      level = leb-true (at (t .level) i) 1 (and-right (a && b && c && d) (leb (at (t .level) i) 1) e);
     }
   where
     a : Bool
@@ -106,6 +110,7 @@ pub record TableFacts (t : Table) : Type 0 where
   pub crawls : 1 ≤ t .degraded
   pub slower : t .degraded ≤ t .normal
   pub row : (i : ℕ) → Row t i → RowFacts t i
+  pub tail : tailOk t ≡ true
 
 clash : (r : Refusal) → Refused r ≡ Passed → ⊥
 clash r e = let z : _≡_ {A = ℕ} 0 1 = cc in omega arith
@@ -124,6 +129,7 @@ facts t h =
       crawls = leb-true 1 (t .degraded) (and-right (p && q) r (and-left (p && q && r) s e2));
       slower = leb-true (t .degraded) (t .normal) (and-right (p && q && r) s e2);
       row = λ i k. row-facts t i (all-in (rowOk t) (rowsOf t) (and-left (all (rowOk t) (rowsOf t)) (tailOk t) e3) i (in-rows t i k));
+      tail = and-right (all (rowOk t) (rowsOf t)) (tailOk t) e3;
     })
     (λ e3. absurd (clash RowLimits (rw (e1, e2, e3) at h))))
     (λ e2. absurd (clash Speeds (rw (e1, e2) at h))))
@@ -140,3 +146,18 @@ facts t h =
 
     s : Bool
     s = leb (t .degraded) (t .normal)
+
+-- a table and an order that pass checks 3 to 6
+pub both-accepted : (t : Table) (o : List ℕ) → checkBoth t o ≡ Passed → Accepted t
+unfolding checkBoth
+both-accepted t o e = go (checkTable t) e
+  where
+    go : (c : Check) → andThen c (checkOrder t o) ≡ Passed → c ≡ Passed
+    go Passed f = refl
+    go (Refused r) f = f
+
+pub both-order : (t : Table) (o : List ℕ) → checkBoth t o ≡ Passed → isOrder t o ≡ true
+unfolding checkBoth checkOrder
+both-order t o e =
+    let f : checkOrder t o ≡ Passed = rw (both-accepted t o e) at e in
+    by-bool (isOrder t o) (λ h. h) (λ h. absurd (clash NotAnOrder (rw h at f)))

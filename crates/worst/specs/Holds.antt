@@ -13,7 +13,7 @@ use borrow.Author.Tests.{eq-eqb}
 use Rattle.rules.specs.Lists.{rowsTo, count, keep, erase, sum}
 use Rattle.rules.specs.Choice.{word}
 use Rattle.theory.specs.Tests.{by-bool, by-eqb, by-ltb}
-use Rattle.theory.specs.Counts.{In, Within, Same, Once, count-same, count-other, count-append, count-erase-same, count-erase-other, length-erase, sum-erase, sum-same, in-head, in-tail}
+use Rattle.theory.specs.Counts.{In, Within, Same, Once, count-same, count-other, count-append, count-erase-same, count-erase-other, length-erase, sum-erase, sum-same, in-head, in-tail, same-size}
 use Rattle.worst.specs.Masks.{bit, isLeft, bit-lt, left-bit, not-left-bit, bit-left, bit-not-left, cleared-same, cleared-other, cleared-ones, set-same, set-other, set-ones, zero-bit, full-above}
 
 -- the word m has exactly the rows of the list l, each once
@@ -24,13 +24,6 @@ pub record Holds (m : ℕ) (l : List ℕ) : Type 0 where
   pub sums : m ≡ word l
   pub size : ones m ≡ length l
 
-length-sum : (l : List ℕ) → length l ≡ sum (λ _. 1) l
-length-sum [] = refl
-length-sum (x ∷ l) = omega (arith, length-sum l)
-
-pub length-same : (a b : List ℕ) → Same a b → length a ≡ length b
-length-same a b h = omega (arith, length-sum a, length-sum b, sum-same (λ _. 1) a b h)
-
 -- the order of the list does not matter
 pub holds-same : (m : ℕ) (a b : List ℕ) → Same a b → Holds m a → Holds m b
 unfolding word
@@ -40,7 +33,7 @@ holds-same m a b h p =
       none = sym (h 0) ∙ p .none;
       few = λ j q. sym (h j) ∙ p .few j q;
       sums = p .sums ∙ sum-same (λ i. 2 ^ (i - 1)) a b h;
-      size = p .size ∙ length-same a b h;
+      size = p .size ∙ same-size a b h;
     }
 
 pub holds-empty : Holds 0 []

@@ -2,7 +2,7 @@
 use mathlib.Core.Path.{sym, _∙_}
 use Rattle.rules.specs.Orders.{checkBoth}
 use Rattle.rules.specs.Tables.{Accepted}
-use Rattle.checks.specs.Limits.{limited}
+use Rattle.theory.specs.Facts.{facts}
 use borrow.Author.Needs.{needs}
 use Rattle.checks.proofs.check_both.Statement.{statement}
 use Rattle.checks.proofs.check_both.Tie as tie
@@ -20,7 +20,7 @@ accepted : (c : tie.After-enum-told) → Accepted (c .before .before .before .ar
 accepted c = sym (c .before .before .check-table .ensures) ∙ c .enum-told .given .1
 
 check-order-requires : tie.Need-check-order-requires
-check-order-requires c κs = limited _ (accepted c) .rows-to
+check-order-requires c κs = facts _ (accepted c) .few
 
 returns : tie.Need-returns
 unfolding checkBoth

@@ -1,0 +1,38 @@
+-- `record::Run::coming` meets its contract: its two tests are the definition's, 9 and then 8. Assumes nothing.
+use borrow.Author.Needs.{needs}
+use borrow.Author.Tests.{not-true, not-false, le-ltb, lt-ltb}
+use mathlib.Core.Path.{sym, ap, _∙_}
+use Rattle.record.specs.declared.SlotAnswer.the-variants.{Worked}
+use Rattle.rules.specs.Slots.{isReady, chosen}
+use Rattle.record.specs.Records.{chosenRow, comingSlot}
+use Rattle.record.specs.Sound.{order-placed}
+use Rattle.record.proofs.Run.coming.Statement.{statement}
+use Rattle.record.proofs.Run.coming.Tie as tie
+
+is-sound-requires : tie.Need-is-sound-requires
+is-sound-requires c κs = search needs
+
+returns : tie.Need-returns
+unfolding comingSlot
+returns c = simp (sym (c .before .is-sound .ensures) ∙ not-true _ (c .if1 .taken))
+
+returns-2 : tie.Need-returns-2
+unfolding comingSlot
+returns-2 c =
+    let b = c .before in
+    simp (sym (b .before .is-sound .ensures) ∙ not-false _ (b .if1 .left), le-ltb _ _ (c .if2 .taken))
+
+chosen-row-requires : tie.Need-chosen-row-requires
+chosen-row-requires c κs =
+    let b = c .before .before .before .before .before in
+    order-placed _ (sym (b .before .is-sound .ensures) ∙ not-false _ (b .if1 .left))
+
+returns-3 : tie.Need-returns-3
+unfolding comingSlot chosenRow chosen isReady
+returns-3 c =
+    let d = c .before .before .before .before .before in
+    let b = d .before in
+    simp (sym (b .before .is-sound .ensures) ∙ not-false _ (b .if1 .left), lt-ltb _ _ (d .if2 .left)) (ap Worked (c .chosen-row .ensures))
+
+pub coming-spec : {M : Type 1} → statement M
+coming-spec = tie.close (tie.spec is-sound-requires returns returns-2 chosen-row-requires returns-3)

@@ -1,0 +1,133 @@
+-- `record::Run::next` meets its contract: the order of a sound record holds rows in its first n places, so the row chosen over the columns
+-- is the record's. Row 0 leaves the slot idle, and any other row's entries become the definition's; its slots used are at most the clock.
+-- Assumes nothing.
+use Prim.Native.Nat.{_-_, _<_}
+use mathlib.Core.Path.{_≡_, sym}
+use native.Mathlib.Omega.{arith}
+use borrow.Author.Needs.{needs}
+use Rattle.rules.specs.Slots.{isReady, chosen}
+use Rattle.record.specs.Records.{chosenRow}
+use Rattle.record.specs.Sound.{Serving, serving, order-placed}
+use Rattle.record.specs.Stepping.{next-idle, next-served}
+use Rattle.record.proofs.Run.next.Statement.{statement}
+use Rattle.record.proofs.Run.next.Tie as tie
+
+chosen-row-requires : tie.Need-chosen-row-requires
+chosen-row-requires c κs = let s = c .before .before .before .before in order-placed (s .args .t1) (s .pre .0)
+
+-- the record at entry, and that the row is its chosen one
+abbrev start : tie.After-chosen-row → tie.Start
+start c = c .before .before .before .before .before
+
+is-chosen : (c : tie.After-chosen-row) → c .chosen-row .result ≡ chosenRow (start c .args .t1)
+unfolding chosenRow chosen isReady
+is-chosen c = c .chosen-row .ensures
+
+add-after : tie.Need-add-after
+add-after c = search needs
+
+returns : tie.Need-returns
+returns c =
+    let a = c .before in
+    sym (next-idle (start a .args .t1) (start a .args .supply) (a .chosen-row .result) (is-chosen a) (c .if1 .taken))
+
+-- what is known of a row that runs
+row-facts : (c : tie.Else1) → Serving (start (c .before) .args .t1) (c .before .chosen-row .result)
+row-facts c = serving _ _ (start (c .before) .pre .0) (is-chosen (c .before)) (c .if1 .left)
+
+cast-i : tie.Need-cast-i
+cast-i c = search needs
+
+sub-i : tie.Need-sub-i
+sub-i c = search needs
+
+entry-requires : tie.Need-entry-requires
+entry-requires c κs = let f = row-facts (c .before .before) in omega arith
+
+entry-requires-2 : tie.Need-entry-requires-2
+entry-requires-2 c κs = let f = row-facts (c .before .before .before .before .before) in omega arith
+
+mul-grown : tie.Need-mul-grown
+mul-grown c = search needs
+
+element-copy-out-grown : tie.Need-element-copy-out-grown
+element-copy-out-grown c = let f = row-facts (c .before .before .before .before .before .before) in omega arith
+
+grown-requires : tie.Need-grown-requires
+grown-requires c κs =
+    let b = c .before .before .before .before in
+    let f = row-facts (b .before .before .before) in
+    omega (arith, b .entry .ensures)
+
+mul-used : tie.Need-mul-used
+mul-used c = search needs
+
+element-copy-out-used : tie.Need-element-copy-out-used
+element-copy-out-used c = let f = row-facts (c .before .before .before .before .before .before .before .before) in omega arith
+
+add-used : tie.Need-add-used
+add-used c =
+    let a = c .before .before .before .before .before .before .before .before .before in
+    let f = row-facts a in
+    omega (arith, start (a .before) .pre .1)
+
+closing-slot-requires : tie.Need-closing-slot-requires
+closing-slot-requires c κs = search needs
+
+-- the place after which the row's entries are stored, and the row's index there
+abbrev chosen-at : tie.After-closing-slot → tie.Else1
+chosen-at c = c .before .before .before .before .before .before .before .before .before .before
+
+inside : (c : tie.After-closing-slot) → chosen-at c .before .chosen-row .result - 1 < 64
+inside c = let f = row-facts (chosen-at c) in omega arith
+
+mul-self : tie.Need-mul-self
+mul-self c = search needs
+
+element-write-self : tie.Need-element-write-self
+element-write-self c = inside c
+
+mul-self-2 : tie.Need-mul-self-2
+mul-self-2 c = search needs
+
+element-write-self-2 : tie.Need-element-write-self-2
+element-write-self-2 c = inside c
+
+mul-self-3 : tie.Need-mul-self-3
+mul-self-3 c = search needs
+
+element-write-self-3 : tie.Need-element-write-self-3
+element-write-self-3 c = inside c
+
+returns-2 : tie.Need-returns-2
+returns-2 c =
+    let a = chosen-at c in
+    let x = start (a .before) .args in
+    rw (c .closing-slot .ensures, c .before .before .grown .ensures, c .before .before .before .before .entry2 .ensures, c .before .before .before .before .before .before .before .entry .ensures)
+    (sym (next-served (x .t1) (x .supply) (a .before .chosen-row .result) (is-chosen (a .before)) (a .if1 .left)))
+
+pub next-spec : {M : Type 1} → statement M
+next-spec =
+    tie.close
+    (tie.spec
+    chosen-row-requires
+    add-after
+    returns
+    cast-i
+    sub-i
+    entry-requires
+    entry-requires-2
+    mul-grown
+    element-copy-out-grown
+    grown-requires
+    mul-used
+    element-copy-out-used
+    add-used
+    closing-slot-requires
+    mul-self
+    element-write-self
+    mul-self-2
+    element-write-self-2
+    mul-self-3
+    element-write-self-3
+    returns-2)

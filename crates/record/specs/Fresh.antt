@@ -1,0 +1,56 @@
+-- The fresh record of a checked table and order is sound: every row is open, and needs a slot at least.
+use Prim.Native.Nat.{ℕ, zero, suc, _-_, _≤_}
+use mathlib.Core.Bool.{true, false}
+use mathlib.Core.List.{List}
+use mathlib.Core.Path.{_≡_, refl}
+use native.Mathlib.Omega.{arith}
+use lib.Dec.{eqb}
+use lib.ListN.{getD, replicate}
+use borrow.Author.Tests.{ne-eqb, lt-leb}
+use Rattle.rules.specs.declared.Table.{Table}
+use Rattle.rules.specs.declared.Check.the-variants.{Passed}
+use Rattle.rules.specs.Need.{need}
+use Rattle.rules.specs.Rows.{at, workOf}
+use Rattle.rules.specs.Orders.{checkBoth}
+use Rattle.rules.specs.Slots.{fresh}
+use Rattle.record.specs.Records.{tailSound, isSound, freshRun}
+use Rattle.theory.specs.Caps.{need-above}
+use Rattle.theory.specs.Tests.{by-bool}
+use Rattle.record.specs.AllRows.{zeros-of}
+use Rattle.record.specs.Figures.{over, sound-test}
+use Rattle.record.specs.Checked.{limits, works}
+use Rattle.record.specs.Sound.{soundRow, is-sound}
+use Rattle.record.specs.Kept.{Sized}
+
+zero-at : (m i : ℕ) → _≡_ {A = ℕ} (getD (replicate m 0) i 0) 0
+zero-at zero i = refl
+zero-at (suc m) zero = refl
+zero-at (suc m) (suc i) = zero-at m i
+
+not-over : (c level s : ℕ) → 1 ≤ c → 1 ≤ s → over c level s 0 0 ≡ false
+unfolding over
+not-over c level s h l =
+    rw (ne-eqb 0 c (λ q. omega arith), lt-leb (need c s) 0 (need-above 0 c s l (omega arith))) (by-bool (eqb level 0) (λ e. rw e) (λ e. rw e))
+
+module _ (t : Table) (o : List ℕ) (e : checkBoth t o ≡ Passed) where
+  row-fresh : (i : ℕ) → 1 ≤ i → i ≤ t .n → soundRow (freshRun t o) i ≡ true
+  unfolding fresh
+  row-fresh i l h =
+      rw (zero-at 64 (i - 1))
+      (sound-test (workOf t i) (at (t .level) i) (t .normal) 0 0 0 0
+      (record {
+        most = omega arith;
+        used-by = omega arith;
+        closed-by = omega arith;
+        open-or-over = rw (not-over (workOf t i) (at (t .level) i) (t .normal) (works t o e i l h) (limits t o e .runs));
+      }))
+
+  pub fresh-sound : isSound (freshRun t o) ≡ true
+  unfolding fresh tailSound
+  fresh-sound =
+      is-sound (freshRun t o)
+      (record { checked = e; clock = omega arith; rows = row-fresh; tail = rw (zeros-of 64 (t .n)) })
+
+pub fresh-sized : (t : Table) (o : List ℕ) → Sized (freshRun t o)
+unfolding fresh
+fresh-sized t o = record { got = refl; used = refl; closing = refl }

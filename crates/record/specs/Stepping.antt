@@ -1,0 +1,44 @@
+-- The next record, apart: idle, or with the chosen row served.
+use Prim.Native.Nat.{ℕ, _+_, min}
+use mathlib.Core.Bool.{cond}
+use mathlib.Core.Path.{_≡_, sym}
+use borrow.Author.Tests.{ne-eqb}
+use Rattle.rules.specs.Rows.{at, put, workOf}
+use Rattle.rules.specs.Slots.{isOver, serve, slot}
+use Rattle.record.specs.declared.Run.{Run}
+use Rattle.record.specs.Records.{chosenRow, nextRun}
+use Rattle.record.specs.Figures.{over}
+
+-- row i's work units got after a slot of supply v
+abbrev pub gotNext : Run → ℕ → ℕ → ℕ
+gotNext r v i = min (workOf (r .table) i) (at (r .got) i + v)
+
+-- its closing slot after that slot
+abbrev pub closingNext : Run → ℕ → ℕ → ℕ
+closingNext r v i =
+    cond (over (workOf (r .table) i) (at (r .table .level) i) (r .table .normal) (gotNext r v i) (at (r .used) i + 1)) (r .clock + 1) 0
+
+-- the record after an idle slot
+abbrev pub rested : Run → Run
+rested r = record { table = r .table; order = r .order; clock = r .clock + 1; got = r .got; used = r .used; closing = r .closing }
+
+-- the record after a slot in which row i runs with supply v
+abbrev pub served : Run → ℕ → ℕ → Run
+served r v i =
+    record {
+      table = r .table;
+      order = r .order;
+      clock = r .clock + 1;
+      got = put (r .got) i (gotNext r v i);
+      used = put (r .used) i (at (r .used) i + 1);
+      closing = put (r .closing) i (closingNext r v i);
+    }
+
+module _ (r : Run) (v i : ℕ) (e : i ≡ chosenRow r) where
+  pub next-idle : i ≡ 0 → nextRun r v ≡ rested r
+  unfolding nextRun slot chosenRow
+  next-idle z = rw (sym e, z)
+
+  pub next-served : (i ≡ 0 → ⊥) → nextRun r v ≡ served r v i
+  unfolding nextRun slot chosenRow serve isOver over
+  next-served z = rw (sym e, ne-eqb i 0 z)
