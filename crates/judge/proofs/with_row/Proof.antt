@@ -1,0 +1,62 @@
+-- A row's figures go to the columns' next entries while there is room, and none go anywhere after that.
+use native.Mathlib.Omega.{arith}
+use borrow.Author.Needs.{needs}
+use borrow.Author.Tests.{le-ltb, lt-ltb}
+use Rattle.judge.specs.Gather.{withRow}
+use Rattle.judge.proofs.with_row.Statement.{statement}
+use Rattle.judge.proofs.with_row.Tie as tie
+
+cast-i : tie.Need-cast-i
+cast-i c = search needs
+
+mul-release : tie.Need-mul-release
+mul-release c = search needs
+
+array-write-release : tie.Need-array-write-release
+array-write-release c = search needs
+
+mul-work : tie.Need-mul-work
+mul-work c = search needs
+
+array-write-work : tie.Need-array-write-work
+array-write-work c = search needs
+
+mul-deadline : tie.Need-mul-deadline
+mul-deadline c = search needs
+
+array-write-deadline : tie.Need-array-write-deadline
+array-write-deadline c = search needs
+
+mul-level : tie.Need-mul-level
+mul-level c = search needs
+
+array-write-level : tie.Need-array-write-level
+array-write-level c = search needs
+
+add-t19 : tie.Need-add-t19
+add-t19 c = search needs
+
+returns : tie.Need-returns
+unfolding withRow
+returns c = rw (lt-ltb (c .before .before .before .before .before .args .t .n) 64 (omega arith))
+
+returns-2 : tie.Need-returns-2
+unfolding withRow
+returns-2 c = rw (le-ltb (c .before .before .before .before .before .args .t .n) 64 (omega arith))
+
+pub with-row-spec : {M : Type 1} → statement M
+with-row-spec =
+    tie.close
+    (tie.spec
+    cast-i
+    mul-release
+    array-write-release
+    mul-work
+    array-write-work
+    mul-deadline
+    array-write-deadline
+    mul-level
+    array-write-level
+    add-t19
+    returns
+    returns-2)
