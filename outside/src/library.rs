@@ -45,8 +45,7 @@ pub fn judge(table: &Table, order: &Order) -> Verdict {
     let lent = Lent::new(table, order);
     let (mut yes, mut row, mut slack) = (RUBBISH, RUBBISH, RUBBISH as i32);
     // SAFETY: as in `read`.
-    let number =
-        unsafe { raw::jb_judge(&lent.table, &lent.order, &mut yes, &mut row, &mut slack) };
+    let number = unsafe { raw::jb_judge(&lent.table, &lent.order, &mut yes, &mut row, &mut slack) };
     lent.assert_unwritten(table, order);
     assert!(yes <= 1, "yes is {yes}");
     Verdict {

@@ -44,7 +44,7 @@ impl Load<'_> {
             };
         }
         let rows = &mut load.by_release[..table.n as usize];
-        rows.sort_by_key(|&index| table.release[index as usize]);
+        rows.sort_unstable_by_key(|&index| table.release[index as usize]);
         load
     }
 
@@ -81,7 +81,7 @@ impl Load<'_> {
     /// falling deadline, equal deadlines by lower row first.
     fn trial_sequence(&self) -> Vec<u8> {
         let mut sequence: Vec<u8> = (0..self.table.n as u8).collect();
-        sequence.sort_by_key(|&index| {
+        sequence.sort_unstable_by_key(|&index| {
             let index = index as usize;
             let falling = u32::MAX - self.table.deadline[index];
             (self.table.level[index], falling, index)
@@ -178,8 +178,8 @@ pub fn judge(table: &Table, order: &Order) -> Verdict {
     if number != 0 {
         return verdict;
     }
-    for index in 0..table.n as usize {
-        let slack = i64::from(table.deadline[index]) - i64::from(finishes[index]);
+    for (index, &finish) in finishes.iter().enumerate().take(table.n as usize) {
+        let slack = i64::from(table.deadline[index]) - i64::from(finish);
         if verdict.row == 0 || slack < verdict.slack {
             verdict.row = index as u8 + 1;
             verdict.slack = slack;

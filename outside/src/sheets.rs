@@ -54,8 +54,8 @@ pub fn tight(random: &mut Random, n: u32, ranges: Ranges) -> Table {
     let (number, finishes) = plain::finishes(&table, &order);
     assert_eq!(number, 0, "a table in these ranges is accepted");
     let spare = random.between(0, 3);
-    for index in 0..n as usize {
-        table.deadline[index] = finishes[index] + random.between(0, spare);
+    for (deadline, finish) in table.deadline.iter_mut().zip(finishes).take(n as usize) {
+        *deadline = finish + random.between(0, spare);
     }
     if random.once_in(2) {
         let index = random.between(0, n - 1) as usize;

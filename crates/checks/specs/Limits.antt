@@ -1,23 +1,12 @@
 -- A row's limits over its figures, as code reads them from the columns.
-use Prim.Native.Nat.{ℕ, _+_, _-_, _≤_, _<_}
-use mathlib.Core.Bool.{Bool, true, false, cond, _&&_}
-use mathlib.Core.List.{List}
-use mathlib.Core.Path.{_≡_, refl}
+use Prim.Native.Nat.{ℕ, _+_, _-_}
+use mathlib.Core.Bool.{Bool, _&&_}
+use mathlib.Core.Path.{_≡_}
 use native.Mathlib.Omega.{arith}
 use lib.Dec.{ltb, leb}
 use lib.ListN.{getD}
-use borrow.Author.Tests.{leb-true, ltb-true}
 use Rattle.rules.specs.declared.Table.{Table}
-use Rattle.rules.specs.declared.Refusal.{Refusal}
-use Rattle.rules.specs.declared.Refusal.the-variants.{RowCount, Speeds, RowLimits, NotAnOrder}
-use Rattle.rules.specs.declared.Check.{Check}
-use Rattle.rules.specs.declared.Check.the-variants.{Passed, Refused}
-use Rattle.rules.specs.Lists.{all}
-use Rattle.rules.specs.Orders.{isOrder, checkOrder, andThen, checkBoth}
-use Rattle.rules.specs.Rows.{at, rowsOf, releaseOf, workOf, deadlineOf}
-use Rattle.rules.specs.Tables.{countOk, speedsOk, rowOk, tailOk, checkTable, Accepted}
-use Rattle.checks.specs.RowLists.{all-rows-each}
-use Rattle.theory.specs.Tests.{and-left, and-right}
+use Rattle.rules.specs.Tables.{rowOk}
 
 -- a row's limits over its figures: release a and deadline d in slots, work c in work units, level
 abbrev pub limitsOk : ℕ → ℕ → ℕ → ℕ → Bool

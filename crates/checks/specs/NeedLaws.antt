@@ -1,7 +1,7 @@
 -- Laws of `need`, over any speed: the slots that work units take, rounded up.
-use Prim.Native.Nat.{ℕ, suc, _+_, _-_, _*_, _/_, _%_, _≤_, _<_}
+use Prim.Native.Nat.{ℕ, _+_, _-_, _*_, _/_, _%_, _≤_, _<_}
 use mathlib.Core.Path.{_≡_, ap, _∙_}
-use native.Mathlib.Nat.{le-div-iff-mul-le, div-lt-iff-lt-mul, div-add-mod', mul-add-div-right, mod-lt, div-zero, mul-le-mul-left}
+use native.Mathlib.Nat.{le-div-iff-mul-le, div-lt-iff-lt-mul, div-add-mod', mul-add-div-right, mod-lt, div-zero}
 use native.Mathlib.Omega.{arith}
 use Rattle.rules.specs.Need.{need}
 

@@ -1,4 +1,3 @@
-pub mod Swept
 pub mod Checked
 pub mod Down
 pub mod Stored

@@ -9,22 +9,21 @@ use lib.Dec.{leb}
 use lib.ListN.{length, getD, take, drop, set, replicate}
 use lib.Seq.{ext-getD, getD-set-same, getD-set-other, getD-take, split-at, take-suc, take-take, length-take-le}
 use Rattle.rules.specs.declared.Table.{Table}
-use Rattle.rules.specs.Lists.{count, keep}
-use Rattle.rules.specs.Rows.{at, rowsOf, releaseOf}
+use Rattle.rules.specs.Lists.{count}
+use Rattle.rules.specs.Rows.{at, rowsOf}
 use Rattle.rules.specs.Worst.{worstFinish}
 use Rattle.rules.specs.Choice.{padded}
 use Rattle.theory.specs.Tests.{gate, by-eqb, by-ltb}
 use Rattle.theory.specs.Counts.{Within, count-append, count-same, count-other, in-last}
-use Rattle.theory.specs.Sorting.{sorted-sort, same-sort}
-use Rattle.theory.specs.Facts.{Row, rows-in, facts, count-zero, count-rows, count-no-row}
+use Rattle.theory.specs.Facts.{Row, rows-in, facts, count-rows, count-no-row}
 use Rattle.theory.specs.Places.{order-rows, rows-once}
 use Rattle.theory.specs.Results.{worst-sweep}
-use Rattle.worst.specs.Masks.{bit, isLeft}
-use Rattle.worst.specs.Holds.{Holds, holds-with-last, keep-left}
+use Rattle.worst.specs.Masks.{bit}
+use Rattle.worst.specs.Holds.{Holds, holds-with-last}
 use Rattle.worst.specs.Padded.{padded-at, padded-length, rows-length}
-use Rattle.judge.specs.Checked.{Checked, zero-entry}
-use Rattle.judge.specs.Down.{queueOf, sweptDown, padded-past}
-use Rattle.judge.specs.Swept.{keep-sorted}
+use Rattle.judge.specs.Checked.{Checked}
+use Rattle.worst.specs.Finds.{zero-entry, queued, queued-sorted, queued-same}
+use Rattle.judge.specs.Down.{sweptDown, padded-past}
 
 -- the rows of the first k places have their worst finish in the column, in slots, and the others 0
 abbrev pub Stored : Table → List ℕ → ℕ → List ℕ → Type 0
@@ -80,9 +79,7 @@ module _ (t : Table) (o : List ℕ) (c : Checked t o) (long : length o ≡ 64) w
     place-finish m p =
         let a = take k o in
         let q : Holds m (a ++ (row ∷ [])) = rw down-to at p in
-        let same = same-sort (releaseOf t) (rowsOf t) in
-        let kept = keep-left m (a ++ (row ∷ [])) (queueOf t) q (λ x. omega (arith, same x, rows-once (t .n) x)) (omega (arith, same 0, count-zero (t .n))) (λ x. omega (arith, same x, within x)) in
-        sym (worst-sweep t (c .accepted) a (drop (suc k) o) row within (keep (isLeft m) (queueOf t)) (keep-sorted (releaseOf t) (isLeft m) 0 (queueOf t) (sorted-sort (releaseOf t) (rowsOf t))) kept)
+        sym (worst-sweep t (c .accepted) a (drop (suc k) o) row within (queued t m) (queued-sorted t m) (queued-same t m (a ++ (row ∷ [])) q within))
         ∙ ap (λ (l : List ℕ). worstFinish t l row) (sym (split-at o k 0 (omega (arith, few))))
 
     -- and it is stored

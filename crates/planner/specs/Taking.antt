@@ -1,14 +1,14 @@
 -- The search for the row that takes a place, as a loop over the trial sequence goes.
 use Prim.Native.Nat.{ℕ, _+_, _≤_, _<_}
 use mathlib.Core.Bool.{Bool, true, false}
-use mathlib.Core.Path.{_≡_, sym, _∙_}
+use mathlib.Core.Path.{_≡_, sym, _∙_, refl}
 use mathlib.Core.List.{_∷_}
 use native.Mathlib.Omega.{arith}
 use lib.ListN.{length, getD, take, drop-of-length-le}
 use lib.Seq.{length-take-le}
 use Rattle.rules.specs.declared.Table.{Table}
 use Rattle.rules.specs.Lists.{first, keep}
-use Rattle.rules.specs.Choice.{sequence, passes, taker}
+use Rattle.rules.specs.Choice.{sequence, passes, taker, padded}
 use Rattle.theory.specs.Counts.{In}
 use Rattle.theory.specs.Facts.{TableFacts, facts}
 use Rattle.theory.specs.Choosing.{same-sequence}
@@ -17,7 +17,8 @@ use Rattle.worst.specs.Holds.{holds-left}
 use Rattle.worst.specs.Padded.{Rows, rest, rest-step, rows-within}
 use Rattle.worst.specs.Trials.{Columns}
 use Rattle.planner.specs.declared.Trials.{Trials}
-use Rattle.planner.specs.Prepared.{trialsOf, every-take, every-rows, columns}
+use Rattle.planner.specs.Prepared.{capsAt, trialsOf, every-take, every-rows}
+use Rattle.worst.specs.Finds.{byRelease, columns}
 use Rattle.planner.specs.Trying.{leftOf, trialPasses, Trial, trial-passes}
 
 -- the trial of a row over the table's columns and what its trials share
@@ -38,11 +39,13 @@ module _ (t : Table) (w : Trials) (left : ℕ) (s : Trial t w left) where
 
   pub normal-columns : Columns (w .queue) (t .n) (t .release) (w .normal)
   unfolding trialsOf
-  normal-columns = rw (s .prepared) (columns t (s .accepted) (t .normal) (f .runs))
+  normal-columns =
+      rw (s .prepared) (columns t (s .accepted) (t .normal) (padded (byRelease t)) (capsAt t (t .normal)) (f .runs) refl refl)
 
   pub degraded-columns : Columns (w .queue) (t .n) (t .release) (w .degraded)
   unfolding trialsOf
-  degraded-columns = rw (s .prepared) (columns t (s .accepted) (t .degraded) (f .crawls))
+  degraded-columns =
+      rw (s .prepared) (columns t (s .accepted) (t .degraded) (padded (byRelease t)) (capsAt t (t .degraded)) (f .crawls) refl refl)
 
   pub search-start : searched t w left 0 ≡ taker t (leftOf t left)
   unfolding taker trialsOf

@@ -1,8 +1,8 @@
 -- One trial: the sweep over the rows left decides whether a row passes, and the first that does takes the place.
-use Prim.Native.Nat.{ℕ, _+_, max}
+use Prim.Native.Nat.{ℕ}
 use mathlib.Core.Bool.{Bool, cond}
-use mathlib.Core.Path.{_≡_, refl, sym, ap, _∙_}
-use mathlib.Core.List.{List, [], _∷_}
+use mathlib.Core.Path.{_≡_, sym, ap, _∙_}
+use mathlib.Core.List.{List, []}
 use native.Mathlib.Omega.{arith}
 use lib.Dec.{eqb, leb}
 use lib.ListN.{take}
@@ -13,21 +13,20 @@ use Rattle.rules.specs.Tables.{Accepted}
 use Rattle.rules.specs.Worst.{worstSpeed, meets}
 use Rattle.rules.specs.Choice.{sequence, passes, padded}
 use Rattle.theory.specs.Tests.{by-bool}
-use Rattle.theory.specs.Counts.{In, Within, Same, in-head, in-tail, erase-last}
-use Rattle.theory.specs.Sorting.{sorted-sort, same-sort}
+use Rattle.theory.specs.Counts.{In, Within, Same, erase-last}
+use Rattle.theory.specs.Sorting.{same-sort}
 use Rattle.theory.specs.Sweep.{sweep}
 use Rattle.theory.specs.Caps.{cap}
-use Rattle.theory.specs.Facts.{rows-in, TableFacts, facts, count-zero}
-use Rattle.theory.specs.Places.{rows-once}
+use Rattle.theory.specs.Facts.{rows-in, TableFacts, facts}
 use Rattle.theory.specs.Choosing.{same-sequence}
 use Rattle.theory.specs.Results.{worst-sweep}
 use Rattle.worst.specs.Masks.{isLeft}
-use Rattle.worst.specs.Holds.{Holds, count-keep-le, keep-left}
+use Rattle.worst.specs.Holds.{Holds, count-keep-le}
 use Rattle.worst.specs.Padded.{padded-at}
 use Rattle.worst.specs.Trials.{trial}
+use Rattle.worst.specs.Finds.{byRelease, queued, queued-sorted, queued-same, sweep-same}
 use Rattle.planner.specs.declared.Trials.{Trials}
-use Rattle.planner.specs.Sequence.{keep-sorted}
-use Rattle.planner.specs.Prepared.{queueOf, capsAt, trialsOf, every-take}
+use Rattle.planner.specs.Prepared.{capsAt, trialsOf, every-take}
 
 -- the rows of a word, in their trial sequence
 abbrev pub leftOf : Table → ℕ → List ℕ
@@ -51,11 +50,6 @@ pub record Trial (t : Table) (w : Trials) (left : ℕ) : Type 0 where
   pub prepared : w ≡ trialsOf t
   pub holds : Holds left (leftOf t left)
 
-sweep-eq : (rel f g : ℕ → ℕ) (a b : ℕ) (l : List ℕ) → ((x : ℕ) → In x l → f x ≡ g x) → sweep rel f a b l ≡ sweep rel g a b l
-sweep-eq rel f g a b [] h = refl
-sweep-eq rel f g a b (x ∷ l) h =
-    rw (h x (in-head x l), sweep-eq rel f g a (max b (rel x) + g x) l (λ y i. h y (in-tail y x l i)))
-
 module _ (t : Table) (accepted : Accepted t) (m : ℕ) (holds : Holds m (leftOf t m)) where
   f : TableFacts t
   f = facts t accepted
@@ -65,15 +59,10 @@ module _ (t : Table) (accepted : Accepted t) (m : ℕ) (holds : Holds m (leftOf 
 
   -- the rows left, by rising release
   abbrev swept : List ℕ
-  swept = keep (isLeft m) (queueOf t)
+  swept = queued t m
 
   swept-same : Same swept (leftOf t m)
-  swept-same =
-      let s = same-sort (releaseOf t) (rowsOf t) in
-      keep-left m (leftOf t m) (queueOf t) holds
-      (λ x. omega (arith, s x, rows-once (t .n) x))
-      (omega (arith, s 0, count-zero (t .n)))
-      (λ x. omega (arith, s x, left-within x))
+  swept-same = queued-same t m (leftOf t m) holds left-within
 
   -- the sweep at the caps of a left row's own worst speed says whether it passes
   swept-passes : (i : ℕ) → In i (leftOf t m) → leb (sweep (releaseOf t) (λ j. at (capsAt t (worstSpeed t i)) j) (releaseOf t i) 0 swept) (deadlineOf t i) ≡ passes t (leftOf t m) i
@@ -85,16 +74,16 @@ module _ (t : Table) (accepted : Accepted t) (m : ℕ) (holds : Holds m (leftOf 
       let r = rows-in t x (omega (arith, swept-same x, left-within x)) in
       padded-at (cap t s) (t .n) x (r .from) (r .upTo) (f .few) in
       ap (λ (n : ℕ). leb n (deadlineOf t i))
-      (sweep-eq (releaseOf t) (λ j. at (capsAt t s) j) (cap t s) (releaseOf t i) 0 swept caps
+      (sweep-same (releaseOf t) (λ j. at (capsAt t s) j) (cap t s) (releaseOf t i) 0 swept caps
       ∙ sym (worst-sweep t accepted (erase i (leftOf t m)) [] i (λ x. omega (arith, last x, left-within x)) swept
-      (keep-sorted (releaseOf t) (isLeft m) 0 0 (queueOf t) (omega arith) (sorted-sort (releaseOf t) (rowsOf t)))
+      (queued-sorted t m)
       (λ x. omega (arith, last x, swept-same x))))
 
   pub trial-passes : (i : ℕ) → In i (leftOf t m)
-      → trialPasses (padded (queueOf t)) (t .n) (t .release) (t .deadline) (t .level) (capsAt t (t .normal)) (capsAt t (t .degraded)) m i ≡ passes t (leftOf t m) i
+      → trialPasses (padded (byRelease t)) (t .n) (t .release) (t .deadline) (t .level) (capsAt t (t .normal)) (capsAt t (t .degraded)) m i ≡ passes t (leftOf t m) i
   unfolding trialPasses
   trial-passes i k =
-      rw (every-take t f (queueOf t) (same-sort (releaseOf t) (rowsOf t)))
+      rw (every-take t f (byRelease t) (same-sort (releaseOf t) (rowsOf t)))
       (by-bool (isLow t i)
       (λ e. rw e (rw e at (swept-passes i k)))
       (λ e. rw e (rw e at (swept-passes i k))))

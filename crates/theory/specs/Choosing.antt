@@ -9,7 +9,7 @@ use lib.ListN.{length, take, drop, replicate, take-append-drop}
 use lib.Seq.{take-append-add, drop-at}
 use borrow.Author.Tests.{eq-eqb, leb-true, le-leb}
 use Rattle.rules.specs.declared.Table.{Table}
-use Rattle.rules.specs.Lists.{all, allZero, first, count, keep, erase, sum}
+use Rattle.rules.specs.Lists.{all, allZero, first, count, keep, erase}
 use Rattle.rules.specs.Rows.{rowsOf, deadlineOf, isLow}
 use Rattle.rules.specs.Orders.{isOrder}
 use Rattle.rules.specs.Correct.{Correct}

@@ -9,18 +9,17 @@ use lib.ListN.{getD, take, drop}
 use lib.Seq.{getD-drop}
 use borrow.Author.Tests.{eqb-true}
 use Rattle.rules.specs.declared.Table.{Table}
-use Rattle.rules.specs.declared.Refusal.{Refusal}
-use Rattle.rules.specs.declared.Check.the-variants.{Passed, Refused}
-use Rattle.rules.specs.Lists.{all, allZero, count, keep}
+use Rattle.rules.specs.Lists.{allZero, keep}
 use Rattle.rules.specs.Rows.{at, rowsOf, releaseOf}
-use Rattle.rules.specs.Tables.{countOk, speedsOk, rowOk, tailOk, checkTable, Accepted}
+use Rattle.rules.specs.Tables.{tailOk, Accepted}
 use Rattle.rules.specs.Choice.{padded}
-use Rattle.theory.specs.Tests.{by-bool, by-ltb, by-leb, and-left, and-right}
+use Rattle.theory.specs.Tests.{by-bool, by-ltb, and-left, and-right}
 use Rattle.theory.specs.Counts.{In, Within, Same, in-head, in-tail}
 use Rattle.theory.specs.Sorting.{Sorted, sortBy, sorted-sort, same-sort}
 use Rattle.theory.specs.Sweep.{sweep}
 use Rattle.theory.specs.Caps.{cap, cap-most}
-use Rattle.theory.specs.Facts.{TableFacts, facts, count-zero, count-no-row, count-rows}
+use Rattle.theory.specs.Facts.{TableFacts, facts, count-zero, rows-in}
+use Rattle.theory.specs.Places.{rows-once}
 use Rattle.worst.specs.Masks.{isLeft}
 use Rattle.worst.specs.Holds.{Holds, keep-left, count-keep-le}
 use Rattle.worst.specs.Padded.{Rows, padded-at, padded-most}
@@ -59,47 +58,30 @@ queued-sorted t m = sorted-keep (releaseOf t) (isLeft m) 0 (byRelease t) (sorted
 -- they are the rows of any list of the table's rows that the word holds
 pub queued-same : (t : Table) (m : ℕ) (l : List ℕ) → Holds m l → Within l (rowsOf t) → Same (queued t m) l
 queued-same t m l p w =
-    keep-left m l (byRelease t) p (λ x. omega (arith, same-sort (releaseOf t) (rowsOf t) x, once x))
+    keep-left m l (byRelease t) p (λ x. omega (arith, same-sort (releaseOf t) (rowsOf t) x, rows-once (t .n) x))
     (omega (arith, same-sort (releaseOf t) (rowsOf t) 0, count-zero (t .n)))
     (λ x. omega (arith, w x, same-sort (releaseOf t) (rowsOf t) x))
-  where
-    once : (x : ℕ) → count x (rowsOf t) ≤ 1
-    once zero = omega (arith, count-zero (t .n))
-    once (suc x) =
-        by-leb (suc x) (t .n)
-        (λ _ h. omega (arith, count-rows (t .n) (suc x) (omega arith) h))
-        (λ _ h. omega (arith, count-no-row (t .n) (suc x) h))
 
 -- the columns of an accepted table
 
-zero-entry : (l : List ℕ) (j : ℕ) → allZero l ≡ true → getD l j 0 ≡ 0
+pub zero-entry : (l : List ℕ) (j : ℕ) → allZero l ≡ true → getD l j 0 ≡ 0
 zero-entry [] j e = refl
 zero-entry (x ∷ l) zero e = eqb-true x 0 (and-left (eqb x 0) (allZero l) e)
 zero-entry (x ∷ l) (suc j) e = zero-entry l j (and-right (eqb x 0) (allZero l) e)
-
-first-of : (a b c d : Bool) → a && b && c && d ≡ true → a ≡ true
-first-of a b c d e = and-left a b (and-left (a && b) c (and-left (a && b && c) d e))
-
-clash : (r : Refusal) → Refused r ≡ Passed → ⊥
-clash r e = let z : _≡_ {A = ℕ} 0 1 = cc in omega arith
-
-tail-ok : (t : Table) → Accepted t → tailOk t ≡ true
-unfolding checkTable
-tail-ok t h =
-    by-bool (countOk (t .n))
-    (λ e1. by-bool (speedsOk (t .normal) (t .degraded))
-    (λ e2. by-bool (all (rowOk t) (rowsOf t) && tailOk t)
-    (λ e3. and-right (all (rowOk t) (rowsOf t)) (tailOk t) e3)
-    (λ e3. absurd (clash _ (rw (e1, e2, e3) at h))))
-    (λ e2. absurd (clash _ (rw (e1, e2) at h))))
-    (λ e1. absurd (clash _ (rw e1 at h)))
 
 module _ (t : Table) (accepted : Accepted t) where
   abbrev f : TableFacts t
   f = facts t accepted
 
-  early : (j : ℕ) → getD (t .release) j 0 ≤ 1000000
+  releases : allZero (drop (t .n) (t .release)) ≡ true
   unfolding tailOk
+  releases =
+      let a = allZero (drop (t .n) (t .release)) in
+      let b = allZero (drop (t .n) (t .work)) in
+      let c = allZero (drop (t .n) (t .deadline)) in
+      and-left a b (and-left (a && b) c (and-left (a && b && c) (allZero (drop (t .n) (t .level))) (f .tail)))
+
+  early : (j : ℕ) → getD (t .release) j 0 ≤ 1000000
   early j =
       by-ltb j (t .n)
       (λ _ h. let r = f .row (suc j) (record { from = omega arith; upTo = h }) in
@@ -108,7 +90,7 @@ module _ (t : Table) (accepted : Accepted t) where
       rw e at q)
       (λ _ h. let e : t .n + (j - t .n) ≡ j = omega arith in
       let z : getD (t .release) (t .n + (j - t .n)) 0 ≡ 0 = sym (getD-drop (t .n) (t .release) (j - t .n) 0) ∙ zero-entry (drop (t .n) (t .release)) (j - t .n)
-      (first-of (allZero (drop (t .n) (t .release))) (allZero (drop (t .n) (t .work))) (allZero (drop (t .n) (t .deadline))) (allZero (drop (t .n) (t .level))) (tail-ok t accepted)) in
+      releases in
       omega (arith, rw e at z))
 
   -- what `finish` requires, with what `sorted` makes of the releases and `caps` of the table at s work units per slot
@@ -135,8 +117,4 @@ module _ (t : Table) (accepted : Accepted t) where
       known x i = omega (arith, count-keep-le (isLeft m) x (byRelease t), same-sort (releaseOf t) (rowsOf t) x)
 
       is : (x : ℕ) → In x (rowsOf t) → at (padded (map (cap t s) (rowsOf t))) x ≡ cap t s x
-      is zero i = absurd (omega (arith, count-zero (t .n)))
-      is (suc x) i =
-          by-leb (suc x) (t .n)
-          (λ _ h. padded-at (cap t s) (t .n) (suc x) (omega arith) h (f .few))
-          (λ _ h. absurd (omega (arith, count-no-row (t .n) (suc x) h)))
+      is x i = let r = rows-in t x i in padded-at (cap t s) (t .n) x (r .from) (r .upTo) (f .few)

@@ -10,7 +10,7 @@ use lib.Pow.{pow-pos}
 use lib.Count.{ones}
 use lib.ListN.{length}
 use borrow.Author.Tests.{eq-eqb}
-use Rattle.rules.specs.Lists.{rowsTo, count, keep, erase, sum}
+use Rattle.rules.specs.Lists.{rowsTo, count, keep, erase}
 use Rattle.rules.specs.Choice.{word}
 use Rattle.theory.specs.Tests.{by-bool, by-eqb, by-ltb}
 use Rattle.theory.specs.Counts.{In, Within, Same, Once, count-same, count-other, count-append, count-erase-same, count-erase-other, length-erase, sum-erase, sum-same, in-head, in-tail, same-size}

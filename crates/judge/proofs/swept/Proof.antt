@@ -2,7 +2,8 @@
 use borrow.Author.Needs.{needs}
 use mathlib.Core.Path.{sym, _∙_}
 use Rattle.theory.specs.Facts.{facts}
-use Rattle.judge.specs.Down.{columns, swept-is, low-speed, high-speed}
+use Rattle.worst.specs.Finds.{columns}
+use Rattle.judge.specs.Down.{swept-is, low-speed, high-speed}
 use Rattle.judge.proofs.swept.Statement.{statement}
 use Rattle.judge.proofs.swept.Tie as tie
 
@@ -17,14 +18,14 @@ finish-requires c κs =
     let s = c .before .before .before .before .before .before .before .before in
     let a = s .args in
     let p = s .pre .0 in
-    columns (a .t) (p .accepted) (a .t .normal) (facts (a .t) (p .accepted) .runs) (a .queue .now) (a .normal .now) (p .queued) (p .atNormal)
+    columns (a .t) (p .accepted) (a .t .normal) (a .queue .now) (a .normal .now) (facts (a .t) (p .accepted) .runs) (p .queued) (p .atNormal)
 
 finish-requires-2 : tie.Need-finish-requires-2
 finish-requires-2 c κs =
     let s = c .before .before .before .before .before .before .before .before in
     let a = s .args in
     let p = s .pre .0 in
-    columns (a .t) (p .accepted) (a .t .degraded) (facts (a .t) (p .accepted) .crawls) (a .queue .now) (a .degraded .now) (p .queued) (p .atDegraded)
+    columns (a .t) (p .accepted) (a .t .degraded) (a .queue .now) (a .degraded .now) (facts (a .t) (p .accepted) .crawls) (p .queued) (p .atDegraded)
 
 returns : tie.Need-returns
 returns c =
@@ -33,7 +34,7 @@ returns c =
     let s = from .before .before .before .before in
     let a = s .args in
     let p = s .pre .0 in
-    swept-is (a .t) (p .accepted) (a .t .normal) (facts (a .t) (p .accepted) .runs) (a .queue .now) (a .normal .now) (p .queued) (p .atNormal)
+    swept-is (a .t) (p .accepted) (a .t .normal) (a .queue .now) (a .normal .now) (p .queued) (p .atNormal)
     (a .down) (a .row) (from .entry .result) (c .finish .result)
     (low-speed (a .t) (a .row) (sym (e .entry2 .ensures) ∙ c .before .before .if1 .taken)) (from .entry .ensures) (c .finish .ensures)
 
@@ -44,7 +45,7 @@ returns-2 c =
     let s = from .before .before .before .before in
     let a = s .args in
     let p = s .pre .0 in
-    swept-is (a .t) (p .accepted) (a .t .degraded) (facts (a .t) (p .accepted) .crawls) (a .queue .now) (a .degraded .now) (p .queued) (p .atDegraded)
+    swept-is (a .t) (p .accepted) (a .t .degraded) (a .queue .now) (a .degraded .now) (p .queued) (p .atDegraded)
     (a .down) (a .row) (from .entry .result) (c .finish2 .result)
     (high-speed (a .t) (a .row) (λ w. c .before .before .if1 .left (e .entry2 .ensures ∙ w))) (from .entry .ensures) (c .finish2 .ensures)
 

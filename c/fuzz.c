@@ -1,0 +1,494 @@
+/*
+ * Calls every function of the library with arbitrary sheets, tables, orders and
+ * run records, and looks at the memory around and behind every call.
+ *
+ *     fuzz [ROUNDS [SEED]]
+ *
+ * Every buffer lies between two pages that cannot be touched, against the upper
+ * or the lower one in turn, so that reading or writing past that end stops the
+ * program at once. The bytes on its other side hold a pattern that is checked
+ * after every call. Lent memory is compared with a copy, results are checked for
+ * what the header promises with each number. Exit status 0 if all held, 1 if
+ * not. POSIX; to be built with -fsanitize=address,undefined as well.
+ */
+#define _DEFAULT_SOURCE
+#include "jasminebrace.h"
+
+#include <inttypes.h>
+#include <stdbool.h>
+#include <stdio.h>
+#include <stdlib.h>
+#include <string.h>
+#include <sys/mman.h>
+#include <unistd.h>
+
+enum {
+    DEFAULT_ROUNDS = 100000, /* of twelve calls or so each */
+    NUMBERS = 10,
+    GUARD = 0xC5,      /* the pattern around a buffer */
+    GUARD_SIZE = 256,  /* bytes of it that are checked */
+    MOST_SUPPLIES = 40,
+    LONGEST_INPUT = 2300
+};
+
+/* ---- random numbers with a fixed seed ---- */
+
+static uint64_t seed = 1;
+
+static uint64_t random_word(void) {
+    seed += UINT64_C(0x9E3779B97F4A7C15);
+    uint64_t z = seed;
+    z = (z ^ (z >> 30)) * UINT64_C(0xBF58476D1CE4E5B9);
+    z = (z ^ (z >> 27)) * UINT64_C(0x94D049BB133111EB);
+    return z ^ (z >> 31);
+}
+
+/* A number from least to most, both included. */
+static uint32_t between(uint32_t least, uint32_t most) {
+    return least + (uint32_t)(random_word() % ((uint64_t)most - least + 1));
+}
+
+static bool once_in(uint32_t times) {
+    return between(1, times) == 1;
+}
+
+/* ---- what is checked ---- */
+
+static void expect(bool holds, const char *what) {
+    if (!holds) {
+        printf("failed: %s\n", what);
+        exit(1);
+    }
+}
+
+static bool all_zero(const void *memory, size_t size) {
+    static const unsigned char zeros[sizeof(jb_run)];
+    return size == 0 || memcmp(memory, zeros, size) == 0;
+}
+
+/* ---- buffers between untouchable pages ---- */
+
+typedef struct {
+    unsigned char *room; /* the memory between the two pages */
+    size_t room_size;
+    unsigned char *start; /* the buffer, against one of the pages */
+    size_t size;
+    unsigned char *guard; /* the pattern on its other side */
+    unsigned char *copy;  /* what was lent */
+} buffer;
+
+static buffer new_buffer(size_t most) {
+    size_t page = (size_t)sysconf(_SC_PAGESIZE);
+    size_t room_size = (most + GUARD_SIZE + page - 1) / page * page;
+    int access = PROT_READ | PROT_WRITE;
+    unsigned char *all = (unsigned char *)mmap(NULL, room_size + 2 * page, access, MAP_PRIVATE | MAP_ANONYMOUS, -1, 0);
+    expect(all != MAP_FAILED, "memory for a buffer");
+    expect(mprotect(all, page, PROT_NONE) == 0, "a page below a buffer");
+    expect(mprotect(all + page + room_size, page, PROT_NONE) == 0, "a page above a buffer");
+    buffer made = {all + page, room_size, NULL, 0, NULL, (unsigned char *)malloc(most)};
+    expect(made.copy != NULL, "memory for a copy");
+    return made;
+}
+
+/* Gives the buffer this size against one of its pages, filled with the pattern. */
+static void *place(buffer *in, size_t size) {
+    bool low = once_in(2);
+    in->size = size;
+    in->start = low ? in->room : in->room + in->room_size - size;
+    in->guard = low ? in->start + size : in->start - GUARD_SIZE;
+    memset(in->start, GUARD, size);
+    memset(in->guard, GUARD, GUARD_SIZE);
+    return in->start;
+}
+
+/* Remembers what the buffer holds when it is lent. */
+static void lend(buffer *in) {
+    memcpy(in->copy, in->start, in->size);
+}
+
+static void expect_guards(const buffer *in) {
+    static unsigned char pattern[GUARD_SIZE];
+    memset(pattern, GUARD, sizeof pattern);
+    expect(memcmp(in->guard, pattern, GUARD_SIZE) == 0, "a byte beside a buffer was written");
+}
+
+static void expect_unwritten(const buffer *in) {
+    expect_guards(in);
+    expect(in->size == 0 || memcmp(in->copy, in->start, in->size) == 0, "lent memory was written");
+}
+
+/* ---- inputs ---- */
+
+static uint32_t any_figure(void) {
+    static const uint32_t edges[] = {0, 1, 2, 64, 65, 1000, 1001, 1000000, 1000001, 2000000, 2000001, UINT32_MAX};
+    return once_in(2) ? edges[between(0, sizeof edges / sizeof *edges - 1)] : (uint32_t)random_word();
+}
+
+static void fill_with_any(void *memory, size_t size) {
+    unsigned char *bytes = (unsigned char *)memory;
+    for (size_t index = 0; index < size; index++) {
+        bytes[index] = (unsigned char)random_word();
+    }
+}
+
+/* Most rows of a table: few in most cases, so that many cases are tried. */
+static uint32_t any_count(void) {
+    return once_in(16) ? between(1, JB_ROWS) : between(1, 6);
+}
+
+static void fill_accepted(jb_table *table) {
+    memset(table, 0, sizeof *table);
+    table->n = any_count();
+    table->normal = once_in(8) ? between(1, JB_MOST_SPEED) : between(1, 4);
+    table->degraded = between(1, table->normal);
+    uint32_t most_work = once_in(8) ? JB_MOST_WORK : 6;
+    uint32_t most_window = once_in(8) ? JB_LAST_DEADLINE - 20 : 4 * table->n;
+    for (uint32_t index = 0; index < table->n; index++) {
+        table->release[index] = between(0, 20);
+        table->work[index] = between(1, most_work);
+        table->deadline[index] = table->release[index] + between(1, most_window);
+        table->level[index] = between(0, 1);
+    }
+}
+
+/* An accepted table, one with a few changed figures, or any words. */
+static void fill_table(jb_table *table) {
+    if (once_in(12)) {
+        fill_with_any(table, sizeof *table);
+        return;
+    }
+    fill_accepted(table);
+    if (once_in(4)) {
+        unsigned char *bytes = (unsigned char *)table;
+        uint32_t figure = any_figure();
+        uint32_t word = once_in(2) ? between(0, 2) : between(0, JB_TABLE_WORDS - 1);
+        memcpy(bytes + 4 * word, &figure, sizeof figure);
+    }
+}
+
+static void fill_order(uint8_t *order, uint32_t n) {
+    memset(order, 0, JB_ROWS);
+    n = n <= JB_ROWS ? n : JB_ROWS;
+    for (uint32_t place = 0; place < n; place++) {
+        uint32_t other = between(0, place);
+        order[place] = order[other];
+        order[other] = (uint8_t)(place + 1);
+    }
+    if (once_in(8)) {
+        order[between(0, JB_ROWS - 1)] = (uint8_t)between(0, 66);
+    }
+    if (once_in(32)) {
+        fill_with_any(order, JB_ROWS);
+    }
+}
+
+static uint32_t any_clock(void) {
+    return once_in(4) ? between(JB_LAST_CLOCK - 10, JB_LAST_CLOCK + 1) : between(0, 60);
+}
+
+/* Most rows of the state are such that check 9 may pass. */
+static void fill_state(jb_run *run) {
+    memset((unsigned char *)run + offsetof(jb_run, clock), 0, sizeof *run - offsetof(jb_run, clock));
+    run->clock = any_clock();
+    uint32_t n = run->table.n <= JB_ROWS ? run->table.n : JB_ROWS;
+    for (uint32_t index = 0; index < n; index++) {
+        if (once_in(3) && run->clock > 0) {
+            run->got[index] = run->table.work[index];
+            run->closing[index] = between(1, run->clock);
+        } else {
+            run->got[index] = between(0, run->table.work[index]) / 2;
+        }
+    }
+    if (once_in(8)) {
+        fill_with_any((unsigned char *)run + offsetof(jb_run, clock), sizeof *run - offsetof(jb_run, clock));
+    } else if (once_in(4)) {
+        run->used[between(0, JB_ROWS - 1)] = any_figure();
+    }
+}
+
+static void write_field(uint8_t *field, uint32_t number) {
+    char text[16];
+    snprintf(text, sizeof text, "%8" PRIu32, number % 100000000);
+    memcpy(field, text, 8);
+}
+
+/* Writes the sheet of a table; gives its length in bytes. */
+static size_t write_sheet(uint8_t *sheet, const jb_table *table) {
+    const uint32_t first[] = {table->n, table->normal, table->degraded};
+    size_t length = 0;
+    for (size_t index = 0; index < 3; index++, length += 8) {
+        write_field(sheet + length, first[index]);
+    }
+    sheet[length++] = '\n';
+    for (uint32_t index = 0; index < table->n && index < JB_ROWS; index++) {
+        const uint32_t row[] = {table->release[index], table->work[index], table->deadline[index], table->level[index]};
+        for (size_t field = 0; field < 4; field++, length += 8) {
+            write_field(sheet + length, row[field]);
+        }
+        sheet[length++] = '\n';
+    }
+    return length;
+}
+
+/* A sheet, often damaged, or any bytes; gives its length. */
+static size_t fill_input(uint8_t *input) {
+    jb_table table;
+    if (once_in(8)) {
+        size_t length = once_in(2) ? between(0, 60) : between(0, LONGEST_INPUT);
+        fill_with_any(input, length);
+        return length;
+    }
+    fill_table(&table);
+    size_t length = write_sheet(input, &table);
+    if (once_in(3)) {
+        input[between(0, (uint32_t)length - 1)] = (uint8_t)"\n 0129x"[between(0, 6)];
+    }
+    if (once_in(8)) {
+        length = between(0, (uint32_t)length);
+    } else if (once_in(8)) {
+        size_t longer = length + between(1, LONGEST_INPUT - JB_LONGEST_SHEET);
+        memset(input + length, '1', longer - length);
+        length = longer;
+    }
+    return length;
+}
+
+/* ---- the calls ---- */
+
+static buffer input_at, table_at, order_at, run_at, supplies_at, text_at, left_at, word_at, row_at, slack_at, out_at, one_at;
+
+enum { READ, PLAN, JUDGE, FINISHES, FRESH, COMING, SLOT, FORWARD, PROGRAM, FUNCTIONS };
+static const char *const names[FUNCTIONS] = {"read", "plan", "judge", "finishes", "fresh", "coming", "slot", "forward", "program"};
+static uint64_t counts[FUNCTIONS][NUMBERS];
+
+/* Counts an answer and checks that its number is one of those allowed, given as digits. */
+static void count(int function, uint32_t number, const char *allowed) {
+    expect(number < NUMBERS && strchr(allowed, (int)('0' + number)) != NULL, names[function]);
+    counts[function][number]++;
+}
+
+static void try_read(void) {
+    static uint8_t input[LONGEST_INPUT];
+    size_t length = fill_input(input);
+    uint8_t *sheet = (uint8_t *)place(&input_at, length);
+    memcpy(sheet, input, length);
+    lend(&input_at);
+    jb_table *table = (jb_table *)place(&table_at, sizeof *table);
+    uint32_t number = jb_read_table(sheet, length, table);
+    count(READ, number, "012345");
+    expect_unwritten(&input_at);
+    expect_guards(&table_at);
+    expect(number == JB_OK || all_zero(table, sizeof *table), "a refused sheet leaves a table of zeros");
+
+    uint8_t *text = (uint8_t *)place(&text_at, JB_PROGRAM_TEXT);
+    uint32_t written = jb_program(sheet, length, text);
+    expect_unwritten(&input_at);
+    expect_guards(&text_at);
+    expect(written >= 17 && written <= JB_PROGRAM_TEXT && (written - 17) % 25 == 0, "the text's length");
+    expect(all_zero(text + written, JB_PROGRAM_TEXT - written), "zeros after the text");
+    uint32_t said = (uint32_t)(text[7] - '0');
+    count(PROGRAM, said, "0123457");
+    expect(number == JB_OK ? said == JB_OK || said == JB_NO_ORDER : said == number, "the program says what the reader says");
+}
+
+/* The table and the order that the other calls are lent. */
+static void fill_lent(void) {
+    jb_table *table = (jb_table *)place(&table_at, sizeof *table);
+    fill_table(table);
+    lend(&table_at);
+    uint8_t *order = (uint8_t *)place(&order_at, JB_ROWS);
+    fill_order(order, table->n);
+    lend(&order_at);
+}
+
+static void try_plan(void) {
+    const jb_table *table = (const jb_table *)table_at.start;
+    uint8_t *order = (uint8_t *)place(&out_at, JB_ROWS);
+    uint64_t *left = (uint64_t *)place(&left_at, sizeof *left);
+    uint32_t number = jb_plan_table(table, order, left);
+    count(PLAN, number, "03457");
+    expect_unwritten(&table_at);
+    expect_guards(&out_at);
+    expect_guards(&left_at);
+    expect(number == JB_OK || all_zero(order, JB_ROWS), "an order of zeros");
+    expect((number == JB_NO_ORDER) == (*left != 0), "rows are left with 7 alone");
+    if (number == JB_OK) {
+        uint32_t yes, row;
+        int32_t slack;
+        expect(jb_judge_order(table, order, &yes, &row, &slack) == JB_OK, "the judge takes the planner's order");
+        expect(yes == 1 && slack >= 0, "the judge says yes to the planner's order");
+    }
+}
+
+static void try_judge(void) {
+    const jb_table *table = (const jb_table *)table_at.start;
+    const uint8_t *order = order_at.start;
+    uint32_t *yes = (uint32_t *)place(&word_at, sizeof *yes);
+    uint32_t *row = (uint32_t *)place(&row_at, sizeof *row);
+    int32_t *slack = (int32_t *)place(&slack_at, sizeof *slack);
+    uint32_t number = jb_judge_order(table, order, yes, row, slack);
+    count(JUDGE, number, "03456");
+    expect_unwritten(&table_at);
+    expect_unwritten(&order_at);
+    expect_guards(&word_at);
+    expect_guards(&row_at);
+    expect_guards(&slack_at);
+    uint32_t *finishes = (uint32_t *)place(&out_at, JB_ROWS * sizeof *finishes);
+    uint32_t other = jb_worst_finishes(table, order, finishes);
+    count(FINISHES, other, "03456");
+    expect_unwritten(&table_at);
+    expect_unwritten(&order_at);
+    expect_guards(&out_at);
+    expect(other == number, "judge and finishes refuse alike");
+    if (number != JB_OK) {
+        expect(*yes == 0 && *row == 0 && *slack == 0, "a refused verdict is zero");
+        expect(all_zero(finishes, JB_ROWS * sizeof *finishes), "refused finishes are zero");
+        return;
+    }
+    expect(*yes == (*slack >= 0), "yes exactly if no slack is below zero");
+    expect(*row >= 1 && *row <= table->n, "the row of least slack is a row");
+    expect((int64_t)table->deadline[*row - 1] - finishes[*row - 1] == *slack, "slack is deadline less finish");
+    expect(all_zero(finishes + table->n, (JB_ROWS - table->n) * sizeof *finishes), "zeros after the last row");
+}
+
+static void try_fresh(void) {
+    const jb_table *table = (const jb_table *)table_at.start;
+    jb_run *run = (jb_run *)place(&run_at, sizeof *run);
+    uint32_t number = jb_fresh_run(table, order_at.start, run);
+    count(FRESH, number, "03456");
+    expect_unwritten(&table_at);
+    expect_unwritten(&order_at);
+    expect_guards(&run_at);
+    if (number != JB_OK) {
+        expect(all_zero(run, sizeof *run), "a refused record is zero");
+        return;
+    }
+    expect(memcmp(&run->table, table, sizeof *table) == 0, "the record has the table");
+    expect(memcmp(run->order, order_at.start, JB_ROWS) == 0, "the record has the order");
+    expect(all_zero((unsigned char *)run + offsetof(jb_run, clock), 4 * JB_STATE_WORDS), "a fresh state is zero");
+}
+
+/* A record with the table and order lent before and any state. */
+static jb_run *fill_run(void) {
+    jb_run *run = (jb_run *)place(&run_at, sizeof *run);
+    memcpy(&run->table, table_at.start, sizeof run->table);
+    memcpy(run->order, order_at.start, JB_ROWS);
+    fill_state(run);
+    lend(&run_at);
+    return run;
+}
+
+/* What a slot may have changed: nothing with a refusal, the state alone with 0. */
+static void expect_slot(const jb_run *run, uint32_t number, uint32_t row) {
+    const jb_run *before = (const jb_run *)run_at.copy;
+    if (number != JB_OK) {
+        expect(row == 0, "no row with a refusal");
+        expect_unwritten(&run_at);
+        return;
+    }
+    expect_guards(&run_at);
+    expect(memcmp(run, before, offsetof(jb_run, clock)) == 0, "table and order stay");
+    expect(run->clock == before->clock + 1, "the clock moves by one slot");
+    expect(row <= run->table.n, "the row run is a row or 0");
+}
+
+static void try_slot(void) {
+    jb_run *run = fill_run();
+    uint32_t *coming = (uint32_t *)place(&word_at, sizeof *coming);
+    uint32_t expected = jb_coming_row(run, coming);
+    count(COMING, expected, "089");
+    expect_unwritten(&run_at);
+    expect_guards(&word_at);
+    uint32_t supply = any_figure();
+    uint32_t *row = (uint32_t *)place(&row_at, sizeof *row);
+    uint32_t number = jb_work_slot(run, supply, row);
+    count(SLOT, number, "089");
+    expect_guards(&row_at);
+    expect(number == expected && *row == *coming, "the slot answers as the coming slot did");
+    expect_slot(run, number, *row);
+
+    jb_run *again = (jb_run *)place(&one_at, sizeof *again);
+    memcpy(again, run_at.copy, sizeof *again);
+    uint32_t *supplies = (uint32_t *)place(&supplies_at, sizeof *supplies);
+    *supplies = supply;
+    lend(&supplies_at);
+    uint32_t worked;
+    expect(jb_work_forward(again, supplies, 1, &worked) == number, "forward over one supply is one slot");
+    expect(worked == (number == JB_OK), "one slot is worked, or none");
+    expect(memcmp(again, run, sizeof *run) == 0, "forward over one supply leaves the same record");
+    expect_unwritten(&supplies_at);
+    expect_guards(&one_at);
+}
+
+static void try_forward(void) {
+    jb_run *run = fill_run();
+    uint32_t length = between(0, MOST_SUPPLIES);
+    uint32_t *supplies = (uint32_t *)place(&supplies_at, length * sizeof *supplies);
+    for (uint32_t index = 0; index < length; index++) {
+        supplies[index] = once_in(4) ? any_figure() : between(0, 5);
+    }
+    lend(&supplies_at);
+    uint32_t row;
+    bool unsound = jb_coming_row(run, &row) == JB_UNSOUND;
+    uint32_t *worked = (uint32_t *)place(&word_at, sizeof *worked);
+    uint32_t number = jb_work_forward(run, supplies, length, worked);
+    count(FORWARD, number, "089");
+    expect((number == JB_UNSOUND) == unsound, "forward and the coming slot find the same records unsound");
+    expect_unwritten(&supplies_at);
+    expect_guards(&word_at);
+    expect_guards(&run_at);
+    const jb_run *before = (const jb_run *)run_at.copy;
+    expect(memcmp(run, before, offsetof(jb_run, clock)) == 0, "table and order stay");
+    expect(run->clock == before->clock + *worked, "the clock moves by the slots worked");
+    switch (number) {
+    case JB_OK: expect(*worked == length, "all slots are worked"); break;
+    case JB_CLOCK_OVER: expect(run->clock == JB_LAST_CLOCK && *worked < length, "8 at the last clock alone"); break;
+    default: expect_unwritten(&run_at); break;
+    }
+}
+
+static void make_buffers(void) {
+    input_at = new_buffer(LONGEST_INPUT);
+    table_at = new_buffer(sizeof(jb_table));
+    order_at = new_buffer(JB_ROWS);
+    run_at = new_buffer(sizeof(jb_run));
+    supplies_at = new_buffer(MOST_SUPPLIES * sizeof(uint32_t));
+    text_at = new_buffer(JB_PROGRAM_TEXT);
+    left_at = new_buffer(sizeof(uint64_t));
+    word_at = new_buffer(sizeof(uint32_t));
+    row_at = new_buffer(sizeof(uint32_t));
+    slack_at = new_buffer(sizeof(int32_t));
+    out_at = new_buffer(JB_ROWS * sizeof(uint32_t));
+    one_at = new_buffer(sizeof(jb_run));
+}
+
+/* Prints how often each function gave each number; every number that it can give has come up. */
+static void print_counts(void) {
+    static const char *const all[FUNCTIONS] = {"012345", "03457", "03456", "03456", "03456", "089", "089", "089", "0123457"};
+    for (int function = 0; function < FUNCTIONS; function++) {
+        printf("%-9s", names[function]);
+        for (const char *number = all[function]; *number != '\0'; number++) {
+            printf(" %c: %" PRIu64, *number, counts[function][*number - '0']);
+            expect(counts[function][*number - '0'] > 0, "every number comes up");
+        }
+        printf("\n");
+    }
+}
+
+int main(int argc, char **argv) {
+    unsigned long rounds = argc > 1 ? strtoul(argv[1], NULL, 10) : DEFAULT_ROUNDS;
+    seed = argc > 2 ? strtoull(argv[2], NULL, 10) : 1;
+    make_buffers();
+    for (unsigned long round = 0; round < rounds; round++) {
+        try_read();
+        fill_lent();
+        try_plan();
+        try_judge();
+        try_fresh();
+        try_slot();
+        try_forward();
+    }
+    print_counts();
+    printf("%lu rounds, all held\n", rounds);
+    return 0;
+}

@@ -1,0 +1,129 @@
+//! What the planning program writes, byte for byte.
+
+mod common;
+
+use common::{large_table, p1, small_table, spoil_table, Tally};
+use model::program::{planning_program, KEPT};
+use model::random::Random;
+use model::sheet::{sheet_of, write_sheet};
+use model::table::{Row, Table};
+use outside::sheets::{easy, hard};
+use outside::{library, plain};
+
+/// The number in the first field of a text.
+fn number_of(text: &[u8]) -> u8 {
+    text[7] - b'0'
+}
+
+fn compare_with_model(input: &[u8], tally: &mut Tally<u8>) {
+    assert_eq!(plain::program(input), planning_program(input));
+    compare(input, tally);
+}
+
+fn compare(input: &[u8], tally: &mut Tally<u8>) {
+    let text = library::program(input);
+    assert_eq!(text, plain::program(input), "{input:?}");
+    tally.saw(number_of(&text));
+}
+
+/// The sheet of this table changed so that a check on tables refuses it.
+fn refused_sheet(random: &mut Random, table: &Table) -> Vec<u8> {
+    let mut spoiled = *table;
+    let number = random.between(3, 5);
+    spoil_table(random, &mut spoiled, number);
+    let field = |figure: u32| figure.min(99_999_999);
+    let count = field(spoiled.n);
+    spoiled.n = table.n;
+    let rows = spoiled.rows().into_iter().map(|row| Row {
+        release: field(row.release),
+        work: field(row.work),
+        deadline: field(row.deadline),
+        level: field(row.level),
+    });
+    let rows: Vec<Row> = rows.collect();
+    let (normal, degraded) = (field(spoiled.normal), field(spoiled.degraded));
+    write_sheet(count, normal, degraded, &rows)
+}
+
+fn damaged(random: &mut Random, mut sheet: Vec<u8>) -> Vec<u8> {
+    let place = random.between(0, sheet.len() as u32 - 1) as usize;
+    match random.between(0, 3) {
+        0 => sheet.truncate(place),
+        1 => sheet.push(random.word() as u8),
+        2 => sheet[place] = random.one_of(b"\n 0129x"),
+        _ => sheet[place] = random.word() as u8,
+    }
+    sheet
+}
+
+/// The sheet followed by bytes up to more than the program keeps.
+fn long(random: &mut Random, mut sheet: Vec<u8>) -> Vec<u8> {
+    let length = KEPT + random.between(0, 4_000) as usize;
+    let byte = random.one_of(b"\n 1");
+    sheet.resize(length.max(sheet.len()), byte);
+    sheet
+}
+
+#[test]
+fn small_sheets_against_the_model() {
+    let mut random = Random::seeded(601);
+    let mut tally = Tally::new("program, small sheets");
+    compare_with_model(b"", &mut tally);
+    for _ in 0..4_000 {
+        let table = small_table(&mut random);
+        let sheet = sheet_of(&table);
+        compare_with_model(&sheet, &mut tally);
+        compare_with_model(&damaged(&mut random, sheet.clone()), &mut tally);
+        compare_with_model(&refused_sheet(&mut random, &table), &mut tally);
+        compare_with_model(&long(&mut random, sheet), &mut tally);
+    }
+    tally.assert_common(&[0, 1, 2, 3, 4, 5, 7], 500);
+}
+
+#[test]
+fn large_sheets() {
+    let mut random = Random::seeded(602);
+    let mut tally = Tally::new("program, sheets of up to 64 rows");
+    for _ in 0..4_000 {
+        let sheet = sheet_of(&large_table(&mut random));
+        compare(&sheet, &mut tally);
+        compare(&damaged(&mut random, sheet.clone()), &mut tally);
+        compare(&long(&mut random, sheet), &mut tally);
+    }
+    for n in (4..=64).step_by(4) {
+        compare(&sheet_of(&easy(n)), &mut tally);
+        compare(&sheet_of(&hard(n)), &mut tally);
+    }
+    tally.assert_common(&[0, 1, 2, 7], 1_000);
+}
+
+/// The longest sheet has 2,137 bytes; one byte more is kept, and what follows
+/// makes no difference.
+#[test]
+fn around_the_bytes_that_are_kept() {
+    let mut tally = Tally::new("program, around the bytes kept");
+    let sheet = sheet_of(&easy(64));
+    assert_eq!(sheet.len(), KEPT - 1);
+    for extra in 0..=3 {
+        for byte in 0..=255 {
+            let mut input = sheet.clone();
+            input.resize(sheet.len() + extra, byte);
+            compare(&input, &mut tally);
+        }
+    }
+    tally.assert_common(&[0], 256);
+    tally.assert_common(&[1], 768);
+}
+
+#[test]
+fn the_text_of_p1() {
+    let expected = concat!(
+        "       0       4\n",
+        "       1       1       0\n",
+        "       2       2       2\n",
+        "       3       3       0\n",
+        "       4       4       0\n",
+    );
+    assert_eq!(library::program(&sheet_of(&p1())), expected.as_bytes());
+    assert_eq!(library::program(b""), b"       1       0\n");
+}
