@@ -11,3 +11,5 @@ pub mod Stepping
 pub mod Kept
 pub mod Fresh
 pub mod Coming
+pub mod Forwarding
+pub mod Splitting

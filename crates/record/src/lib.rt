@@ -10,7 +10,7 @@ ghost use Rattle.rules.specs.Tables.{passed, zeroTable};
 ghost use Rattle.rules.specs.Orders.{checkBoth};
 ghost use Rattle.record.specs.Figures.{over, soundAt, rowSoundAt, readyAt};
 ghost use Rattle.record.specs.Places.{Placed};
-ghost use Rattle.record.specs.Records.{tailSound, isSound, freshRun, freshOf, chosenRow, nextRun, comingSlot, oneSlot};
+ghost use Rattle.record.specs.Records.{tailSound, isSound, freshRun, freshOf, chosenRow, nextRun, comingSlot, oneSlot, workOn, forwardOver};
 use rules::Check;
 use rules::Refusal;
 use rules::Table;
@@ -395,4 +395,67 @@ impl Run {
             },
         }
     }
+
+    // One slot worked for each supply (work units) in turn: how many slots were worked, and the record after them.
+    // The record is checked once; an unsound one is refused and handed back as it was.
+    pub fn forwarded(self, supplies: &[u32]) -> Forwarded
+        ensures { λ r. ⌜ r ≡ forwardOver self (now (supplies .entry)) ⌝ }
+    {
+        if !is_sound(self) {
+            return Forwarded {
+                answer: ForwardAnswer::Refused(Refusal::Unsound),
+                run: self,
+            };
+        }
+        worked(self, supplies)
+    }
+}
+
+// The slots worked on a sound record, one for each supply (work units) in turn, until a supply comes at clock 2,000,000.
+// Each slot is that of `next`, written into the one record in place.
+fn worked(start: Run, supplies: &[u32]) -> Forwarded
+    requires { ⌜ isSound start ≡ true ⌝ }
+    ensures { λ r. ⌜ r ≡ workOn 0 (now (supplies .entry)) start ⌝ }
+{
+    let mut run = start;
+    let mut slots: u32 = 0;
+    let mut k = 0;
+    while k < supplies.len() {
+        let supply = supplies[k];
+        let clock = run.clock;
+        if clock >= LAST_CLOCK {
+            return Forwarded {
+                answer: ForwardAnswer::ClockOver(slots),
+                run: run,
+            };
+        }
+        let n = run.table.n;
+        let row = chosen_row(n, clock, &run.order, &run.table.release, &run.closing);
+        run.clock = clock + 1;
+        if row != 0 {
+            let i = row as usize - 1;
+            let work = entry(&run.table.work, i);
+            let level = entry(&run.table.level, i);
+            let normal = run.table.normal;
+            let got = grown(run.got[i], supply, work);
+            let used = run.used[i] + 1;
+            let closing = closing_slot(work, level, normal, got, used, clock + 1);
+            run.got[i] = got;
+            run.used[i] = used;
+            run.closing[i] = closing;
+        }
+        slots = slots + 1;
+        k = k + 1;
+    }
+    let answer = ForwardAnswer::Worked(slots);
+    Forwarded { answer, run }
+}
+
+// The second entry: works a lent record forward over a lent list of supplies (work units), one slot for each.
+pub fn forward(run: &mut Run, supplies: &[u32]) -> ForwardAnswer
+    ensures { λ r. ⌜ (r ≡ forwardOver (now (run .entry)) (now (supplies .entry)) .answer) × (now (run .exit) ≡ forwardOver (now (run .entry)) (now (supplies .entry)) .run) ⌝ }
+{
+    let w = (*run).forwarded(supplies);
+    *run = w.run;
+    w.answer
 }

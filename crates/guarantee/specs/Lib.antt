@@ -1,0 +1,6 @@
+pub mod Playing
+pub mod Paper
+pub mod Supplies
+pub mod Claim
+pub mod Proved
+pub mod Encoding

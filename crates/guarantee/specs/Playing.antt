@@ -1,0 +1,27 @@
+-- A list of run calls on a record: each call is made on the record that the last one left.
+use mathlib.Core.List.{List, [], _∷_}
+use Rattle.record.specs.declared.Run.{Run}
+use Rattle.record.specs.Answers.{slotSaid, forwardSaid}
+use Rattle.record.specs.Records.{oneSlot, forwardOver}
+use Rattle.rules.specs.Calls.{Call, one, forward, Said}
+
+-- what one call said, and the record that it left
+pub record Made : Type 0 where
+  pub said : Said
+  pub run : Run
+
+abbrev pub make : Call → Run → Made
+make (one v) r = record { said = slotSaid (oneSlot r v .answer); run = oneSlot r v .run }
+make (forward vs) r = record { said = forwardSaid (forwardOver r vs .answer); run = forwardOver r vs .run }
+
+-- what all calls of a list said, in turn, and the record that the last one left
+pub record AllMade : Type 0 where
+  pub said : List Said
+  pub run : Run
+
+unfoldable pub makeAll : List Call → Run → AllMade
+makeAll [] r = record { said = []; run = r }
+makeAll (c ∷ cs) r =
+    let m = make c r in
+    let rest = makeAll cs (m .run) in
+    record { said = m .said ∷ rest .said; run = rest .run }
