@@ -3,4 +3,3 @@ pub mod Paper
 pub mod Supplies
 pub mod Claim
 pub mod Proved
-pub mod Encoding
