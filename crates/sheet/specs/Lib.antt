@@ -1,3 +1,4 @@
 pub mod Scan
 pub mod Lines
 pub mod SheetsDiffer
+pub mod Writing

@@ -1,10 +1,10 @@
 // The sheet reader: bytes in, a checked table out. The bytes are only read.
 ghost use mathlib.Core.Path.{_≡_};
 ghost use mathlib.Core.Bool.{true, _&&_};
-ghost use Prim.Native.Nat.{_+_, _-_, _*_, _≤_, _<_};
+ghost use Prim.Native.Nat.{_+_, _-_, _*_, _/_, _%_, _≤_, _<_};
 ghost use lib.Dec.{leb};
 ghost use lib.ListN.{length};
-ghost use Rattle.rules.specs.Fields.{digitOf, valueOf, isField, fieldAt};
+ghost use Rattle.rules.specs.Fields.{digitAt, written, digitOf, valueOf, isField, fieldAt};
 ghost use Rattle.rules.specs.Sheets.{isLine, numberAt, columnOf, tableIn, readChecked, readOf};
 ghost use Rattle.rules.specs.Tables.{zeroTable};
 ghost use Rattle.sheet.specs.Scan.{stands, fieldIn};
@@ -225,4 +225,39 @@ pub fn read(bytes: &[u8]) -> Reading
     }
     let table = table_in(bytes, n);
     answer(checks::check_table(table), table)
+}
+
+// The digit of a number at a weight, as its byte (48 is "0").
+fn numeral(value: u32, weight: u32) -> u8
+    requires { ⌜ 1 ≤ weight ⌝ }
+    ensures { λ r. ⌜ r ≡ 48 + value / weight % 10 ⌝ }
+{
+    (48 + value / weight % 10) as u8
+}
+
+// The byte of a number at a weight: its digit there, and a space before its first digit.
+fn byte_at(value: u32, weight: u32) -> u8
+    requires { ⌜ 1 ≤ weight ⌝ }
+    ensures { λ r. ⌜ r ≡ digitAt value weight ⌝ }
+{
+    if weight <= value {
+        return numeral(value, weight);
+    }
+    if weight == 1 {
+        return numeral(value, weight);
+    }
+    32
+}
+
+// The eight bytes of a number; of one from 100,000,000 on only its last eight digits.
+pub fn written(value: u32) -> [u8; 8]
+    ensures { λ r. ⌜ r ≡ written value ⌝ }
+{
+    let mut field = [32u8; 8];
+    let mut i: usize = 0;
+    while i < 8 {
+        field[i] = byte_at(value, WEIGHTS[i]);
+        i += 1;
+    }
+    field
 }

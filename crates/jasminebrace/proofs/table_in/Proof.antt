@@ -1,0 +1,43 @@
+-- The three numbers and the four columns are the table's own.
+use borrow.Author.Needs.{needs}
+use Rattle.jasminebrace.specs.Words.{tableIn}
+use Rattle.jasminebrace.proofs.table_in.Statement.{statement}
+use Rattle.jasminebrace.proofs.table_in.Tie as tie
+
+element-copy-out-n : tie.Need-element-copy-out-n
+element-copy-out-n c = search needs
+
+element-copy-out-normal : tie.Need-element-copy-out-normal
+element-copy-out-normal c = search needs
+
+element-copy-out-degraded : tie.Need-element-copy-out-degraded
+element-copy-out-degraded c = search needs
+
+column-requires : tie.Need-column-requires
+column-requires c κs = search needs
+
+column-requires-2 : tie.Need-column-requires-2
+column-requires-2 c κs = search needs
+
+column-requires-3 : tie.Need-column-requires-3
+column-requires-3 c κs = search needs
+
+column-requires-4 : tie.Need-column-requires-4
+column-requires-4 c κs = search needs
+
+returns : tie.Need-returns
+unfolding tableIn
+returns c = rw (c .before .before .before .before .before .before .column .ensures, c .before .before .before .before .column2 .ensures, c .before .before .column3 .ensures, c .column4 .ensures)
+
+pub table-in-spec : {M : Type 1} → statement M
+table-in-spec =
+    tie.close
+    (tie.spec
+    element-copy-out-n
+    element-copy-out-normal
+    element-copy-out-degraded
+    column-requires
+    column-requires-2
+    column-requires-3
+    column-requires-4
+    returns)

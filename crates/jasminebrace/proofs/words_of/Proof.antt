@@ -1,0 +1,72 @@
+-- The four columns are written one after another behind the three numbers, and so fill all words.
+use borrow.Author.Needs.{needs}
+use mathlib.Core.List.{_∷_}
+use mathlib.Core.Path.{_≡_, refl}
+use lib.ListN.{length, replicate}
+use Rattle.jasminebrace.specs.Copies.{table-written}
+use Rattle.jasminebrace.proofs.words_of.Statement.{statement}
+use Rattle.jasminebrace.proofs.words_of.Tie as tie
+
+array-write-words : tie.Need-array-write-words
+array-write-words c = search needs
+
+array-write-words-2 : tie.Need-array-write-words-2
+array-write-words-2 c = search needs
+
+array-write-words-3 : tie.Need-array-write-words-3
+array-write-words-3 c = search needs
+
+slice-aggregate-put-column : tie.Need-slice-aggregate-put-column
+slice-aggregate-put-column c = search needs
+
+put-column-requires : tie.Need-put-column-requires
+put-column-requires c κs = search needs
+
+slice-aggregate-put-column-2 : tie.Need-slice-aggregate-put-column-2
+slice-aggregate-put-column-2 c = search needs
+
+put-column-requires-2 : tie.Need-put-column-requires-2
+put-column-requires-2 c κs = search needs
+
+slice-aggregate-put-column-3 : tie.Need-slice-aggregate-put-column-3
+slice-aggregate-put-column-3 c = search needs
+
+put-column-requires-3 : tie.Need-put-column-requires-3
+put-column-requires-3 c κs = search needs
+
+slice-aggregate-put-column-4 : tie.Need-slice-aggregate-put-column-4
+slice-aggregate-put-column-4 c = search needs
+
+put-column-requires-4 : tie.Need-put-column-requires-4
+put-column-requires-4 c κs = search needs
+
+returns : tie.Need-returns
+returns c =
+    let t = c .before .before .before .before .before .before .before .before .before .before .before .before .before .before .before .before .args .t in
+    let one = c .before .before .before .before .before .before .before .before .before .before .put-column in
+    let two = c .before .before .before .before .before .before .before .put-column2 in
+    let three = c .before .before .before .before .put-column3 in
+    let four = c .before .put-column4 in
+    let release : length (t .release) ≡ 64 = search needs in
+    let work : length (t .work) ≡ 64 = search needs in
+    let deadline : length (t .deadline) ≡ 64 = search needs in
+    let level : length (t .level) ≡ 64 = search needs in
+    let words = t .n ∷ t .normal ∷ t .degraded ∷ replicate 256 0 in
+    table-written t words (one .last .0) (two .last .0) (three .last .0) (four .last .0) refl refl release work deadline level (one .ensures) (two .ensures) (three .ensures) (four .ensures)
+
+pub words-of-spec : {M : Type 1} → statement M
+words-of-spec =
+    tie.close
+    (tie.spec
+    array-write-words
+    array-write-words-2
+    array-write-words-3
+    slice-aggregate-put-column
+    put-column-requires
+    slice-aggregate-put-column-2
+    put-column-requires-2
+    slice-aggregate-put-column-3
+    put-column-requires-3
+    slice-aggregate-put-column-4
+    put-column-requires-4
+    returns)

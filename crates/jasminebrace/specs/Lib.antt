@@ -1,0 +1,4 @@
+pub mod Words
+pub mod Finishes
+pub mod Inverse
+pub mod Copies

@@ -1,0 +1,317 @@
+// The C boundary: the library's calls over lent arrays of numbers. specs/Words says how they hold a table and a run record.
+// Times are in slots, work and supplies in work units, speeds in work units per slot. What is lent as & is only read, and
+// what is lent as &mut is written whole by every call, refusals included. A list is a pointer and its length.
+ghost use mathlib.Core.Path.{_≡_};
+ghost use Prim.Native.Nat.{_+_, _≤_};
+ghost use lib.ListN.{length};
+ghost use lib.Seq.{paste};
+ghost use Rattle.rules.specs.Choice.{planOf};
+ghost use Rattle.rules.specs.Judge.{judgeOf};
+ghost use Rattle.rules.specs.Numbers.{refusalNumber, checkNumber, plannedNumber, rowsLeft, verdictNumber, verdictYes, verdictRow, verdictSlack};
+ghost use Rattle.rules.specs.Orders.{checkBoth};
+ghost use Rattle.rules.specs.Sheets.{readOf};
+ghost use Rattle.record.specs.Answers.{slotSaid, forwardSaid};
+ghost use Rattle.record.specs.Records.{freshOf, comingSlot, oneSlot, forwardOver};
+ghost use Rattle.jasminebrace.specs.Words.{columnAt, tableIn, wordsOf, runIn, stateWords};
+ghost use Rattle.jasminebrace.specs.Finishes.{finishesOf, yesWord};
+use record::Run;
+use rules::Check;
+use rules::Table;
+use rules::Verdict;
+
+// The judge's number, yes as 1 or 0, the row of least slack and that slack in slots.
+struct VerdictNumbers {
+    number: u32,
+    yes: u32,
+    row: u32,
+    slack: i32,
+}
+
+// The sixty-four words from a place on.
+fn column(words: &[u32], from: usize) -> [u32; 64]
+    requires { ⌜ from + 64 ≤ length (now words) ⌝ }
+    ensures { λ r. ⌜ r ≡ columnAt from (now (words .entry)) ⌝ }
+{
+    let mut out = [0u32; 64];
+    let mut i: usize = 0;
+    while i < 64 {
+        out[i] = words[from + i];
+        i += 1;
+    }
+    out
+}
+
+// Writes a column over the words from a place on.
+fn put_column(words: &mut [u32], from: usize, entries: [u32; 64])
+    requires { ⌜ from + 64 ≤ length (now words) ⌝ }
+    ensures { λ r. ⌜ now (words .exit) ≡ paste (now (words .entry)) from entries 64 ⌝ }
+{
+    let mut i: usize = 0;
+    while i < 64 {
+        words[from + i] = entries[i];
+        i += 1;
+    }
+}
+
+// The table that the words hold.
+fn table_in(words: &[u32; 259]) -> Table
+    ensures { λ t. ⌜ t ≡ tableIn (now (words .entry)) ⌝ }
+{
+    let n = words[0];
+    let normal = words[1];
+    let degraded = words[2];
+    let release = column(words, 3);
+    let work = column(words, 67);
+    let deadline = column(words, 131);
+    let level = column(words, 195);
+    Table {
+        n,
+        normal,
+        degraded,
+        release,
+        work,
+        deadline,
+        level,
+    }
+}
+
+// The words of a table.
+fn words_of(t: Table) -> [u32; 259]
+    ensures { λ r. ⌜ r ≡ wordsOf t ⌝ }
+{
+    let mut words = [0u32; 259];
+    words[0] = t.n;
+    words[1] = t.normal;
+    words[2] = t.degraded;
+    let release = t.release;
+    let work = t.work;
+    let deadline = t.deadline;
+    let level = t.level;
+    put_column(&mut words, 3, release);
+    put_column(&mut words, 67, work);
+    put_column(&mut words, 131, deadline);
+    put_column(&mut words, 195, level);
+    words
+}
+
+// The run record that the words of a table, an order and the words of a state hold.
+fn run_in(table: &[u32; 259], order: [u8; 64], state: [u32; 193]) -> Run
+    ensures { λ r. ⌜ r ≡ runIn (now (table .entry)) order state ⌝ }
+{
+    let t = table_in(table);
+    let clock = state[0];
+    let got = column(&state, 1);
+    let used = column(&state, 65);
+    let closing = column(&state, 129);
+    Run {
+        table: t,
+        order,
+        clock,
+        got,
+        used,
+        closing,
+    }
+}
+
+// The words of a run record's state.
+fn state_words(run: Run) -> [u32; 193]
+    ensures { λ r. ⌜ r ≡ stateWords run ⌝ }
+{
+    let mut words = [0u32; 193];
+    words[0] = run.clock;
+    let got = run.got;
+    let used = run.used;
+    let closing = run.closing;
+    put_column(&mut words, 1, got);
+    put_column(&mut words, 65, used);
+    put_column(&mut words, 129, closing);
+    words
+}
+
+// The number of a verdict, yes as 1 or 0, the row of least slack and that slack in slots.
+fn verdict_numbers(verdict: Verdict) -> VerdictNumbers
+    ensures { λ r. ⌜ (r .number ≡ verdictNumber verdict) × (r .yes ≡ yesWord (verdictYes verdict)) × (r .row ≡ verdictRow verdict) × (r .slack ≡ verdictSlack verdict) ⌝ }
+{
+    match verdict {
+        Verdict::Correct { row, slack } => VerdictNumbers {
+            number: 0,
+            yes: 1,
+            row: row as u32,
+            slack,
+        },
+        Verdict::Incorrect { row, slack } => VerdictNumbers {
+            number: 0,
+            yes: 0,
+            row: row as u32,
+            slack,
+        },
+        Verdict::Refused(why) => {
+            let number = numbers::refusal_number(why);
+            VerdictNumbers {
+                number,
+                yes: 0,
+                row: 0,
+                slack: 0,
+            }
+        }
+    }
+}
+
+// Reads a sheet into the words of a table, all zero on a refusal. Gives the number of the sheet's checks.
+#[no_mangle]
+pub extern "C" fn jb_read(sheet: &[u8], table: &mut [u32; 259]) -> u32
+    ensures { λ r. ⌜ (let reading = readOf (now (sheet .entry)) in (r ≡ checkNumber (reading .check)) × (now (table .exit) ≡ wordsOf (reading .table))) ⌝ }
+{
+    let reading = sheet::read(sheet);
+    let t = reading.table;
+    let check = reading.check;
+    *table = words_of(t);
+    numbers::check_number(check)
+}
+
+// Plans an order for a table, all zero where none is made. Gives 0, 7 with the word of the rows left, or a refusal's number.
+#[no_mangle]
+pub extern "C" fn jb_plan(table: &[u32; 259], order: &mut [u8; 64], left: &mut u64) -> u32
+    ensures { λ r. ⌜ (let planning = planOf (tableIn (now (table .entry))) in (r ≡ plannedNumber (planning .answer)) × (now (order .exit) ≡ planning .order) × (now (left .exit) ≡ rowsLeft (planning .answer))) ⌝ }
+{
+    let t = table_in(table);
+    let planning = planner::plan(t);
+    let made = planning.order;
+    let answer = planning.answer;
+    let numbers = numbers::plan_numbers(answer);
+    *order = made;
+    *left = numbers.left;
+    numbers.number
+}
+
+// Judges an order of a table: yes as 1 or 0, the row of least slack, and that slack in slots. All zero on a refusal.
+#[no_mangle]
+pub extern "C" fn jb_judge(
+    table: &[u32; 259],
+    order: &[u8; 64],
+    yes: &mut u32,
+    row: &mut u32,
+    slack: &mut i32,
+) -> u32
+    ensures { λ r. ⌜ (let verdict = judgeOf (tableIn (now (table .entry))) (now (order .entry)) in (r ≡ verdictNumber verdict) × (now (yes .exit) ≡ yesWord (verdictYes verdict)) × (now (row .exit) ≡ verdictRow verdict) × (now (slack .exit) ≡ verdictSlack verdict)) ⌝ }
+{
+    let t = table_in(table);
+    let placed = *order;
+    let verdict = judge::judge_table(t, placed);
+    let numbers = verdict_numbers(verdict);
+    let least = numbers.slack;
+    *yes = numbers.yes;
+    *row = numbers.row;
+    *slack = least;
+    numbers.number
+}
+
+// The worst finish of each row under an order, in slots, zeros after row n. All zero on a refusal of checks 3 to 6.
+#[no_mangle]
+pub extern "C" fn jb_finishes(table: &[u32; 259], order: &[u8; 64], finishes: &mut [u32; 64]) -> u32
+    ensures { λ r. ⌜ (let t = tableIn (now (table .entry)) in (r ≡ checkNumber (checkBoth t (now (order .entry)))) × (now (finishes .exit) ≡ finishesOf t (now (order .entry)))) ⌝ }
+{
+    let t = table_in(table);
+    let placed = *order;
+    let check = checks::check_both(t, placed);
+    match check {
+        Check::Passed => {
+            *finishes = judge::worst_finishes(t, placed);
+            0
+        }
+        Check::Refused(why) => {
+            let none = [0u32; 64];
+            *finishes = none;
+            numbers::refusal_number(why)
+        }
+    }
+}
+
+// Starts a run record of a table and an order, at clock 0. All zero on a refusal of checks 3 to 6.
+#[no_mangle]
+pub extern "C" fn jb_fresh(
+    table: &[u32; 259],
+    order: &[u8; 64],
+    run_table: &mut [u32; 259],
+    run_order: &mut [u8; 64],
+    run_state: &mut [u32; 193],
+) -> u32
+    ensures { λ r. ⌜ (let made = freshOf (tableIn (now (table .entry))) (now (order .entry)) in (r ≡ checkNumber (made .check)) × (now («run_table» .exit) ≡ wordsOf (made .run .table)) × (now («run_order» .exit) ≡ made .run .order) × (now («run_state» .exit) ≡ stateWords (made .run))) ⌝ }
+{
+    let t = table_in(table);
+    let placed = *order;
+    let made = record::fresh(t, placed);
+    let run = made.run;
+    let check = made.check;
+    let run_t = run.table;
+    let run_o = run.order;
+    *run_table = words_of(run_t);
+    *run_order = run_o;
+    *run_state = state_words(run);
+    numbers::check_number(check)
+}
+
+// The row that the coming slot runs, before its supply is known; 0 for an idle slot and with 8 or 9.
+#[no_mangle]
+pub extern "C" fn jb_coming(
+    table: &[u32; 259],
+    order: &[u8; 64],
+    state: &[u32; 193],
+    row: &mut u32,
+) -> u32
+    ensures { λ r. ⌜ (let said = slotSaid (comingSlot (runIn (now (table .entry)) (now (order .entry)) (now (state .entry)))) in (r ≡ said .number) × (now (row .exit) ≡ said .value)) ⌝ }
+{
+    let placed = *order;
+    let held = *state;
+    let run = run_in(table, placed, held);
+    let answer = run.coming();
+    let numbers = numbers::slot_numbers(answer);
+    *row = numbers.value;
+    numbers.number
+}
+
+// Works one slot with a supply in work units: the state after it, and the row run. With 8 or 9 the state stays and the row is 0.
+#[no_mangle]
+pub extern "C" fn jb_slot(
+    table: &[u32; 259],
+    order: &[u8; 64],
+    state: &mut [u32; 193],
+    supply: u32,
+    row: &mut u32,
+) -> u32
+    ensures { λ r. ⌜ (let stepped = oneSlot (runIn (now (table .entry)) (now (order .entry)) (now (state .entry))) supply in (r ≡ slotSaid (stepped .answer) .number) × (now (row .exit) ≡ slotSaid (stepped .answer) .value) × (now (state .exit) ≡ stateWords (stepped .run))) ⌝ }
+{
+    let placed = *order;
+    let held = *state;
+    let run = run_in(table, placed, held);
+    let stepped = run.slot(supply);
+    let after = stepped.run;
+    let answer = stepped.answer;
+    let numbers = numbers::slot_numbers(answer);
+    *state = state_words(after);
+    *row = numbers.value;
+    numbers.number
+}
+
+// Works one slot for each supply (work units) in turn: the state after them, and the slots worked.
+#[no_mangle]
+pub extern "C" fn jb_forward(
+    table: &[u32; 259],
+    order: &[u8; 64],
+    state: &mut [u32; 193],
+    supplies: &[u32],
+    worked: &mut u32,
+) -> u32
+    ensures { λ r. ⌜ (let forwarded = forwardOver (runIn (now (table .entry)) (now (order .entry)) (now (state .entry))) (now (supplies .entry)) in (r ≡ forwardSaid (forwarded .answer) .number) × (now (worked .exit) ≡ forwardSaid (forwarded .answer) .value) × (now (state .exit) ≡ stateWords (forwarded .run))) ⌝ }
+{
+    let placed = *order;
+    let held = *state;
+    let run = run_in(table, placed, held);
+    let forwarded = run.forwarded(supplies);
+    let reached = forwarded.run;
+    let answer = forwarded.answer;
+    let numbers = numbers::forward_numbers(answer);
+    *state = state_words(reached);
+    *worked = numbers.value;
+    numbers.number
+}

@@ -1,0 +1,38 @@
+-- The first line and then the places.
+use borrow.Author.Needs.{needs}
+use native.Mathlib.Omega.{arith}
+use Rattle.text.specs.Wrote.{wrote-then}
+use Rattle.text.specs.Lines.{pair-long}
+use Rattle.text.specs.Slacks.{few, both-pass}
+use Rattle.text.proofs.put_order.Statement.{statement}
+use Rattle.text.proofs.put_order.Tie as tie
+
+worst-finishes-requires : tie.Need-worst-finishes-requires
+worst-finishes-requires c κs = let s = c .before in both-pass (s .args .t) (s .args .order) (s .pre .0)
+
+put-pair-requires : tie.Need-put-pair-requires
+put-pair-requires c κs = search needs
+
+put-places-requires : tie.Need-put-places-requires
+put-places-requires c κs =
+    let f = c .before .before .before .before .before in
+    let s = f .before .before in
+    (record { right = s .pre .0; worst = f .worst-finishes .ensures }, omega (arith, pair-long 0 (s .args .t .n), few (s .args .t) (s .args .order) (s .pre .0)))
+
+same-length : tie.Need-same-length
+same-length c = search needs
+
+returns : tie.Need-returns
+returns c =
+    let g = c .before .before in
+    wrote-then (g .before .before .before .before .put-pair .ensures) (g .put-places .ensures)
+
+pub put-order-spec : {M : Type 1} → statement M
+put-order-spec =
+    tie.close
+    (tie.spec
+    worst-finishes-requires
+    put-pair-requires
+    put-places-requires
+    same-length
+    returns)

@@ -1,0 +1,76 @@
+-- The lines of the first k places are written.
+use Prim.Native.Nat.{ℕ, _-_, _≤_}
+use borrow.Author.Needs.{needs}
+use mathlib.Core.Path.{_≡_, refl, sym, ap, _∙_}
+use native.Mathlib.Omega.{arith}
+use lib.ListN.{length}
+use Rattle.rules.specs.Lists.{rowsTo}
+use Rattle.rules.specs.Program.{placeLines}
+use Rattle.text.specs.Wrote.{Wrote, wrote-none, wrote-as, wrote-then}
+use Rattle.text.specs.Lines.{places-long, places-more}
+use Rattle.text.specs.Slacks.{few}
+use Rattle.text.proofs.put_places.Statement.{statement}
+use Rattle.text.proofs.put_places.Tie as tie
+
+abbrev Inv-loop : tie.InvT-loop
+Inv-loop out₀ at t order finishes next₀ k₀ out next k = (k ≤ t .n) × (length out ≡ length out₀) × Wrote out₀ at out next (placeLines t order (rowsTo k))
+
+abbrev μ-loop : tie.MeasureT-loop
+μ-loop out₀ at t order finishes next₀ k₀ out next k = t .n - k
+
+loop-holds : tie.Need-loop-holds Inv-loop μ-loop
+loop-holds c = let s = c .before in (search needs, refl, wrote-none (s .args .out .now) (s .args .at) (omega arith))
+
+add-put-place : tie.Need-add-put-place Inv-loop μ-loop
+add-put-place c = let s = c .before .before .before .before .before in omega (arith, few (s .args .t) (s .args .order) (s .pre .0 .right))
+
+put-place-requires : tie.Need-put-place-requires Inv-loop μ-loop
+put-place-requires c κs =
+    let l = c .before .before .before in
+    let s = l .before .before in (
+      s .pre .0,
+      omega arith,
+      omega arith,
+      omega (arith, l .loop .inv .2 .after, places-long (s .args .t) (s .args .order) (l .loop .k)),
+    )
+
+add-k : tie.Need-add-k Inv-loop μ-loop
+add-k c = let s = c .before .before .before .before .before .before .before .before in omega (arith, few (s .args .t) (s .args .order) (s .pre .0 .right))
+
+loop-less : tie.Need-loop-less Inv-loop μ-loop
+loop-less c = omega arith
+
+loop-again : tie.Need-loop-again Inv-loop μ-loop
+loop-again c =
+    let p = c .before .before in
+    let l = p .before .before .before .before in
+    let s = l .before .before in (
+      omega arith,
+      p .put-place .kept .0 ∙ l .loop .inv .1,
+      wrote-as (sym (places-more (s .args .t) (s .args .order) (l .loop .k))) (wrote-then (l .loop .inv .2) (p .put-place .ensures)),
+    )
+
+same-length : tie.Need-same-length Inv-loop μ-loop
+same-length c = search needs
+
+returns : tie.Need-returns Inv-loop μ-loop
+returns c =
+    let l = c .before .before in
+    let s = l .before .before in
+    let e : l .loop .k ≡ s .args .t .n = omega arith in
+    wrote-as (ap (λ (j : ℕ). placeLines (s .args .t) (s .args .order) (rowsTo j)) e) (l .loop .inv .2)
+
+pub put-places-spec : {M : Type 1} → statement M
+put-places-spec =
+    tie.close
+    (tie.spec
+    Inv-loop
+    μ-loop
+    loop-holds
+    add-put-place
+    put-place-requires
+    add-k
+    loop-less
+    loop-again
+    same-length
+    returns)

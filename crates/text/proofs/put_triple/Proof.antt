@@ -1,0 +1,30 @@
+-- A field before a line of two.
+use borrow.Author.Needs.{needs}
+use native.Mathlib.Omega.{arith}
+use Rattle.text.specs.Wrote.{wrote-then}
+use Rattle.text.specs.Lines.{field-long}
+use Rattle.text.proofs.put_triple.Statement.{statement}
+use Rattle.text.proofs.put_triple.Tie as tie
+
+put-field-requires : tie.Need-put-field-requires
+put-field-requires c κs = search needs
+
+put-pair-requires : tie.Need-put-pair-requires
+put-pair-requires c κs = omega (arith, field-long (c .before .before .before .before .before .before .args .first))
+
+same-length : tie.Need-same-length
+same-length c = search needs
+
+returns : tie.Need-returns
+returns c =
+    let g = c .before .before in
+    wrote-then (g .before .before .before .before .put-field .ensures) (g .put-pair .ensures)
+
+pub put-triple-spec : {M : Type 1} → statement M
+put-triple-spec =
+    tie.close
+    (tie.spec
+    put-field-requires
+    put-pair-requires
+    same-length
+    returns)

@@ -1,0 +1,5 @@
+pub mod Wrote
+pub mod Lines
+pub mod Slacks
+pub mod Answers
+pub mod Longer

@@ -1,0 +1,85 @@
+-- A correct order has a row of the table at each of its first n places, and no row finishes after its deadline.
+use Prim.Native.Nat.{ℕ, zero, suc, _-_, _≤_, _<_}
+use mathlib.Core.Bool.{true}
+use mathlib.Core.Path.{_≡_, sym, ap, _∙_}
+use mathlib.Core.List.{List, [], _∷_, map}
+use native.Mathlib.Omega.{arith}
+use borrow.Author.Tests.{leb-true}
+use lib.ListN.{length, getD, take}
+use lib.Seq.{getD-take}
+use Rattle.rules.specs.declared.Table.{Table}
+use Rattle.rules.specs.declared.Check.the-variants.{Passed}
+use Rattle.rules.specs.declared.Planned.the-variants.{Ordered}
+use Rattle.rules.specs.declared.Planning.{Planning}
+use Rattle.rules.specs.Rows.{at, rowsOf, deadlineOf}
+use Rattle.rules.specs.Tables.{Accepted}
+use Rattle.rules.specs.Orders.{isOrder, checkOrder, checkBoth}
+use Rattle.rules.specs.Correct.{Correct}
+use Rattle.rules.specs.Worst.{worstFinish, meets}
+use Rattle.rules.specs.Choice.{padded}
+use Rattle.rules.specs.Numbers.{plannedNumber}
+use Rattle.rules.specs.Program.{line, placeLine}
+use Rattle.theory.specs.Counts.{In, in-head, in-tail, same-size}
+use Rattle.theory.specs.Facts.{Row, rows-in, facts}
+use Rattle.theory.specs.Places.{length-rows, order-rows}
+use Rattle.theory.specs.Verdict.{all-meet}
+use Rattle.worst.specs.Padded.{padded-at}
+use Rattle.planner.specs.Promise.{Promise}
+
+-- an accepted table and a correct order of it
+pub record Right (t : Table) (o : List ℕ) : Type 0 where
+  pub accepted : Accepted t
+  pub order : isOrder t o ≡ true
+  pub correct : Correct t o
+
+-- the same with each row's worst finish, in slots
+pub record Timed (t : Table) (o finishes : List ℕ) : Type 0 where
+  pub right : Right t o
+  pub worst : finishes ≡ padded (map (worstFinish t o) (rowsOf t))
+
+entry-in : (l : List ℕ) (k : ℕ) → k < length l → In (getD l k 0) l
+entry-in [] k h = absurd (omega arith)
+entry-in (x ∷ l) zero h = in-head x l
+entry-in (x ∷ l) (suc k) h = in-tail (getD l k 0) x l (entry-in l k (omega arith))
+
+-- checks 3 to 6 pass
+pub both-pass : (t : Table) (o : List ℕ) → Right t o → checkBoth t o ≡ Passed
+unfolding checkBoth checkOrder
+both-pass t o r = rw (r .accepted, r .order)
+
+-- at most 64 rows
+pub few : (t : Table) (o : List ℕ) → Right t o → t .n ≤ 64
+few t o r = facts t (r .accepted) .few
+
+-- a planning of number 0
+pub ordered-right : (t : Table) (r : Planning) → Accepted t → Promise t r → r .answer ≡ Ordered → Right t (r .order)
+unfolding plannedNumber
+ordered-right t r a p e =
+    let q = p .right (ap plannedNumber e) in
+    record { accepted = a; order = q .0; correct = q .1 }
+
+module _ (t : Table) (o finishes : List ℕ) (timed : Timed t o finishes) where
+  -- the row at a place
+  pub place-row : (k : ℕ) → 1 ≤ k → k ≤ t .n → Row t (at o k)
+  place-row k a b =
+      let s = order-rows t o (timed .right .order) in
+      let l : length (take (t .n) o) ≡ t .n = sym (same-size (rowsOf t) (take (t .n) o) s) ∙ length-rows (t .n) in
+      let i : In (getD (take (t .n) o) (k - 1) 0) (take (t .n) o) = entry-in (take (t .n) o) (k - 1) (omega arith) in
+      let j : In (at o k) (take (t .n) o) = rw (getD-take (t .n) o (k - 1) 0 (omega arith)) at i in
+      rows-in t (at o k) (omega (arith, s (at o k)))
+
+  pub finish-is : (i : ℕ) → Row t i → at finishes i ≡ worstFinish t o i
+  finish-is i r = rw (timed .worst) (padded-at (worstFinish t o) (t .n) i (r .from) (r .upTo) (few t o (timed .right)))
+
+  pub in-time : (i : ℕ) → Row t i → at finishes i ≤ deadlineOf t i
+  unfolding meets
+  in-time i r =
+      omega (arith, finish-is i r, leb-true (worstFinish t o i) (deadlineOf t i) (all-meet t (facts t (timed .right .accepted)) o (timed .right .order) (timed .right .correct) i r))
+
+  -- the line of a place, from its row's deadline and worst finish
+  pub place-line : (k due finish : ℕ) → 1 ≤ k → k ≤ t .n → due ≡ deadlineOf t (at o k) → finish ≡ at finishes (at o k)
+      → line (k ∷ at o k ∷ (due - finish) ∷ []) ≡ placeLine t o k
+  unfolding placeLine
+  place-line k due finish a b d f =
+      let e : finish ≡ worstFinish t o (at o k) = f ∙ finish-is (at o k) (place-row k a b) in
+      rw (d, e)

@@ -1,0 +1,146 @@
+// The text that the planning program writes for a sheet: lines of 8-byte fields, each line ended by byte 10.
+// Each function writes from a byte of the text on and answers the byte after what it wrote.
+ghost use mathlib.Core.Path.{_≡_};
+ghost use mathlib.Core.List.{[], _∷_};
+ghost use Prim.Native.Nat.{_+_, _*_, _≤_, _<_};
+ghost use lib.ListN.{length, take};
+ghost use Rattle.rules.specs.Fields.{written};
+ghost use Rattle.rules.specs.Lists.{rowsTo};
+ghost use Rattle.rules.specs.Tables.{Accepted};
+ghost use Rattle.rules.specs.Sheets.{readOf};
+ghost use Rattle.rules.specs.Choice.{planOf};
+ghost use Rattle.rules.specs.Program.{line, placeLine, placeLines, planText};
+ghost use Rattle.text.specs.Wrote.{Wrote};
+ghost use Rattle.text.specs.Slacks.{Right, Timed};
+ghost use Rattle.text.specs.Answers.{Answered};
+use rules::Check;
+use rules::Planned;
+use rules::Reading;
+use rules::Table;
+
+// The greatest number of bytes kept of an input: one more than the longest sheet has.
+const KEPT: usize = 2138;
+
+// One byte.
+fn put_byte(out: &mut [u8], at: usize, byte: u8) -> usize
+    requires { ⌜ at < length (now out) ⌝ }
+    ensures { λ r. ⌜ Wrote (now (out .entry)) at (now (out .exit)) r (byte ∷ []) ⌝ }
+{
+    out[at] = byte;
+    at + 1
+}
+
+// A number as a field.
+fn put_field(out: &mut [u8], at: usize, value: u32) -> usize
+    requires { ⌜ at + 8 ≤ length (now out) ⌝ }
+    ensures { λ r. ⌜ Wrote (now (out .entry)) at (now (out .exit)) r (written value) ⌝ }
+{
+    let field = sheet::written(value);
+    let mut i: usize = 0;
+    while i < 8 {
+        out[at + i] = field[i];
+        i += 1;
+    }
+    at + 8
+}
+
+// A line of two fields.
+fn put_pair(out: &mut [u8], at: usize, first: u32, second: u32) -> usize
+    requires { ⌜ at + 17 ≤ length (now out) ⌝ }
+    ensures { λ r. ⌜ Wrote (now (out .entry)) at (now (out .exit)) r (line (first ∷ second ∷ [])) ⌝ }
+{
+    let after_first = put_field(out, at, first);
+    let after_second = put_field(out, after_first, second);
+    put_byte(out, after_second, 10)
+}
+
+// A line of three fields.
+fn put_triple(out: &mut [u8], at: usize, first: u32, second: u32, third: u32) -> usize
+    requires { ⌜ at + 25 ≤ length (now out) ⌝ }
+    ensures { λ r. ⌜ Wrote (now (out .entry)) at (now (out .exit)) r (line (first ∷ second ∷ third ∷ [])) ⌝ }
+{
+    let after_first = put_field(out, at, first);
+    put_pair(out, after_first, second, third)
+}
+
+// The line of a place, from 1: the place, its row, and that row's slack in slots. finishes has each row's worst finish.
+fn put_place(
+    out: &mut [u8],
+    at: usize,
+    t: Table,
+    order: [u8; 64],
+    finishes: [u32; 64],
+    place: u32,
+) -> usize
+    requires { ⌜ Timed t order finishes × (1 ≤ place) × (place ≤ t .n) × (at + 25 ≤ length (now out)) ⌝ }
+    ensures { λ r. ⌜ Wrote (now (out .entry)) at (now (out .exit)) r (placeLine t order place) ⌝ }
+{
+    let row = order[(place - 1) as usize];
+    let deadline = t.deadline;
+    let due = worst::entry(&deadline, row);
+    let finish = worst::entry(&finishes, row);
+    put_triple(out, at, place, row as u32, due - finish)
+}
+
+// The lines of all places, highest first.
+fn put_places(out: &mut [u8], at: usize, t: Table, order: [u8; 64], finishes: [u32; 64]) -> usize
+    requires { ⌜ Timed t order finishes × (at + 25 * t .n ≤ length (now out)) ⌝ }
+    ensures { λ r. ⌜ Wrote (now (out .entry)) at (now (out .exit)) r (placeLines t order (rowsTo (t .n))) ⌝ }
+{
+    let mut next = at;
+    let mut k: u32 = 0;
+    while k < t.n {
+        next = put_place(out, next, t, order, finishes, k + 1);
+        k += 1;
+    }
+    next
+}
+
+// The text for a correct order: 0 and n, then the places.
+fn put_order(out: &mut [u8], t: Table, order: [u8; 64]) -> usize
+    requires { ⌜ Right t order × (1617 ≤ length (now out)) ⌝ }
+    ensures { λ r. ⌜ Wrote (now (out .entry)) 0 (now (out .exit)) r (planText t order Planned.Ordered) ⌝ }
+{
+    let finishes = judge::worst_finishes(t, order);
+    let next = put_pair(out, 0, 0, t.n);
+    put_places(out, next, t, order, finishes)
+}
+
+// The text for an accepted table: its order, or how many rows are left.
+fn put_plan(out: &mut [u8], t: Table) -> usize
+    requires { ⌜ Accepted t × (1617 ≤ length (now out)) ⌝ }
+    ensures { λ r. ⌜ Wrote (now (out .entry)) 0 (now (out .exit)) r (planText t (planOf t .order) (planOf t .answer)) ⌝ }
+{
+    let planning = planner::plan(t);
+    let answer = planning.answer;
+    let order = planning.order;
+    match answer {
+        Planned::Ordered => put_order(out, t, order),
+        Planned::NoOrder(left) => put_pair(out, 0, 7, worst::how_many(left)),
+        Planned::Refused(why) => put_pair(out, 0, numbers::refusal_number(why), 0),
+    }
+}
+
+// What the bytes kept of an input say.
+fn read_kept(input: &[u8]) -> Reading
+    ensures { λ r. ⌜ r ≡ readOf (take 2138 (now (input .entry))) ⌝ }
+{
+    if input.len() <= KEPT {
+        return sheet::read(input);
+    }
+    sheet::read(&input[..KEPT])
+}
+
+// The program's text for any input, at the start of the lent bytes, and how many bytes it has. The bytes after it stay as they were.
+pub fn program(input: &[u8], out: &mut [u8]) -> usize
+    requires { ⌜ 1617 ≤ length (now out) ⌝ }
+    ensures { λ r. ⌜ Answered (now (input .entry)) (now (out .entry)) (now (out .exit)) r ⌝ }
+{
+    let reading = read_kept(input);
+    let check = reading.check;
+    let table = reading.table;
+    match check {
+        Check::Passed => put_plan(out, table),
+        Check::Refused(why) => put_pair(out, 0, numbers::refusal_number(why), 0),
+    }
+}
