@@ -2,3 +2,4 @@ pub mod Words
 pub mod Finishes
 pub mod Inverse
 pub mod Copies
+pub mod Zeros

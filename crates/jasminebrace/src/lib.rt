@@ -2,13 +2,15 @@
 // Times are in slots, work and supplies in work units, speeds in work units per slot. What is lent as & is only read, and
 // what is lent as &mut is written whole by every call, refusals included. A list is a pointer and its length.
 ghost use mathlib.Core.Path.{_≡_};
-ghost use Prim.Native.Nat.{_+_, _≤_};
-ghost use lib.ListN.{length};
+ghost use mathlib.Core.List.{_++_};
+ghost use Prim.Native.Nat.{_+_, _-_, _≤_};
+ghost use lib.ListN.{length, replicate};
 ghost use lib.Seq.{paste};
 ghost use Rattle.rules.specs.Choice.{planOf};
 ghost use Rattle.rules.specs.Judge.{judgeOf};
-ghost use Rattle.rules.specs.Numbers.{refusalNumber, checkNumber, plannedNumber, rowsLeft, verdictNumber, verdictYes, verdictRow, verdictSlack};
+ghost use Rattle.rules.specs.Numbers.{checkNumber, plannedNumber, rowsLeft, verdictNumber, verdictYes, verdictRow, verdictSlack};
 ghost use Rattle.rules.specs.Orders.{checkBoth};
+ghost use Rattle.rules.specs.Program.{programText};
 ghost use Rattle.rules.specs.Sheets.{readOf};
 ghost use Rattle.record.specs.Answers.{slotSaid, forwardSaid};
 ghost use Rattle.record.specs.Records.{freshOf, comingSlot, oneSlot, forwardOver};
@@ -314,4 +316,15 @@ pub extern "C" fn jb_forward(
     *state = state_words(reached);
     *worked = numbers.value;
     numbers.number
+}
+
+// Writes what the planning program writes for an input, zeros after it. Gives how many bytes that is.
+#[no_mangle]
+pub extern "C" fn jb_program(input: &[u8], text: &mut [u8; 1617]) -> u32
+    ensures { λ r. ⌜ (r ≡ length (programText (now (input .entry)))) × (now (text .exit) ≡ programText (now (input .entry)) ++ replicate (1617 - length (programText (now (input .entry)))) 0) ⌝ }
+{
+    let mut bytes = [0u8; 1617];
+    let size = text::program(input, &mut bytes);
+    *text = bytes;
+    size as u32
 }

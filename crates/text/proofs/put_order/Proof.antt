@@ -1,8 +1,8 @@
 -- The first line and then the places.
 use borrow.Author.Needs.{needs}
 use native.Mathlib.Omega.{arith}
+use Rattle.rules.specs.Fields.{written}
 use Rattle.text.specs.Wrote.{wrote-then}
-use Rattle.text.specs.Lines.{pair-long}
 use Rattle.text.specs.Slacks.{few, both-pass}
 use Rattle.text.proofs.put_order.Statement.{statement}
 use Rattle.text.proofs.put_order.Tie as tie
@@ -14,10 +14,11 @@ put-pair-requires : tie.Need-put-pair-requires
 put-pair-requires c κs = search needs
 
 put-places-requires : tie.Need-put-places-requires
+unfolding written
 put-places-requires c κs =
     let f = c .before .before .before .before .before in
     let s = f .before .before in
-    (record { right = s .pre .0; worst = f .worst-finishes .ensures }, omega (arith, pair-long 0 (s .args .t .n), few (s .args .t) (s .args .order) (s .pre .0)))
+    (record { right = s .pre .0; worst = f .worst-finishes .ensures }, omega (arith, few (s .args .t) (s .args .order) (s .pre .0)))
 
 same-length : tie.Need-same-length
 same-length c = search needs

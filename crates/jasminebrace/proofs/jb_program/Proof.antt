@@ -1,0 +1,27 @@
+-- The text is written over zeros, so that zeros stand after it.
+use borrow.Author.Needs.{needs}
+use mathlib.Core.List.{List, _++_}
+use mathlib.Core.Path.{ap, _∙_}
+use Prim.Native.Nat.{ℕ}
+use lib.ListN.{length}
+use Rattle.rules.specs.Program.{programText}
+use Rattle.jasminebrace.specs.Zeros.{drop-zeros}
+use Rattle.jasminebrace.proofs.jb_program.Statement.{statement}
+use Rattle.jasminebrace.proofs.jb_program.Tie as tie
+
+slice-aggregate-program : tie.Need-slice-aggregate-program
+slice-aggregate-program c = search needs
+
+program-requires : tie.Need-program-requires
+program-requires c κs = search needs
+
+cast-result : tie.Need-cast-result
+cast-result c = search needs
+
+returns : tie.Need-returns
+returns c =
+    let w = programText (c .before .before .before .before .args .input .now) in
+    (c .before .program .ensures .size, c .before .program .ensures .text ∙ ap (λ (l : List ℕ). w ++ l) (drop-zeros (length w) 1617))
+
+pub jb-program-spec : {M : Type 1} → statement M
+jb-program-spec = tie.close (tie.spec slice-aggregate-program program-requires cast-result returns)
