@@ -4,6 +4,7 @@ set -euo pipefail
 cd "$(dirname "$0")/.."
 
 rt staticlib jasminebrace
+rt check plan plan_cases >target/plan.log 2>&1 || { tail -n 30 target/plan.log; exit 1; }
 archive=target/staticlib/libjasminebrace.a
 built=$(mktemp -d)
 trap 'rm -rf "$built"' EXIT

@@ -21,9 +21,11 @@
 //! | `judge`   | the judge of orders                                          |
 //! | `sheet`   | the sheet's fields, its reader, and a writer for tests       |
 //! | `program` | the planning program from input bytes to output bytes        |
+//! | `cases`   | the tables and answers of document 01's cases                |
 //! | `random`  | a fixed-seed generator of numbers and tables for tests       |
 
 pub mod calls;
+pub mod cases;
 pub mod judge;
 pub mod order;
 pub mod plan;

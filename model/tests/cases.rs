@@ -2,8 +2,9 @@
 
 mod common;
 
-use common::{p1, p2, p3, p4, refused_verdict, row, table};
+use common::refused_verdict;
 use model::calls::LAST_CLOCK;
+use model::cases::{no_order, ordered, p1, p2, p3, p4, row, table, P1_TEXT};
 use model::judge::{judge, judge_table, Verdict};
 use model::order::{order_of, NO_ORDER};
 use model::plan::{passes_lowest, plan, slack, Plan};
@@ -13,26 +14,10 @@ use model::run::run;
 use model::sheet::{read_sheet, sheet_of, write_sheet};
 use model::table::{Row, Table};
 
-fn accepted(rows: &[u8]) -> Plan {
-    Plan {
-        number: 0,
-        order: order_of(rows),
-        left: 0,
-    }
-}
-
-fn no_order(left: u64) -> Plan {
-    Plan {
-        number: 7,
-        order: NO_ORDER,
-        left,
-    }
-}
-
 #[test]
 fn p1_order_and_slacks() {
     let order = order_of(&[1, 2, 3, 4]);
-    assert_eq!(plan(&p1()), accepted(&[1, 2, 3, 4]));
+    assert_eq!(plan(&p1()), ordered(&[1, 2, 3, 4]));
     let slacks: Vec<i64> = (1..=4).map(|row| slack(&p1(), &order, row)).collect();
     assert_eq!(slacks, [0, 2, 0, 0]);
     for latest in [2, 3] {
@@ -49,19 +34,12 @@ fn p1_order_and_slacks() {
 
 #[test]
 fn p1_program_text() {
-    let expected = concat!(
-        "       0       4\n",
-        "       1       1       0\n",
-        "       2       2       2\n",
-        "       3       3       0\n",
-        "       4       4       0\n",
-    );
-    assert_eq!(planning_program(&sheet_of(&p1())), expected.as_bytes());
+    assert_eq!(planning_program(&sheet_of(&p1())), P1_TEXT.as_bytes());
 }
 
 #[test]
 fn p2_order_of_the_paper() {
-    assert_eq!(plan(&p2()), accepted(&[3, 1, 2, 4]));
+    assert_eq!(plan(&p2()), ordered(&[3, 1, 2, 4]));
 }
 
 #[test]
@@ -79,14 +57,14 @@ fn p4_no_order() {
 #[test]
 fn p5_one_lo_row() {
     for degraded in 1..=3 {
-        assert_eq!(plan(&table(3, degraded, &[[0, 3, 1, 0]])), accepted(&[1]));
+        assert_eq!(plan(&table(3, degraded, &[[0, 3, 1, 0]])), ordered(&[1]));
         assert_eq!(plan(&table(3, degraded, &[[0, 4, 1, 0]])), no_order(1));
     }
 }
 
 #[test]
 fn p6_one_hi_row() {
-    assert_eq!(plan(&table(2, 2, &[[0, 2, 1, 1]])), accepted(&[1]));
+    assert_eq!(plan(&table(2, 2, &[[0, 2, 1, 1]])), ordered(&[1]));
     assert_eq!(plan(&table(2, 1, &[[0, 2, 1, 1]])), no_order(1));
 }
 
@@ -147,7 +125,7 @@ fn sixty_five_rows_are_refused() {
 #[test]
 fn deadline_one_million_and_one_more() {
     let last = table(1, 1, &[[0, 1_000_000, 1_000_000, 1]]);
-    assert_eq!(plan(&last), accepted(&[1]));
+    assert_eq!(plan(&last), ordered(&[1]));
     let program = planning_program(&sheet_of(&last));
     assert_eq!(program, b"       0       1\n       1       1       0\n");
 

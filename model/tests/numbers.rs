@@ -3,7 +3,8 @@
 
 mod common;
 
-use common::{p1, p3, refused_verdict, table};
+use common::refused_verdict;
+use model::cases::{p1, p3, table};
 use model::judge::judge_table;
 use model::order::{check_order, order_of, NO_ORDER};
 use model::plan::plan;

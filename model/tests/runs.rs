@@ -3,8 +3,9 @@
 
 mod common;
 
-use common::{all_rows, fresh, p1, p3, supplies, table, table_and_order, SMALL};
+use common::{all_rows, fresh, supplies, table_and_order, SMALL};
 use model::calls::{play_on_paper, Answer, Call, LAST_CLOCK};
+use model::cases::{p1, p3, table};
 use model::order::order_of;
 use model::plan::plan;
 use model::random::{table_in, Random};

@@ -1,9 +1,7 @@
 //! The sheet reader: the field rule, the order of its checks, damaged sheets and
 //! inputs longer than any sheet.
 
-mod common;
-
-use common::{p1, p2, row, table};
+use model::cases::{p1, p2, row, table};
 use model::program::{planning_program, KEPT};
 use model::random::{table_in, Random, Ranges};
 use model::sheet::{read_field, read_sheet, sheet_of, write_field, write_line, write_sheet};

@@ -2,8 +2,9 @@
 
 mod common;
 
-use common::{all_rows, fresh, supplies, table, table_and_order};
+use common::{all_rows, fresh, supplies, table_and_order};
 use model::calls::LAST_CLOCK;
+use model::cases::table;
 use model::order::order_of;
 use model::random::Random;
 use model::record::{Record, Unsound};

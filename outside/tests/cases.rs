@@ -1,31 +1,13 @@
 //! The cases of document 01 on the compiled library, with the answers that the
 //! document gives, and those it says are also run.
 
-mod common;
-
-use common::{p1, p3, row, table};
+use model::cases::{no_order, ordered, p1, p3, row, table};
 use model::judge::Verdict;
 use model::order::{order_of, NO_ORDER};
 use model::plan::Plan;
 use model::sheet::{sheet_of, write_sheet};
 use model::table::Table;
 use outside::library;
-
-fn ordered(rows: &[u8]) -> Plan {
-    Plan {
-        number: 0,
-        order: order_of(rows),
-        left: 0,
-    }
-}
-
-fn no_order(left: u64) -> Plan {
-    Plan {
-        number: 7,
-        order: NO_ORDER,
-        left,
-    }
-}
 
 fn refused(number: u32) -> Plan {
     Plan {

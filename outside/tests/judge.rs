@@ -3,9 +3,8 @@
 
 mod common;
 
-use common::{
-    any_order, for_each_small_table, large_table, small_table, spoil_table, table, Tally,
-};
+use common::{any_order, for_each_small_table, large_table, small_table, spoil_table, Tally};
+use model::cases::table;
 use model::judge::{judge, judge_table, Verdict};
 use model::order::{check_table_and_order, Order};
 use model::plan::worst_finish;

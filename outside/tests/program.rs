@@ -2,13 +2,16 @@
 
 mod common;
 
-use common::{large_table, p1, small_table, spoil_table, Tally};
+use common::{large_table, small_table, spoil_table, Tally};
+use model::cases::{p1, P1_TEXT};
 use model::program::{planning_program, KEPT};
 use model::random::Random;
 use model::sheet::{sheet_of, write_sheet};
 use model::table::{Row, Table};
 use outside::sheets::{easy, hard};
 use outside::{library, plain};
+use std::io::Write;
+use std::process::{Command, Stdio};
 
 /// The number in the first field of a text.
 fn number_of(text: &[u8]) -> u8 {
@@ -64,20 +67,63 @@ fn long(random: &mut Random, mut sheet: Vec<u8>) -> Vec<u8> {
     sheet
 }
 
+/// The sheet of a small table as it is, damaged, outside its limits, and with
+/// more bytes after it than the program keeps.
+fn small_sheets(random: &mut Random) -> [Vec<u8>; 4] {
+    let table = small_table(random);
+    let sheet = sheet_of(&table);
+    [
+        damaged(random, sheet.clone()),
+        refused_sheet(random, &table),
+        long(random, sheet.clone()),
+        sheet,
+    ]
+}
+
 #[test]
 fn small_sheets_against_the_model() {
     let mut random = Random::seeded(601);
     let mut tally = Tally::new("program, small sheets");
     compare_with_model(b"", &mut tally);
     for _ in 0..4_000 {
-        let table = small_table(&mut random);
-        let sheet = sheet_of(&table);
-        compare_with_model(&sheet, &mut tally);
-        compare_with_model(&damaged(&mut random, sheet.clone()), &mut tally);
-        compare_with_model(&refused_sheet(&mut random, &table), &mut tally);
-        compare_with_model(&long(&mut random, sheet), &mut tally);
+        for input in small_sheets(&mut random) {
+            compare_with_model(&input, &mut tally);
+        }
     }
     tally.assert_common(&[0, 1, 2, 3, 4, 5, 7], 500);
+}
+
+/// What the planning program itself writes for this standard input.
+fn plan(input: &[u8]) -> Vec<u8> {
+    let program = concat!(env!("CARGO_MANIFEST_DIR"), "/../target/bin/plan");
+    let mut child = Command::new(program)
+        .stdin(Stdio::piped())
+        .stdout(Stdio::piped())
+        .spawn()
+        .expect("the planning program is built");
+    // It may end before a long input is written whole: what it keeps is enough.
+    let _ = child.stdin.take().expect("a pipe").write_all(input);
+    child.wait_with_output().expect("its output").stdout
+}
+
+#[test]
+fn the_program_itself_against_the_model() {
+    let mut random = Random::seeded(603);
+    let mut tally = Tally::new("the planning program itself");
+    assert_eq!(plan(b""), planning_program(b""));
+    for _ in 0..2_500 {
+        for input in small_sheets(&mut random) {
+            let text = plan(&input);
+            assert_eq!(text, planning_program(&input), "{input:?}");
+            tally.saw(number_of(&text));
+        }
+    }
+    for n in (4..=64).step_by(4) {
+        for sheet in [sheet_of(&easy(n)), sheet_of(&hard(n))] {
+            assert_eq!(plan(&sheet), plain::program(&sheet));
+        }
+    }
+    tally.assert_common(&[0, 1, 2, 3, 4, 5, 7], 250);
 }
 
 #[test]
@@ -117,13 +163,6 @@ fn around_the_bytes_that_are_kept() {
 
 #[test]
 fn the_text_of_p1() {
-    let expected = concat!(
-        "       0       4\n",
-        "       1       1       0\n",
-        "       2       2       2\n",
-        "       3       3       0\n",
-        "       4       4       0\n",
-    );
-    assert_eq!(library::program(&sheet_of(&p1())), expected.as_bytes());
+    assert_eq!(library::program(&sheet_of(&p1())), P1_TEXT.as_bytes());
     assert_eq!(library::program(b""), b"       1       0\n");
 }

@@ -2,7 +2,8 @@
 
 mod common;
 
-use common::{p1, p3, row, Tally};
+use common::Tally;
+use model::cases::{p1, p3, row};
 use model::random::Random;
 use model::sheet::{read_sheet, sheet_of, write_line, write_sheet};
 use model::table::Table;

@@ -2,19 +2,18 @@
 -- Every name in it is a definition of document 01 or what a contract equates a function's result with: `planOf` is what the planner
 -- answers, `freshOf` the fresh record, `oneSlot` and `forwardOver` (in `makeAll`) the two run calls.
 use Prim.Native.Nat.{ℕ, _≤_}
-use mathlib.Core.Bool.{Bool, true, not}
+use mathlib.Core.Bool.{true, not}
 use mathlib.Core.Path.{_≡_}
 use mathlib.Core.List.{List}
 use lib.Dec.{eqb}
 use lib.ListN.{replicate}
-use Rattle.record.specs.declared.Run.{Run}
 use Rattle.record.specs.declared.FreshRun.{FreshRun}
 use Rattle.record.specs.Records.{stateOf, freshRun}
 use Rattle.rules.specs.declared.Table.{Table}
 use Rattle.rules.specs.declared.Check.the-variants.{Passed}
 use Rattle.rules.specs.declared.Planned.the-variants.{Ordered, NoOrder}
 use Rattle.rules.specs.declared.Planning.{Planning}
-use Rattle.rules.specs.Calls.{Call, Said, AllTold, tellAll, supplyAt}
+use Rattle.rules.specs.Calls.{Call, AllTold, tellAll, supplyAt}
 use Rattle.rules.specs.Choice.{choice, word}
 use Rattle.rules.specs.Correct.{KeptIn, Correct, Window}
 use Rattle.rules.specs.Lists.{all}

@@ -3,3 +3,7 @@ pub mod Paper
 pub mod Supplies
 pub mod Claim
 pub mod Proved
+pub mod Encoding
+pub mod Shown
+pub mod Reading
+pub mod Turns

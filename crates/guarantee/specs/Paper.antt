@@ -1,22 +1,17 @@
 -- From a fresh record on, the calls on the record say and leave what the run on paper says and leaves.
-use Prim.Native.Nat.{ℕ, zero, suc, _+_, _-_, _≤_, _<_, min}
-use mathlib.Core.Bool.{Bool, true, false, cond, not}
-use mathlib.Core.Path.{_≡_, refl, sym, ap, subst, _∙_}
-use mathlib.Core.List.{List, [], _∷_, _++_, append-assoc}
-use native.Mathlib.Omega.{arith}
-use lib.Dec.{ltb, eqb}
-use lib.ListN.{length, getD, drop, length-append}
-use borrow.Author.Tests.{lt-ltb, le-ltb}
-use Rattle.record.specs.declared.Run.{Run}
+use Prim.Native.Nat.{ℕ, _+_}
+use mathlib.Core.Bool.{true}
+use mathlib.Core.Path.{_≡_, refl}
+use mathlib.Core.List.{List, [], _∷_}
+use lib.Dec.{ltb}
 use Rattle.record.specs.Answers.{slotSaid, forwardSaid}
-use Rattle.record.specs.Records.{stateOf, recordOf, isSound, nextRun, chosenRow, oneSlot, workOn, forwardOver}
+use Rattle.record.specs.Records.{recordOf, isSound, nextRun, chosenRow, oneSlot, workOn, forwardOver}
 use Rattle.record.specs.Kept.{Sized, sized-kept, sound-kept}
 use Rattle.rules.specs.declared.Table.{Table}
-use Rattle.rules.specs.Calls.{lastClock, Call, one, forward, Said, Told, told, tellOne, tellForward, tell, AllTold, tellAll, suppliesOf, allSupplies, supplyAt}
-use Rattle.rules.specs.Slots.{State, fresh, chosen, slot, after}
-use Rattle.theory.specs.Tests.{by-bool, by-ltb}
-use Rattle.theory.specs.Cells.{clock-after}
-use Rattle.guarantee.specs.Playing.{Made, make, AllMade, makeAll}
+use Rattle.rules.specs.Calls.{lastClock, Call, one, forward, Told, tellOne, tellForward, tell, tellAll}
+use Rattle.rules.specs.Slots.{State, slot}
+use Rattle.theory.specs.Tests.{by-bool}
+use Rattle.guarantee.specs.Playing.{Made, make, makeAll}
 
 -- a record that holds this state
 pub record Holding (t : Table) (o : List ℕ) (s : State) : Type 0 where
@@ -62,4 +57,4 @@ module _ (t : Table) (o : List ℕ) where
   pub calls-told : (cs : List Call) (s : State) → Holding t o s → makeAll cs (recordOf t o s) ≡ record { said = tellAll t o cs s .said; run = recordOf t o (tellAll t o cs s .state) }
   unfolding makeAll tellAll
   calls-told [] s h = refl
-  calls-told (c ∷ cs) s h = rw (call-told c s h, calls-told cs (tell t o c s .state) (call-holds c s h))
+  calls-told (c ∷ cs) s h = simp (call-told c s h, calls-told cs (tell t o c s .state) (call-holds c s h))

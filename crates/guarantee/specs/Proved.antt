@@ -1,18 +1,14 @@
 -- Demand 3, the theorem: the claim holds of every accepted table and every list of calls.
-use Prim.Native.Nat.{ℕ, zero, suc, _+_, _≤_, _<_}
-use mathlib.Core.Bool.{Bool, true, false, cond, not, _&&_}
-use mathlib.Core.Path.{_≡_, refl, sym, ap, subst, _∙_}
+use Prim.Native.Nat.{ℕ, _+_, _≤_}
+use mathlib.Core.Bool.{Bool, true, not}
+use mathlib.Core.Path.{_≡_, refl, sym, ap, subst}
 use mathlib.Core.List.{List, [], _∷_}
 use native.Mathlib.Omega.{arith}
 use lib.Dec.{ltb, eqb}
 use borrow.Author.Tests.{ne-eqb}
-use lib.IntN.{pos}
 use lib.ListN.{length, replicate}
-use lib.Signed.{ltZ}
-use Rattle.record.specs.declared.Run.{Run}
-use Rattle.record.specs.declared.FreshRun.{FreshRun}
 use Rattle.record.specs.Fresh.{fresh-sound, fresh-sized}
-use Rattle.record.specs.Records.{stateOf, recordOf, freshRun, freshOf}
+use Rattle.record.specs.Records.{recordOf, freshRun, freshOf}
 use Rattle.rules.specs.declared.Table.{Table}
 use Rattle.rules.specs.declared.Check.the-variants.{Passed}
 use Rattle.rules.specs.declared.Planned.the-variants.{Ordered, NoOrder}
@@ -23,15 +19,15 @@ use Rattle.rules.specs.Correct.{KeptIn, Correct, Window}
 use Rattle.rules.specs.Lists.{all}
 use Rattle.rules.specs.Orders.{isOrder, checkOrder, checkBoth}
 use Rattle.rules.specs.Rows.{isRow, deadlineOf}
-use Rattle.rules.specs.Slots.{State, fresh, slot, after}
-use Rattle.rules.specs.Tables.{Accepted, checkTable}
-use Rattle.rules.specs.Worst.{worstSpeed, slack}
+use Rattle.rules.specs.Slots.{State, fresh, slot}
+use Rattle.rules.specs.Tables.{Accepted}
+use Rattle.rules.specs.Worst.{worstSpeed}
 use Rattle.theory.specs.Counts.{In, in-head}
 use Rattle.theory.specs.Results.{sustainable-worst, verdict, choice-order, choice-correct, choice-none}
 use Rattle.theory.specs.Tests.{by-bool, and-both}
-use Rattle.guarantee.specs.Playing.{AllMade, makeAll}
+use Rattle.guarantee.specs.Playing.{makeAll}
 use Rattle.guarantee.specs.Claim.{HasCorrect, paper, Run-right, Demand3}
-use Rattle.guarantee.specs.Paper.{Holding, calls-told}
+use Rattle.guarantee.specs.Paper.{calls-told}
 use Rattle.guarantee.specs.Supplies.{paper-run}
 
 -- the paper's numbers are 0 and 8

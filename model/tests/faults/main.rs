@@ -2,12 +2,10 @@
 //! the smallest tables on which that planner and the true one differ. Run with
 //! `--nocapture` to read the tables.
 
-#[path = "../common/mod.rs"]
-mod common;
 mod planners;
 mod search;
 
-use common::{p1, table as table_of};
+use model::cases::{p1, table as table_of};
 use model::order::{order_of, NO_ORDER};
 use model::plan::{plan, word_of, Plan};
 use model::table::Table;

@@ -3,6 +3,7 @@
 
 pub mod records;
 
+use model::cases::row;
 use model::order::{check_order, Order, NO_ORDER};
 use model::random::{table_in, Random, Ranges};
 use model::table::{Row, Table, ROWS};
@@ -41,37 +42,6 @@ impl<Kind: Ord + Debug> Drop for Tally<Kind> {
         let total: u64 = self.seen.values().sum();
         println!("{}: {total} cases, by answer {:?}", self.of, self.seen);
     }
-}
-
-/// A row from its figures: a (slots), c (work units), d (slots), level.
-pub fn row(figures: [u32; 4]) -> Row {
-    let [release, work, deadline, level] = figures;
-    Row {
-        release,
-        work,
-        deadline,
-        level,
-    }
-}
-
-/// A table from N, G (work units per slot) and its rows' figures.
-pub fn table(normal: u32, degraded: u32, rows: &[[u32; 4]]) -> Table {
-    let rows: Vec<Row> = rows.iter().map(|&figures| row(figures)).collect();
-    Table::of(normal, degraded, &rows)
-}
-
-/// Case P1 of document 01.
-pub fn p1() -> Table {
-    table(
-        5,
-        2,
-        &[[0, 20, 10, 1], [5, 15, 10, 0], [5, 11, 19, 1], [0, 5, 5, 0]],
-    )
-}
-
-/// Case P3 of document 01; P7 and P8 run it.
-pub fn p3() -> Table {
-    table(2, 1, &[[0, 2, 2, 0], [0, 4, 4, 1]])
 }
 
 /// Calls `with` on every table of one to three rows whose figures come from a

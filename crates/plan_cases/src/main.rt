@@ -1,0 +1,36 @@
+// Stored cases of the planning program: for each sheet in data/ its name and what the planning program writes for it.
+
+// One sheet.
+fn show(name: &[u8]) {
+    let file = os::open_read(name);
+    if file < 0 {
+        os::fail(name);
+        return;
+    }
+    let mut sheet = [0u8; 2138];
+    let kept = io::read_full(file, &mut sheet);
+    libc::close(file);
+    io::write_all(1, name);
+    io::write_all(1, b"\n");
+    let mut out = [0u8; 1617];
+    let size = text::program(&sheet[..kept], &mut out);
+    io::write_all(1, &out[..size]);
+}
+
+fn main() {
+    show(b"p1");
+    show(b"p2");
+    show(b"no_order");
+    show(b"rows64");
+    show(b"long");
+    show(b"empty");
+    show(b"short");
+    show(b"trailing");
+    show(b"leading_zero");
+    show(b"malformed_row");
+    show(b"count");
+    show(b"speeds");
+    show(b"release");
+    show(b"level");
+    show(b"deadline");
+}
