@@ -320,6 +320,21 @@ static void try_plan(void) {
     }
 }
 
+/* The judge over the same rows as a list, as many as the table says up to all it has, says the same of rows that it takes. */
+static void try_judge_list(const jb_table *table, const uint8_t *order, uint32_t number, uint32_t yes, uint32_t row, int32_t slack) {
+    jb_row rows[JB_ROWS];
+    size_t count = table->n < JB_ROWS ? table->n : JB_ROWS;
+    for (size_t i = 0; i < count; i++) {
+        rows[i] = (jb_row){table->release[i], table->work[i], table->deadline[i], table->level[i]};
+    }
+    uint32_t list_yes, list_row;
+    int32_t list_slack;
+    uint32_t list_number = jb_judge_list(rows, count, table->normal, table->degraded, order, &list_yes, &list_row, &list_slack);
+    if (number == JB_OK) {
+        expect(list_number == JB_OK && list_yes == yes && list_row == row && list_slack == slack, "the judge says the same of a list");
+    }
+}
+
 static void try_judge(void) {
     const jb_table *table = (const jb_table *)table_at.start;
     const uint8_t *order = order_at.start;
@@ -333,6 +348,7 @@ static void try_judge(void) {
     expect_guards(&word_at);
     expect_guards(&row_at);
     expect_guards(&slack_at);
+    try_judge_list(table, order, number, *yes, *row, *slack);
     uint32_t *finishes = (uint32_t *)place(&out_at, JB_ROWS * sizeof *finishes);
     uint32_t other = jb_worst_finishes(table, order, finishes);
     count(FINISHES, other, "03456");

@@ -62,6 +62,14 @@ enum {
     JB_UNSOUND = 9       /* the record cannot come from a run, so its memory was damaged: drop it and begin with a fresh record */
 };
 
+/* A row by itself, for a list of rows. */
+typedef struct {
+    uint32_t release;  /* first slot in which the row may run, below its deadline */
+    uint32_t work;     /* 1 to 1,000,000 work units */
+    uint32_t deadline; /* at most 1,000,000 slots */
+    uint32_t level;    /* JB_LO or JB_HI */
+} jb_row;
+
 /* A table of n rows. Row i is at index i - 1 of every column; the entries after row n are 0. */
 typedef struct {
     uint32_t n;                 /* rows, 1 to 64 */
@@ -83,6 +91,7 @@ typedef struct {
     uint32_t closing[JB_ROWS]; /* closing slot of each row, 0 while it is open */
 } jb_run;
 
+static_assert(sizeof(jb_row) == 16, "a row is four words without gaps");
 static_assert(sizeof(jb_table) == 1036, "a table is 259 words without gaps");
 static_assert(sizeof(jb_table) == 4 * JB_TABLE_WORDS, "a table is 259 words without gaps");
 static_assert(offsetof(jb_table, n) == 0, "the row count is word 0 of a table");
@@ -109,6 +118,7 @@ static_assert(sizeof(jb_run) - offsetof(jb_run, clock) == 4 * JB_STATE_WORDS, "a
 uint32_t jb_read(const uint8_t *sheet, size_t length, uint32_t table[259]);
 uint32_t jb_plan(const uint32_t table[259], uint8_t order[64], uint64_t *left);
 uint32_t jb_judge(const uint32_t table[259], const uint8_t order[64], uint32_t *yes, uint32_t *row, int32_t *slack);
+uint64_t jb_judge_rows(const jb_row *rows, size_t count, uint32_t normal, uint32_t degraded, const uint8_t order[64]);
 uint32_t jb_finishes(const uint32_t table[259], const uint8_t order[64], uint32_t finishes[64]);
 uint32_t jb_fresh(const uint32_t table[259], const uint8_t order[64], uint32_t run_table[259], uint8_t run_order[64],
                   uint32_t run_state[193]);
@@ -177,6 +187,22 @@ static inline uint32_t jb_plan_table(const jb_table *table, uint8_t order[JB_ROW
 static inline uint32_t jb_judge_order(const jb_table *table, const uint8_t order[JB_ROWS], uint32_t *yes, uint32_t *row,
                                       int32_t *slack) {
     return jb_judge(jb_table_words(table), order, yes, row, slack);
+}
+
+/*
+ * Judges an order of rows that stand in a list, as many as there are.
+ * In:      count rows, the speeds in work units per slot, and an order, any values.
+ * Out:     as jb_judge_order.
+ * Refused: as jb_judge_order; an empty list, and one of more than 64 rows, by 3.
+ */
+static inline uint32_t jb_judge_list(const jb_row *rows, size_t count, uint32_t normal, uint32_t degraded,
+                                     const uint8_t order[JB_ROWS], uint32_t *yes, uint32_t *row, int32_t *slack) {
+    const uint64_t packed = jb_judge_rows(rows, count, normal, degraded, order);
+    const uint32_t bits = (uint32_t)(packed >> 16);
+    *yes = (uint32_t)(packed >> 4 & 1);
+    *row = (uint32_t)(packed >> 5 & 127);
+    *slack = bits <= INT32_MAX ? (int32_t)bits : -(int32_t)(UINT32_MAX - bits) - 1;
+    return (uint32_t)(packed & 15);
 }
 
 /*

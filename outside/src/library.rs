@@ -5,12 +5,14 @@
 //! compared with what it was, since "lent rows, sheets and supplies are never
 //! written".
 
-use crate::raw::{self, Finishes, StateWords, TableWords, STATE_WORDS, TABLE_WORDS, TEXT};
+use crate::raw::{
+    self, Finishes, RowWords, StateWords, TableWords, STATE_WORDS, TABLE_WORDS, TEXT,
+};
 use model::judge::Verdict;
 use model::order::Order;
 use model::plan::Plan;
 use model::record::{Forward, OneSlot, Record};
-use model::table::{Table, ROWS};
+use model::table::{Row, Table, ROWS};
 
 const RUBBISH: u32 = 0xA5A5_A5A5;
 const RUBBISH_BYTE: u8 = 0xA5;
@@ -52,6 +54,23 @@ pub fn judge(table: &Table, order: &Order) -> Verdict {
         number,
         yes: yes == 1,
         row: row_number(row),
+        slack: i64::from(slack),
+    }
+}
+
+/// The judge over a list of rows, any number of them.
+pub fn judge_rows(normal: u32, degraded: u32, rows: &[Row], order: &Order) -> Verdict {
+    let words = |row: &Row| [row.release, row.work, row.deadline, row.level];
+    let lent: Vec<RowWords> = rows.iter().map(words).collect();
+    let before = lent.clone();
+    // SAFETY: as in `read`.
+    let packed = unsafe { raw::jb_judge_rows(lent.as_ptr(), lent.len(), normal, degraded, order) };
+    assert_eq!(lent, before, "the rows are only lent");
+    let slack = (packed >> 16) as u32 as i32;
+    Verdict {
+        number: (packed & 15) as u32,
+        yes: packed >> 4 & 1 == 1,
+        row: row_number((packed >> 5 & 127) as u32),
         slack: i64::from(slack),
     }
 }

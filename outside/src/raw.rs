@@ -16,6 +16,9 @@ pub const TEXT: usize = 1_617;
 
 pub type TableWords = [u32; TABLE_WORDS];
 pub type StateWords = [u32; STATE_WORDS];
+
+/// A row as the library takes it: release, work, deadline, level.
+pub type RowWords = [u32; 4];
 pub type Finishes = [u32; ROWS];
 
 extern "C" {
@@ -28,6 +31,13 @@ extern "C" {
         row: *mut u32,
         slack: *mut i32,
     ) -> u32;
+    pub fn jb_judge_rows(
+        rows: *const RowWords,
+        count: usize,
+        normal: u32,
+        degraded: u32,
+        order: *const Order,
+    ) -> u64;
     pub fn jb_finishes(
         table: *const TableWords,
         order: *const Order,

@@ -6,10 +6,10 @@ mod common;
 use common::{any_order, for_each_small_table, large_table, small_table, spoil_table, Tally};
 use model::cases::table;
 use model::judge::{judge, judge_table, Verdict};
-use model::order::{check_table_and_order, Order};
+use model::order::{check_table_and_order, order_of, Order};
 use model::plan::worst_finish;
 use model::random::Random;
-use model::table::{Table, ROWS};
+use model::table::{Row, Table, ROWS};
 use outside::sheets::{largest, random_order};
 use outside::{library, plain};
 
@@ -174,4 +174,38 @@ fn largest_works() {
     let order = model::order::order_of(&[1]);
     compare_with_model(&idle, &order, &mut tally);
     assert_eq!(library::judge(&idle, &order).slack, 999_999);
+}
+
+/// Lists of 0, 1, 64, 65 and 1,000 rows, and of every length between, as the
+/// judge borrows them.
+#[test]
+fn lists_of_rows() {
+    let mut random = Random::seeded(505);
+    let mut tally = Tally::new("judge, lists of rows");
+    let mut compare = |normal, degraded, rows: &[Row], order: &Order| {
+        let verdict = judge(normal, degraded, rows, order);
+        let found = library::judge_rows(normal, degraded, rows, order);
+        assert_eq!(found, verdict, "{rows:?} {order:?}");
+        tally.saw(said(&verdict));
+    };
+    for _ in 0..20_000 {
+        let table = small_table(&mut random);
+        let order = any_order(&mut random, table.n, 4);
+        compare(table.normal, table.degraded, &table.rows(), &order);
+    }
+    let row = |index: u32| Row {
+        release: index % 3,
+        work: 1 + index % 5,
+        deadline: 200 + index % 50,
+        level: index % 2,
+    };
+    let rows: Vec<Row> = (0..1_000).map(row).collect();
+    for n in (0..=66).chain([100, 1_000]) {
+        let places: Vec<u8> = (1..=n.min(ROWS) as u8).rev().collect();
+        compare(5, 2, &rows[..n], &order_of(&places));
+        compare(2, 5, &rows[..n], &order_of(&places));
+    }
+    tally.assert_common(&[Said::Yes, Said::No, Said::Refused(6)], 1_000);
+    tally.assert_common(&[Said::Refused(3)], 8);
+    tally.assert_common(&[Said::Refused(4)], 60);
 }

@@ -3,3 +3,4 @@ pub mod Finishes
 pub mod Inverse
 pub mod Copies
 pub mod Zeros
+pub mod Packed

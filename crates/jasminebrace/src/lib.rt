@@ -3,11 +3,13 @@
 // what is lent as &mut is written whole by every call, refusals included. A list is a pointer and its length.
 ghost use mathlib.Core.Path.{_≡_};
 ghost use mathlib.Core.List.{_++_};
+ghost use mir.Syntax.{w32};
+ghost use mir.Val.{ofZ};
 ghost use Prim.Native.Nat.{_+_, _-_, _≤_};
 ghost use lib.ListN.{length, replicate};
 ghost use lib.Seq.{paste};
 ghost use Rattle.rules.specs.Choice.{planOf};
-ghost use Rattle.rules.specs.Judge.{judgeOf};
+ghost use Rattle.rules.specs.Judge.{judgeOf, tableOf};
 ghost use Rattle.rules.specs.Numbers.{checkNumber, plannedNumber, rowsLeft, verdictNumber, verdictYes, verdictRow, verdictSlack};
 ghost use Rattle.rules.specs.Orders.{checkBoth};
 ghost use Rattle.rules.specs.Program.{programText};
@@ -16,8 +18,10 @@ ghost use Rattle.record.specs.Answers.{slotSaid, forwardSaid};
 ghost use Rattle.record.specs.Records.{freshOf, comingSlot, oneSlot, forwardOver};
 ghost use Rattle.jasminebrace.specs.Words.{columnAt, tableIn, wordsOf, runIn, stateWords};
 ghost use Rattle.jasminebrace.specs.Finishes.{finishesOf, yesWord};
+ghost use Rattle.jasminebrace.specs.Packed.{packedOf};
 use record::Run;
 use rules::Check;
+use rules::Row;
 use rules::Table;
 use rules::Verdict;
 
@@ -159,6 +163,31 @@ fn verdict_numbers(verdict: Verdict) -> VerdictNumbers
     }
 }
 
+// The 32 bits of a slack in slots, two's complement.
+fn slack_bits(slack: i32) -> u32
+    ensures { λ r. ⌜ r ≡ ofZ w32 slack ⌝ }
+{
+    if slack < 0 {
+        let below = -1 - slack;
+        4294967295 - below as u32
+    } else {
+        slack as u32
+    }
+}
+
+// A verdict in one word: number, 16 times yes, 32 times the row of least slack, 65536 times the 32 bits of that slack in slots.
+fn packed(verdict: Verdict) -> u64
+    ensures { λ r. ⌜ r ≡ packedOf verdict ⌝ }
+{
+    let numbers = verdict_numbers(verdict);
+    let slack = numbers.slack;
+    let bits = slack_bits(slack);
+    numbers.number as u64
+        + 16 * (numbers.yes as u64)
+        + 32 * (numbers.row as u64)
+        + 65536 * (bits as u64)
+}
+
 // Reads a sheet into the words of a table, all zero on a refusal. Gives the number of the sheet's checks.
 #[no_mangle]
 pub extern "C" fn jb_read(sheet: &[u8], table: &mut [u32; 259]) -> u32
@@ -206,6 +235,16 @@ pub extern "C" fn jb_judge(
     *row = numbers.row;
     *slack = least;
     numbers.number
+}
+
+// Judges an order of lent rows and two speeds, in work units per slot. Gives the verdict in one word, as specs/Packed says.
+#[no_mangle]
+pub extern "C" fn jb_judge_rows(rows: &[Row], normal: u32, degraded: u32, order: &[u8; 64]) -> u64
+    ensures { λ r. ⌜ r ≡ packedOf (judgeOf (tableOf (now (rows .entry)) normal degraded) (now (order .entry))) ⌝ }
+{
+    let placed = *order;
+    let verdict = judge::judge(rows, normal, degraded, placed);
+    packed(verdict)
 }
 
 // The worst finish of each row under an order, in slots, zeros after row n. All zero on a refusal of checks 3 to 6.

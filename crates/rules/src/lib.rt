@@ -2,6 +2,7 @@
 // What they mean stands in specs/; this file has no function. Rows count from 1.
 
 // A job: release and deadline in slots, work in work units, level 0 (LO) or 1 (HI).
+#[repr(C)]
 pub struct Row {
     pub release: u32,
     pub work: u32,
