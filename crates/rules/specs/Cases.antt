@@ -1,14 +1,16 @@
 -- The cases P1 to P8 of document 01 as one table, computed from the definitions and checked by one theorem,
 -- with cases of our own beside them that tell each plausible fault from the truth.
-use Prim.Native.Nat.{ℕ, suc}
+use Prim.Native.Nat.{ℕ, suc, _≤_, _<_}
 use mathlib.Core.Bool.{Bool, true, false, not, _&&_}
 use mathlib.Core.List.{List, [], _∷_, _++_, map}
+use native.Mathlib.Omega.{arith}
 use lib.Dec.{T, eqb, ltb}
 use lib.IntN.{ℤ, pos, negsuc}
 use lib.ListN.{replicate}
 use Rattle.rules.specs.declared.Row.{Row}
 use Rattle.rules.specs.declared.Table.{Table}
 use Rattle.rules.specs.Calls.{tellForward}
+use Rattle.rules.specs.Correct.{Window}
 use Rattle.rules.specs.Choice.{planOf, padded, passes, sequence, choice, fill, taker, word}
 use Rattle.rules.specs.Judge.{tableOf, judgeOf, tightest}
 use Rattle.rules.specs.Lists.{all, same}
@@ -162,3 +164,7 @@ own =
 pub cases-hold : T (all holds (starred ++ own))
 unfolding planOf padded passes sequence choice fill taker word tableOf judgeOf tightest need refusalNumber checkNumber plannedNumber rowsLeft verdictNumber verdictYes verdictRow verdictSlack isOrder checkOrder checkBoth fresh isReady chosen isOver serve slot after rowOk tailOk checkTable horizon worstFinish slack meets tellForward
 cases-hold = tt
+
+-- supplies up to a job's deadline are its whole window: no later slot is asked for
+pub window-ends : (t : Table) (σ : ℕ → ℕ) (i s : ℕ) → ((u : ℕ) → u < deadlineOf t i → s ≤ σ u) → Window t σ i s
+window-ends t σ i s h u p q = h u (omega arith)

@@ -7,7 +7,7 @@
 -- `works` is what priority gives: while a row of the list is ready, the slot goes to a row of the list.
 -- A later rule (loading slots, late rows closed, a promised part, waits, a start at another clock) supplies these two facts for
 -- its own demand and its own `bring`, and the demand at the start; what follows below stays.
--- The instances in this crate are the step on paper at supplies of at least s (Sustain) and at exactly s (Exact).
+-- The instance in this crate is the step on paper at supplies of at least s work units (`slot-serves` in Sustain).
 use Prim.Native.Nat.{ℕ, zero, suc, _+_, _-_, _≤_, _<_}
 use mathlib.Core.Path.{_≡_, refl}
 use mathlib.Core.List.{List, [], _∷_}
