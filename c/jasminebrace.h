@@ -200,7 +200,7 @@ static inline uint32_t jb_judge_list(const jb_row *rows, size_t count, uint32_t 
     const uint64_t packed = jb_judge_rows(rows, count, normal, degraded, order);
     const uint32_t bits = (uint32_t)(packed >> 16);
     *yes = (uint32_t)(packed >> 4 & 1);
-    *row = (uint32_t)(packed >> 5 & 127);
+    *row = (uint32_t)(packed >> 5 & 255);
     *slack = bits <= INT32_MAX ? (int32_t)bits : -(int32_t)(UINT32_MAX - bits) - 1;
     return (uint32_t)(packed & 15);
 }

@@ -70,7 +70,7 @@ pub fn judge_rows(normal: u32, degraded: u32, rows: &[Row], order: &Order) -> Ve
     Verdict {
         number: (packed & 15) as u32,
         yes: packed >> 4 & 1 == 1,
-        row: row_number((packed >> 5 & 127) as u32),
+        row: row_number((packed >> 5 & 255) as u32),
         slack: i64::from(slack),
     }
 }
