@@ -1,9 +1,9 @@
-// The need of a job, and checks 3 to 6 on tables and orders.
+// The need of a job (rule 1.8), and checks 3 to 6 on tables and orders (section 5 of the rules).
 ghost use mathlib.Core.Path.{_≡_};
 ghost use mathlib.Core.Bool.{_&&_};
 ghost use Prim.Native.Nat.{ℕ, _≤_};
 ghost use lib.Dec.{eqb};
-ghost use lib.ListN.{getD, drop};
+ghost use lib.ListN.{length, getD, drop};
 ghost use Rattle.rules.specs.Lists.{all, allZero, count, rowsTo};
 ghost use Rattle.rules.specs.Need.{need};
 ghost use Rattle.rules.specs.Rows.{rowsOf};
@@ -65,41 +65,36 @@ fn rows_ok(t: Table) -> bool
     true
 }
 
-// The column's entries from index k on are all zero.
-fn zero_from(column: [u32; 64], k: usize) -> bool
-    requires { ⌜ k ≤ 64 ⌝ }
-    ensures { λ r. ⌜ r ≡ allZero (drop k column) ⌝ }
+// Whether the column's entries after row n are all zero.
+pub fn zero_after(n: u32, column: &[u32; 64]) -> bool
+    requires { ⌜ length (now column) ≡ 64 ⌝ }
+    ensures { λ b. ⌜ b ≡ allZero (drop n (now (column .entry))) ⌝ }
 {
-    let mut i: usize = k;
+    let mut i = n;
     while i < 64 {
-        if column[i] != 0 {
+        if column[i as usize] != 0 {
             return false;
         }
-        i += 1;
+        i = i + 1;
     }
     true
 }
 
-// The rows after the n-th are all zero.
+// No figure stands after row n (rule 5.4).
 fn tail_ok(t: Table) -> bool
-    requires { ⌜ t .n ≤ 64 ⌝ }
     ensures { λ r. ⌜ r ≡ tailOk t ⌝ }
 {
-    let n = t.n as usize;
-    let release = t.release;
-    let work = t.work;
-    let deadline = t.deadline;
-    let level = t.level;
-    if !zero_from(release, n) {
+    let n = t.n;
+    if !zero_after(n, &t.release) {
         return false;
     }
-    if !zero_from(work, n) {
+    if !zero_after(n, &t.work) {
         return false;
     }
-    if !zero_from(deadline, n) {
+    if !zero_after(n, &t.deadline) {
         return false;
     }
-    zero_from(level, n)
+    zero_after(n, &t.level)
 }
 
 // Checks 3, 4 and 5 on any table.

@@ -1,40 +1,39 @@
--- Demand 3, the statement: one claim about the table and the whole list of calls.
--- Every name in it is a definition of document 01 or what a contract equates a function's result with: `planOf` is what the planner
--- answers, `freshOf` the fresh record, `oneSlot` and `forwardOver` (in `makeAll`) the two run calls.
+-- The claim about a table and a whole list of calls (rules 9.5 to 9.12): one closed statement, `Demand3`, at the end of this file.
+-- Every name in it is a definition of the rules or what a contract equates a function's result with: `planOf` is what the planner answers,
+-- `freshOf` the fresh record, `oneSlot` and `forwardOver` (in `makeAll`) the two run calls.
 use Prim.Native.Nat.{ℕ, _≤_}
 use mathlib.Core.Bool.{true, not}
+use mathlib.Core.Logic.{_↔_}
 use mathlib.Core.Path.{_≡_}
-use mathlib.Core.List.{List}
+use mathlib.Core.List.{List, []}
 use lib.Dec.{eqb}
 use lib.ListN.{replicate}
-use Rattle.record.specs.declared.FreshRun.{FreshRun}
-use Rattle.record.specs.Records.{stateOf, freshRun}
+use Rattle.record.specs.Records.{stateOf, freshRun, freshOf}
 use Rattle.rules.specs.declared.Table.{Table}
 use Rattle.rules.specs.declared.Check.the-variants.{Passed}
-use Rattle.rules.specs.declared.Planned.the-variants.{Ordered, NoOrder}
-use Rattle.rules.specs.declared.Planning.{Planning}
 use Rattle.rules.specs.Calls.{Call, AllTold, tellAll, supplyAt}
-use Rattle.rules.specs.Choice.{choice, word}
-use Rattle.rules.specs.Correct.{KeptIn, Correct, Window}
+use Rattle.rules.specs.Choice.{choice, word, planFrom, planOf}
+use Rattle.rules.specs.Correct.{KeptIn, Correct, CorrectOrder, Window}
 use Rattle.rules.specs.Lists.{all}
 use Rattle.rules.specs.Orders.{isOrder}
 use Rattle.rules.specs.Rows.{isRow, deadlineOf}
-use Rattle.rules.specs.Slots.{fresh}
+use Rattle.rules.specs.Numbers.{plannedNumber, rowsLeft}
+use Rattle.rules.specs.Slots.{fresh, after}
+use Rattle.rules.specs.Tables.{Accepted}
 use Rattle.rules.specs.Worst.{worstSpeed}
-use Rattle.guarantee.specs.Playing.{AllMade}
+use Rattle.guarantee.specs.Playing.{AllMade, makeAll}
 
--- the table has a correct order
-abbrev pub HasCorrect : Table → Type 0
-HasCorrect t = (o : List ℕ) × (isOrder t o ≡ true) × Correct t o
-
--- the run on paper: fed table, order and calls, and nothing from the record
+-- the run on paper: fed table, order and calls, and nothing from the record (rule 9.6)
 abbrev pub paper : Table → List ℕ → List Call → AllTold
 paper t o cs = tellAll t o cs fresh
 
--- What the calls said and left is the run on paper's, field by field; 9 never comes up; and each row whose deadline the clock has reached
--- kept it, if each slot from the earliest release to that deadline supplied at least N (LO) or G (HI), whatever came later.
-pub record Run-right (t : Table) (o : List ℕ) (cs : List Call) (made : AllMade) : Type 0 where
+-- With an order of the table, what the calls said and left is the run on paper's, field by field (rule 9.10); 9 never comes up (rule 9.11);
+-- and under a correct order each row whose deadline the clock has reached kept it, if each slot of its window supplied at least
+-- N (LO) or G (HI), whatever came before and later (rule 9.12).
+pub record RunRight (t : Table) (o : List ℕ) (cs : List Call) (made : AllMade) : Type 0 where
   pub said : made .said ≡ paper t o cs .said
+  -- slot u of the run on paper takes the supply `supplyAt cs u` (rule 9.15)
+  pub taken : paper t o cs .state ≡ after t o (supplyAt cs) (paper t o cs .state .clock)
   pub clock : made .run .clock ≡ paper t o cs .state .clock
   pub got : made .run .got ≡ paper t o cs .state .got
   pub used : made .run .used ≡ paper t o cs .state .used
@@ -42,11 +41,26 @@ pub record Run-right (t : Table) (o : List ℕ) (cs : List Call) (made : AllMade
   pub table : made .run .table ≡ t
   pub order : made .run .order ≡ o
   pub no-nine : all (λ s. not (eqb (s .number) 9)) (made .said) ≡ true
-  pub kept : (i : ℕ) → isRow t i ≡ true → deadlineOf t i ≤ made .run .clock → Window t (supplyAt cs) i (worstSpeed t i) → KeptIn t (stateOf (made .run)) i
+  pub kept : Correct t o → (i : ℕ) → isRow t i ≡ true → deadlineOf t i ≤ made .run .clock
+      → Window t (supplyAt cs) i (worstSpeed t i) → KeptIn t (stateOf (made .run)) i
 
--- The planner answers `plan`; `start` is the fresh record with its order; the calls are made from there on.
-pub record Demand3 (t : Table) (cs : List Call) (plan : Planning) (start : FreshRun) (made : AllMade) : Type 0 where
-  pub found : HasCorrect t → (plan .answer ≡ Ordered) × (isOrder t (plan .order) ≡ true) × Correct t (plan .order)
-  pub none : (HasCorrect t → ⊥) → plan ≡ record { answer = NoOrder (word (choice t .left)); order = replicate 64 0 }
-  pub started : HasCorrect t → start ≡ record { check = Passed; run = freshRun t (plan .order) }
-  pub right : HasCorrect t → Run-right t (plan .order) cs made
+-- The claim of one table and one list of calls (rules 9.9 to 9.12).
+pub record Claim (t : Table) (cs : List Call) : Type 0 where
+  -- the plan is the one made from the choice: 0 with the order it made, or 7 with the rows it left (rules 4.6, 9.9)
+  pub plan : planOf t ≡ planFrom (choice t)
+  -- the table has a correct order exactly if the choice leaves no row (rules 4.10, 9.9)
+  pub exists : CorrectOrder t ↔ (choice t .left ≡ [])
+  -- then the planner's number is 0; else it is 7, with the rows left as a word and an order of zeros (rules 4.6, 4.8, 9.9)
+  pub zero : choice t .left ≡ [] → plannedNumber (planOf t .answer) ≡ 0
+  pub seven : (choice t .left ≡ [] → ⊥)
+      → (plannedNumber (planOf t .answer) ≡ 7) × (rowsLeft (planOf t .answer) ≡ word (choice t .left)) × (planOf t .order ≡ replicate 64 0)
+  -- with 0 the order planned is a correct one (rule 9.9)
+  pub found : choice t .left ≡ [] → (isOrder t (planOf t .order) ≡ true) × Correct t (planOf t .order)
+  -- a fresh record is had for every order of the table, and so for the one planned (rule 8.2)
+  pub started : (o : List ℕ) → isOrder t o ≡ true → freshOf t o ≡ record { check = Passed; run = freshRun t o }
+  -- and the calls made from there on, each on the record that the last one left, are right (rules 9.5, 9.10 to 9.12)
+  pub right : (o : List ℕ) → isOrder t o ≡ true → RunRight t o cs (makeAll cs (freshOf t o .run))
+
+-- Demand 3: the claim holds of every accepted table and every list of calls, of any length and with any supplies (rule 9.5).
+abbrev pub Demand3 : Type 0
+Demand3 = (t : Table) → Accepted t → (cs : List Call) → Claim t cs

@@ -1,8 +1,9 @@
--- A list of run calls as numbers, so that code can be lent one. A number 0 and the next number: one slot with that supply.
--- A number h above 0: the second entry over the next h - 1 numbers, or as many as there are. Every list of numbers means some list of calls.
+-- A list of run calls (rule 9.5) as numbers, so that code can be lent one. A number 0 and the next number: one slot with that supply.
+-- A number h above 0: the second entry over the next h - 1 numbers, or as many as there are. Every list of numbers means some list of
+-- calls, and every list of calls is meant by some list of numbers (`calls-reached` in Reached).
 use Prim.Native.Nat.{ℕ, zero, suc, _+_, _-_, min}
 use mathlib.Core.Bool.{cond}
-use mathlib.Core.List.{List, [], _∷_}
+use mathlib.Core.List.{List, [], _∷_, _++_}
 use lib.Dec.{eqb}
 use lib.ListN.{length, getD, take, drop}
 use Rattle.rules.specs.Calls.{Call, one, forward}
@@ -23,3 +24,12 @@ callsFrom (suc k) l i = let rest = callsFrom k l (nextAt l i) in cond (eqb (leng
 -- the calls that a list of numbers means
 unfoldable pub callsIn : List ℕ → List Call
 callsIn l = callsFrom (length l) l 0
+
+-- the numbers that a call is given by, and those of a list of calls
+abbrev pub numbersOf : Call → List ℕ
+numbersOf (one v) = 0 ∷ v ∷ []
+numbersOf (forward vs) = suc (length vs) ∷ vs
+
+unfoldable pub allNumbers : List Call → List ℕ
+allNumbers [] = []
+allNumbers (c ∷ cs) = numbersOf c ++ allNumbers cs

@@ -2,8 +2,10 @@ pub mod Playing
 pub mod Paper
 pub mod Supplies
 pub mod Claim
+pub mod Concluded
 pub mod Proved
 pub mod Encoding
 pub mod Shown
 pub mod Reading
 pub mod Turns
+pub mod Reached

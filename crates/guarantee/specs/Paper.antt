@@ -1,4 +1,4 @@
--- From a fresh record on, the calls on the record say and leave what the run on paper says and leaves.
+-- From a sound record on, the calls say and leave what the run on paper says and leaves from the state that it holds (rule 9.10).
 use Prim.Native.Nat.{ℕ, _+_}
 use mathlib.Core.Bool.{true}
 use mathlib.Core.Path.{_≡_, refl}
@@ -13,13 +13,13 @@ use Rattle.rules.specs.Slots.{State, slot}
 use Rattle.theory.specs.Tests.{by-bool}
 use Rattle.guarantee.specs.Playing.{Made, make, makeAll}
 
--- a record that holds this state
+-- the record of this state is sound and has full columns
 pub record Holding (t : Table) (o : List ℕ) (s : State) : Type 0 where
   pub sound : isSound (recordOf t o s) ≡ true
   pub sized : Sized (recordOf t o s)
 
 module _ (t : Table) (o : List ℕ) where
-  -- the call as the paper tells it
+  -- what the run on paper tells of a call, as an answer and a record (rules 9.7, 9.8)
   abbrev toldMade : Told → Made
   toldMade x = record { said = x .said; run = recordOf t o (x .state) }
 
@@ -33,7 +33,8 @@ module _ (t : Table) (o : List ℕ) where
       rw (h .sound) (by-bool (ltb (s .clock) lastClock) (λ e. rw e) (λ e. rw e))
 
   forward-told : (k : ℕ) (vs : List ℕ) (s : State)
-      → _≡_ {A = Made} (record { said = forwardSaid (workOn k vs (recordOf t o s) .answer); run = workOn k vs (recordOf t o s) .run }) (toldMade (tellForward t o k vs s))
+      → _≡_ {A = Made} (record { said = forwardSaid (workOn k vs (recordOf t o s) .answer); run = workOn k vs (recordOf t o s) .run })
+      (toldMade (tellForward t o k vs s))
   unfolding workOn tellForward forwardSaid nextRun
   forward-told k [] s = refl
   forward-told k (v ∷ vs) s = by-bool (ltb (s .clock) lastClock) (λ e. rw e (forward-told (k + 1) vs (slot t o v s))) (λ e. rw e)
@@ -53,8 +54,9 @@ module _ (t : Table) (o : List ℕ) where
   call-holds (one v) s h = by-bool (ltb (s .clock) lastClock) (λ e. rw e (holding-next s v h e)) (λ e. rw e h)
   call-holds (forward vs) s h = forward-holds 0 vs s h
 
-  -- every answer and the record at the end
-  pub calls-told : (cs : List Call) (s : State) → Holding t o s → makeAll cs (recordOf t o s) ≡ record { said = tellAll t o cs s .said; run = recordOf t o (tellAll t o cs s .state) }
+  -- every answer and the record at the end (rule 9.10)
+  pub calls-told : (cs : List Call) (s : State) → Holding t o s
+      → makeAll cs (recordOf t o s) ≡ record { said = tellAll t o cs s .said; run = recordOf t o (tellAll t o cs s .state) }
   unfolding makeAll tellAll
   calls-told [] s h = refl
   calls-told (c ∷ cs) s h = simp (call-told c s h, calls-told cs (tell t o c s .state) (call-holds c s h))

@@ -1,4 +1,4 @@
--- A list of run calls on a record: each call is made on the record that the last one left.
+-- A list of run calls on a record: each call is made on the record that the last one left (rule 9.5).
 use mathlib.Core.List.{List, [], _∷_}
 use Rattle.record.specs.declared.Run.{Run}
 use Rattle.record.specs.Answers.{slotSaid, forwardSaid}
@@ -10,6 +10,8 @@ pub record Made : Type 0 where
   pub said : Said
   pub run : Run
 
+-- A run call made on a record (rule 9.5): one slot (rule 8.9) or forward (rule 8.10), with the number and the value that section 10 of the rules
+-- gives its answer.
 abbrev pub make : Call → Run → Made
 make (one v) r = record { said = slotSaid (oneSlot r v .answer); run = oneSlot r v .run }
 make (forward vs) r = record { said = forwardSaid (forwardOver r vs .answer); run = forwardOver r vs .run }
@@ -19,6 +21,8 @@ pub record AllMade : Type 0 where
   pub said : List Said
   pub run : Run
 
+-- The calls of a list, first to last: the first on the record given, each later one on the record that the call before it left (rule 9.5).
+-- A list of no calls leaves the record as it is.
 unfoldable pub makeAll : List Call → Run → AllMade
 makeAll [] r = record { said = []; run = r }
 makeAll (c ∷ cs) r =

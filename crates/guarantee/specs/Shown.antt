@@ -1,5 +1,5 @@
--- What a function that plays a list of calls shows: the planner's answer, every answer of the calls and the record at the end are those of
--- demand 3.
+-- What a function that plays a list of calls shows: the planner's answer, every answer of the calls and the record at the end are those
+-- that demand 3 speaks of (rules 9.9 to 9.12).
 use Prim.Native.Nat.{ℕ, _+_}
 use mathlib.Core.Path.{_≡_}
 use mathlib.Core.List.{List, [], _∷_}
@@ -13,7 +13,7 @@ use Rattle.rules.specs.Tables.{Accepted}
 use Rattle.guarantee.specs.declared.Turn.{Turn}
 use Rattle.guarantee.specs.declared.Played.{Played}
 use Rattle.guarantee.specs.Playing.{Made, makeAll}
-use Rattle.guarantee.specs.Claim.{Demand3}
+use Rattle.guarantee.specs.Claim.{Claim}
 
 -- one call's answer and record
 pub record Turned (r : Turn) (m : Made) : Type 0 where
@@ -37,9 +37,9 @@ pub record Answered (cs : List Call) (start : Run) (before after : List ℕ) (r 
   pub noting : after ≡ laid (makeAll cs start .said) before
   pub left : r ≡ makeAll cs start .run
 
--- the whole: planned, started afresh, called, for any table; and for an accepted one demand 3 of just this plan, start and calls
+-- the whole: planned, started afresh, called, for any table; and for an accepted one the claim of just this table and list
 pub record Shown (t : Table) (cs : List Call) (before after : List ℕ) (r : Played) : Type 0 where
   pub planned : r .planning ≡ planOf t
-  pub noting : after ≡ laid (makeAll cs (freshOf t (r .planning .order) .run) .said) before
-  pub left : r .run ≡ makeAll cs (freshOf t (r .planning .order) .run) .run
-  pub claim : Accepted t → Demand3 t cs (r .planning) (freshOf t (r .planning .order)) (makeAll cs (freshOf t (r .planning .order) .run))
+  pub noting : after ≡ laid (makeAll cs (freshOf t (planOf t .order) .run) .said) before
+  pub left : r .run ≡ makeAll cs (freshOf t (planOf t .order) .run) .run
+  pub claim : Accepted t → Claim t cs

@@ -1,5 +1,5 @@
 -- From the fresh state on, each supply of a list of calls is taken in turn, one at each clock up to the last: the state after the calls is
--- that of the run whose slot u has the u-th supply.
+-- that of the run whose slot u has the u-th supply (rule 9.15).
 use Prim.Native.Nat.{ℕ, zero, suc, _+_, _≤_, min}
 use mathlib.Core.Path.{_≡_, refl, sym, ap, _∙_}
 use mathlib.Core.List.{List, [], _∷_, _++_}
@@ -48,7 +48,8 @@ module _ (t : Table) (o : List ℕ) (all : List ℕ) where
   unfolding tellOne
   call-state (one v) more k h e =
       by-ltb k lastClock
-      (λ _ q. rw (lt-ltb (at-clock k .clock) lastClock (omega (arith, clock-after t o (λ u. getD all u 0) k)), step-next k v more e) (ap at-clock (omega arith)))
+      (λ _ q. rw (lt-ltb (at-clock k .clock) lastClock (omega (arith, clock-after t o (λ u. getD all u 0) k)), step-next k v more e)
+      (ap at-clock (omega arith)))
       (λ _ q. rw (le-ltb (at-clock k .clock) lastClock (omega (arith, clock-after t o (λ u. getD all u 0) k))) (ap at-clock (omega arith)))
   call-state (forward vs) more k h e = forward-state 0 vs more k h e
 
@@ -77,13 +78,16 @@ module _ (t : Table) (o : List ℕ) (all : List ℕ) where
       ∙ by-ltb (k + n) lastClock
       (λ _ q. let is : m ≡ k + n = omega arith in
       let then : min (m + length r) lastClock ≡ min (k + length (suppliesOf c ++ r)) lastClock = omega arith in
-      calls-state cs m (omega arith) (ap (λ (x : ℕ). drop x all) is ∙ sym (drop-drop n k all) ∙ ap (drop n) e ∙ drop-at (suppliesOf c) r n refl) ∙ ap at-clock then)
+      calls-state cs m (omega arith)
+      (ap (λ (x : ℕ). drop x all) is ∙ sym (drop-drop n k all) ∙ ap (drop n) e ∙ drop-at (suppliesOf c) r n refl) ∙ ap at-clock then)
       (λ _ q. let then : m ≡ min (k + length (suppliesOf c ++ r)) lastClock = omega arith in
       last-calls cs (at-clock m) (omega (arith, clock-after t o (λ u. getD all u 0) m)) ∙ ap at-clock then)
 
--- the state after a list of calls, and its clock
+-- the state after a list of calls is that of the course of speed `supplyAt`, at the clock that the calls reach (rules 9.6, 9.15)
 pub paper-run : (t : Table) (o : List ℕ) (cs : List Call) → tellAll t o cs fresh .state ≡ after t o (supplyAt cs) (tellAll t o cs fresh .state .clock)
 unfolding after supplyAt
 paper-run t o cs =
     let e = calls-state t o (allSupplies cs) cs 0 (omega arith) refl in
-    e ∙ ap (after t o (λ u. getD (allSupplies cs) u 0)) (sym (ap (λ (s : State). s .clock) e ∙ clock-after t o (λ u. getD (allSupplies cs) u 0) (min (0 + length (allSupplies cs)) lastClock)))
+    e
+    ∙ ap (after t o (λ u. getD (allSupplies cs) u 0))
+    (sym (ap (λ (s : State). s .clock) e ∙ clock-after t o (λ u. getD (allSupplies cs) u 0) (min (0 + length (allSupplies cs)) lastClock)))

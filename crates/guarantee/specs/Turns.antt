@@ -77,7 +77,9 @@ module _ (calls before : List ℕ) (start : Run) (b : List ℕ) (r : Run) (i k :
           within = next-within calls i;
           room = omega arith;
           long = long ∙ g .long;
-          noting = rw (made .run) (laid-noted k b (t .number) (t .value) (make call r .said) then fits (made .number) (made .value) ∙ ap (λ (s : List Said). take k b ++ laid s (drop k b)) (sym said-next) ∙ g .noting);
+          noting = rw (made .run)
+              (laid-noted k b (t .number) (t .value) (make call r .said) then fits (made .number) (made .value)
+              ∙ ap (λ (s : List Said). take k b ++ laid s (drop k b)) (sym said-next) ∙ g .noting);
           left = rw (made .run) (sym run-next ∙ g .left);
         }
 
@@ -85,7 +87,8 @@ module _ (calls before : List ℕ) (start : Run) (b : List ℕ) (r : Run) (i k :
     pub going-full : length b < k + 2 → Going calls before start b (t .run) (nextAt calls i) k
     going-full full =
         let short : length (drop k b) ≤ 1 = omega (arith, length-drop k b) in
-        let same : (s : List Said) → take k b ++ laid s (drop k b) ≡ take k b ++ drop k b = λ s. ap (λ (d : List ℕ). take k b ++ d) (laid-short s (drop k b) short) in
+        let same : (s : List Said) → take k b ++ laid s (drop k b) ≡ take k b ++ drop k b =
+        λ s. ap (λ (d : List ℕ). take k b ++ d) (laid-short s (drop k b) short) in
         record {
           within = next-within calls i;
           room = g .room;

@@ -1,4 +1,5 @@
-// Demand 3 through the functions that are shipped: a list of run calls is played on the fresh record of a table and its planned order.
+// Demand 3 (rules 9.5 to 9.12) through the functions that are shipped: a list of run calls is played on the fresh record of a table and its
+// planned order, by `planner::plan`, `record::fresh`, `Run::slot` and `forward::forward`.
 ghost use mathlib.Core.Path.{_≡_};
 ghost use Prim.Native.Nat.{_+_, _≤_, _<_};
 ghost use lib.ListN.{length, getD};
@@ -10,7 +11,7 @@ use record::Run;
 use rules::Planning;
 use rules::Table;
 
-// What one call said, its number and its value, and the record that it left.
+// What one call said, its number and its value (the row that ran, or the slots worked), and the record that it left.
 struct Turn {
     number: u32,
     value: u32,
@@ -23,7 +24,7 @@ pub struct Played {
     pub run: Run,
 }
 
-// Works one slot with a supply in work units.
+// Works one slot with a supply in work units (rule 8.9).
 fn one_call(run: Run, supply: u32) -> Turn
     ensures { λ r. ⌜ Turned r (make (one supply) run) ⌝ }
 {
@@ -38,11 +39,11 @@ fn one_call(run: Run, supply: u32) -> Turn
     }
 }
 
-// Works the record forward over supplies in work units.
+// Works the record forward over supplies in work units (rule 8.10); `forwarded` lends it to `forward`.
 fn forward_call(run: Run, supplies: &[u32]) -> Turn
     ensures { λ r. ⌜ Turned r (make (forward (now (supplies .entry))) run) ⌝ }
 {
-    let forwarded = run.forwarded(supplies);
+    let forwarded = forward::forwarded(run, supplies);
     let answer = forwarded.answer;
     let left = forwarded.run;
     let said = numbers::forward_numbers(answer);
@@ -60,7 +61,7 @@ fn number_at(calls: &[u32], i: usize) -> u32
     if i < calls.len() { calls[i] } else { 0 }
 }
 
-// The index of the call after the one at i.
+// The index of the call after the one at i, as specs/Encoding reads numbers.
 fn next_at(calls: &[u32], i: usize) -> usize
     requires { ⌜ i < length (now calls) ⌝ }
     ensures { λ r. ⌜ r ≡ nextAt (now (calls .entry)) i ⌝ }
@@ -99,7 +100,7 @@ fn note(said: &mut [u32], k: usize, number: u32, value: u32)
     said[k + 1] = value;
 }
 
-// Makes the calls in turn, each on the record that the last one left, and notes what each said while there is room.
+// Makes the calls one after another, each on the record that the last one left (rule 9.5), and notes what each said while there is room.
 fn answered(start: Run, calls: &[u32], said: &mut [u32]) -> Run
     ensures { λ r. ⌜ Answered (callsIn (now (calls .entry))) start (now (said .entry)) (now (said .exit)) r ⌝ }
 {

@@ -1,4 +1,4 @@
--- The worst finishes that a C caller gets, and yes or no as a word.
+-- The worst finishes (rules 3.6, 7.5) that a C caller gets, and yes or no as a word.
 use Prim.Native.Nat.{ℕ}
 use mathlib.Core.Bool.{Bool, cond}
 use mathlib.Core.List.{List, map}
@@ -13,15 +13,16 @@ use Rattle.rules.specs.Orders.{checkBoth}
 use Rattle.rules.specs.Worst.{worstFinish}
 use Rattle.rules.specs.Choice.{padded}
 
+-- by what checks 3 to 6 answer (rules 7.5, 11.4)
 abbrev pub finishesChecked : Check → Table → List ℕ → List ℕ
 finishesChecked Passed t o = padded (map (worstFinish t o) (rowsOf t))
 finishesChecked (Refused r) t o = replicate 64 0
 
--- the worst finish of each row in slots, zeros after row n; all zero where checks 3 to 6 refuse the table and the order
+-- the worst finish of each row in slots, zeros after row n; all zero where checks 3 to 6 refuse the table or the order (rule 7.5)
 unfoldable pub finishesOf : Table → List ℕ → List ℕ
 finishesOf t o = finishesChecked (checkBoth t o) t o
 
--- 1 for yes, 0 for no
+-- 1 for yes, 0 for no (rule 7.2)
 abbrev pub yesWord : Bool → ℕ
 yesWord b = cond b 1 0
 

@@ -4,3 +4,4 @@ pub mod Inverse
 pub mod Copies
 pub mod Zeros
 pub mod Packed
+pub mod Version

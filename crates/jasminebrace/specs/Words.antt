@@ -1,45 +1,68 @@
--- Tables and run records as the words that a C caller lends.
+-- Tables (rules 1.7, 5.4) and run records (rule 8.1) as the words that a C caller lends.
 -- A table is n, N, G (work units per slot), then the columns release, work, deadline, level of 64 entries each: 259 words.
--- A run's state is the clock in slots, then the columns got, used, closing of 64 entries each: 193 words.
-use Prim.Native.Nat.{ℕ}
+-- A run's state is the clock in slots, then the columns got, used, closing of 64 entries each: 193 words (rule 2.13).
+use Prim.Native.Nat.{ℕ, _+_, _*_}
 use mathlib.Core.List.{List, _∷_, _++_}
 use lib.ListN.{getD, take, drop}
 use Rattle.rules.specs.declared.Table.{Table}
 use Rattle.record.specs.declared.Run.{Run}
 
--- the sixty-four entries from a place on
+-- where the columns of a table's words begin, after n and the two speeds (rules 1.1, 1.7)
+abbrev pub releaseFrom : ℕ
+releaseFrom = 3
+
+abbrev pub workFrom : ℕ
+workFrom = 3 + 64
+
+abbrev pub deadlineFrom : ℕ
+deadlineFrom = 3 + 64 * 2
+
+abbrev pub levelFrom : ℕ
+levelFrom = 3 + 64 * 3
+
+-- where the columns of a state's words begin, after the clock (rule 2.13)
+abbrev pub gotFrom : ℕ
+gotFrom = 1
+
+abbrev pub usedFrom : ℕ
+usedFrom = 1 + 64
+
+abbrev pub closingFrom : ℕ
+closingFrom = 1 + 64 * 2
+
+-- the sixty-four entries from a place on (rules 2.13, 5.4)
 abbrev pub columnAt : ℕ → List ℕ → List ℕ
 columnAt from words = take 64 (drop from words)
 
--- the table that words hold
+-- the table that words hold (rules 1.1, 1.7, 5.4)
 unfoldable pub tableIn : List ℕ → Table
 tableIn words =
     record {
       n = getD words 0 0;
       normal = getD words 1 0;
       degraded = getD words 2 0;
-      release = columnAt 3 words;
-      work = columnAt 67 words;
-      deadline = columnAt 131 words;
-      level = columnAt 195 words;
+      release = columnAt releaseFrom words;
+      work = columnAt workFrom words;
+      deadline = columnAt deadlineFrom words;
+      level = columnAt levelFrom words;
     }
 
--- the words of a table
+-- the words of a table (rules 1.1, 1.7, 5.4)
 unfoldable pub wordsOf : Table → List ℕ
 wordsOf t = t .n ∷ t .normal ∷ t .degraded ∷ (t .release ++ (t .work ++ (t .deadline ++ t .level)))
 
--- the run record that the words of a table, an order and the words of a state hold
+-- the run record that the words of a table, an order and the words of a state hold (rule 8.1)
 unfoldable pub runIn : List ℕ → List ℕ → List ℕ → Run
 runIn table order state =
     record {
       table = tableIn table;
       order = order;
       clock = getD state 0 0;
-      got = columnAt 1 state;
-      used = columnAt 65 state;
-      closing = columnAt 129 state;
+      got = columnAt gotFrom state;
+      used = columnAt usedFrom state;
+      closing = columnAt closingFrom state;
     }
 
--- the words of a run record's state
+-- the words of a run record's state (rules 2.13, 8.1)
 unfoldable pub stateWords : Run → List ℕ
 stateWords r = r .clock ∷ (r .got ++ (r .used ++ r .closing))

@@ -19,13 +19,30 @@ ghost use Rattle.record.specs.Records.{freshOf, comingSlot, oneSlot, forwardOve
 ghost use Rattle.jasminebrace.specs.Words.{columnAt, tableIn, wordsOf, runIn, stateWords};
 ghost use Rattle.jasminebrace.specs.Finishes.{finishesOf, yesWord};
 ghost use Rattle.jasminebrace.specs.Packed.{packedOf};
+ghost use Rattle.jasminebrace.specs.Version.{version};
 use record::Run;
 use rules::Check;
 use rules::Row;
 use rules::Table;
 use rules::Verdict;
 
-// The judge's number, yes as 1 or 0, the row of least slack and that slack in slots.
+// Where the columns of a table's words begin, after n and the two speeds.
+const RELEASE: usize = 3;
+
+const WORK: usize = 3 + 64;
+
+const DEADLINE: usize = 3 + 64 * 2;
+
+const LEVEL: usize = 3 + 64 * 3;
+
+// Where the columns of a state's words begin, after the clock.
+const GOT: usize = 1;
+
+const USED: usize = 1 + 64;
+
+const CLOSING: usize = 1 + 64 * 2;
+
+// The judge's number, yes as 1 or 0, the tightest row and its slack in slots (rules 7.2 to 7.4).
 struct VerdictNumbers {
     number: u32,
     yes: u32,
@@ -59,17 +76,17 @@ fn put_column(words: &mut [u32], from: usize, entries: [u32; 64])
     }
 }
 
-// The table that the words hold.
+// The table that the words hold, as specs/Words lays it out.
 fn table_in(words: &[u32; 259]) -> Table
     ensures { λ t. ⌜ t ≡ tableIn (now (words .entry)) ⌝ }
 {
     let n = words[0];
     let normal = words[1];
     let degraded = words[2];
-    let release = column(words, 3);
-    let work = column(words, 67);
-    let deadline = column(words, 131);
-    let level = column(words, 195);
+    let release = column(words, RELEASE);
+    let work = column(words, WORK);
+    let deadline = column(words, DEADLINE);
+    let level = column(words, LEVEL);
     Table {
         n,
         normal,
@@ -93,10 +110,10 @@ fn words_of(t: Table) -> [u32; 259]
     let work = t.work;
     let deadline = t.deadline;
     let level = t.level;
-    put_column(&mut words, 3, release);
-    put_column(&mut words, 67, work);
-    put_column(&mut words, 131, deadline);
-    put_column(&mut words, 195, level);
+    put_column(&mut words, RELEASE, release);
+    put_column(&mut words, WORK, work);
+    put_column(&mut words, DEADLINE, deadline);
+    put_column(&mut words, LEVEL, level);
     words
 }
 
@@ -106,9 +123,9 @@ fn run_in(table: &[u32; 259], order: [u8; 64], state: [u32; 193]) -> Run
 {
     let t = table_in(table);
     let clock = state[0];
-    let got = column(&state, 1);
-    let used = column(&state, 65);
-    let closing = column(&state, 129);
+    let got = column(&state, GOT);
+    let used = column(&state, USED);
+    let closing = column(&state, CLOSING);
     Run {
         table: t,
         order,
@@ -128,15 +145,18 @@ fn state_words(run: Run) -> [u32; 193]
     let got = run.got;
     let used = run.used;
     let closing = run.closing;
-    put_column(&mut words, 1, got);
-    put_column(&mut words, 65, used);
-    put_column(&mut words, 129, closing);
+    put_column(&mut words, GOT, got);
+    put_column(&mut words, USED, used);
+    put_column(&mut words, CLOSING, closing);
     words
 }
 
-// The number of a verdict, yes as 1 or 0, the row of least slack and that slack in slots.
+// A verdict as numbers (rules 7.2 to 7.4, 10.0).
 fn verdict_numbers(verdict: Verdict) -> VerdictNumbers
-    ensures { λ r. ⌜ (r .number ≡ verdictNumber verdict) × (r .yes ≡ yesWord (verdictYes verdict)) × (r .row ≡ verdictRow verdict) × (r .slack ≡ verdictSlack verdict) ⌝ }
+    ensures { λ r. ⌜ (r .number ≡ verdictNumber verdict)
+        × (r .yes ≡ yesWord (verdictYes verdict))
+        × (r .row ≡ verdictRow verdict)
+        × (r .slack ≡ verdictSlack verdict) ⌝ }
 {
     match verdict {
         Verdict::Correct { row, slack } => VerdictNumbers {
@@ -188,7 +208,7 @@ fn packed(verdict: Verdict) -> u64
         + 65536 * (bits as u64)
 }
 
-// Reads a sheet into the words of a table, all zero on a refusal. Gives the number of the sheet's checks.
+// Reads a sheet into the words of a table, all zero on a refusal (rule 6.8). Gives the number of the sheet's checks (rule 11.2).
 #[no_mangle]
 pub extern "C" fn jb_read(sheet: &[u8], table: &mut [u32; 259]) -> u32
     ensures { λ r. ⌜ (let reading = readOf (now (sheet .entry)) in (r ≡ checkNumber (reading .check)) × (now (table .exit) ≡ wordsOf (reading .table))) ⌝ }
@@ -200,10 +220,14 @@ pub extern "C" fn jb_read(sheet: &[u8], table: &mut [u32; 259]) -> u32
     numbers::check_number(check)
 }
 
-// Plans an order for a table, all zero where none is made. Gives 0, 7 with the word of the rows left, or a refusal's number.
+// Plans an order for a table, all zero where none is made. Gives 0, 7 with the word of the rows left, or a refusal's number (rules 4.6,
+// 4.8, 4.10, 11.3).
 #[no_mangle]
 pub extern "C" fn jb_plan(table: &[u32; 259], order: &mut [u8; 64], left: &mut u64) -> u32
-    ensures { λ r. ⌜ (let planning = planOf (tableIn (now (table .entry))) in (r ≡ plannedNumber (planning .answer)) × (now (order .exit) ≡ planning .order) × (now (left .exit) ≡ rowsLeft (planning .answer))) ⌝ }
+    ensures { λ r. ⌜ (let planning = planOf (tableIn (now (table .entry))) in
+        (r ≡ plannedNumber (planning .answer))
+        × (now (order .exit) ≡ planning .order)
+        × (now (left .exit) ≡ rowsLeft (planning .answer))) ⌝ }
 {
     let t = table_in(table);
     let planning = planner::plan(t);
@@ -215,7 +239,7 @@ pub extern "C" fn jb_plan(table: &[u32; 259], order: &mut [u8; 64], left: &mut u
     numbers.number
 }
 
-// Judges an order of a table: yes as 1 or 0, the row of least slack, and that slack in slots. All zero on a refusal.
+// Judges an order of a table: yes as 1 or 0, the tightest row, and its slack in slots. All zero on a refusal (rules 7.2 to 7.4).
 #[no_mangle]
 pub extern "C" fn jb_judge(
     table: &[u32; 259],
@@ -224,7 +248,11 @@ pub extern "C" fn jb_judge(
     row: &mut u32,
     slack: &mut i32,
 ) -> u32
-    ensures { λ r. ⌜ (let verdict = judgeOf (tableIn (now (table .entry))) (now (order .entry)) in (r ≡ verdictNumber verdict) × (now (yes .exit) ≡ yesWord (verdictYes verdict)) × (now (row .exit) ≡ verdictRow verdict) × (now (slack .exit) ≡ verdictSlack verdict)) ⌝ }
+    ensures { λ r. ⌜ (let verdict = judgeOf (tableIn (now (table .entry))) (now (order .entry)) in
+        (r ≡ verdictNumber verdict)
+        × (now (yes .exit) ≡ yesWord (verdictYes verdict))
+        × (now (row .exit) ≡ verdictRow verdict)
+        × (now (slack .exit) ≡ verdictSlack verdict)) ⌝ }
 {
     let t = table_in(table);
     let placed = *order;
@@ -237,7 +265,7 @@ pub extern "C" fn jb_judge(
     numbers.number
 }
 
-// Judges an order of lent rows and two speeds, in work units per slot. Gives the verdict in one word, as specs/Packed says.
+// Judges an order of lent rows and two speeds, in work units per slot (rule 7.1). Gives the verdict in one word, as specs/Packed says.
 #[no_mangle]
 pub extern "C" fn jb_judge_rows(rows: &[Row], normal: u32, degraded: u32, order: &[u8; 64]) -> u64
     ensures { λ r. ⌜ r ≡ packedOf (judgeOf (tableOf (now (rows .entry)) normal degraded) (now (order .entry))) ⌝ }
@@ -247,10 +275,12 @@ pub extern "C" fn jb_judge_rows(rows: &[Row], normal: u32, degraded: u32, order:
     packed(verdict)
 }
 
-// The worst finish of each row under an order, in slots, zeros after row n. All zero on a refusal of checks 3 to 6.
+// The worst finish of each row under an order, in slots, zeros after row n (rule 3.6). All zero on a refusal of checks 3 to 6.
 #[no_mangle]
 pub extern "C" fn jb_finishes(table: &[u32; 259], order: &[u8; 64], finishes: &mut [u32; 64]) -> u32
-    ensures { λ r. ⌜ (let t = tableIn (now (table .entry)) in (r ≡ checkNumber (checkBoth t (now (order .entry)))) × (now (finishes .exit) ≡ finishesOf t (now (order .entry)))) ⌝ }
+    ensures { λ r. ⌜ (let t = tableIn (now (table .entry)) in
+        (r ≡ checkNumber (checkBoth t (now (order .entry))))
+        × (now (finishes .exit) ≡ finishesOf t (now (order .entry)))) ⌝ }
 {
     let t = table_in(table);
     let placed = *order;
@@ -268,7 +298,7 @@ pub extern "C" fn jb_finishes(table: &[u32; 259], order: &[u8; 64], finishes: &m
     }
 }
 
-// Starts a run record of a table and an order, at clock 0. All zero on a refusal of checks 3 to 6.
+// Starts a run record of a table and an order, at clock 0. All zero on a refusal of checks 3 to 6 (rule 8.2).
 #[no_mangle]
 pub extern "C" fn jb_fresh(
     table: &[u32; 259],
@@ -277,7 +307,11 @@ pub extern "C" fn jb_fresh(
     run_order: &mut [u8; 64],
     run_state: &mut [u32; 193],
 ) -> u32
-    ensures { λ r. ⌜ (let made = freshOf (tableIn (now (table .entry))) (now (order .entry)) in (r ≡ checkNumber (made .check)) × (now («run_table» .exit) ≡ wordsOf (made .run .table)) × (now («run_order» .exit) ≡ made .run .order) × (now («run_state» .exit) ≡ stateWords (made .run))) ⌝ }
+    ensures { λ r. ⌜ (let made = freshOf (tableIn (now (table .entry))) (now (order .entry)) in
+        (r ≡ checkNumber (made .check))
+        × (now («run_table» .exit) ≡ wordsOf (made .run .table))
+        × (now («run_order» .exit) ≡ made .run .order)
+        × (now («run_state» .exit) ≡ stateWords (made .run))) ⌝ }
 {
     let t = table_in(table);
     let placed = *order;
@@ -292,7 +326,7 @@ pub extern "C" fn jb_fresh(
     numbers::check_number(check)
 }
 
-// The row that the coming slot runs, before its supply is known; 0 for an idle slot and with 8 or 9.
+// The row that the coming slot runs, before its supply is known; 0 for an idle slot and with 8 or 9 (rule 8.15).
 #[no_mangle]
 pub extern "C" fn jb_coming(
     table: &[u32; 259],
@@ -300,7 +334,9 @@ pub extern "C" fn jb_coming(
     state: &[u32; 193],
     row: &mut u32,
 ) -> u32
-    ensures { λ r. ⌜ (let said = slotSaid (comingSlot (runIn (now (table .entry)) (now (order .entry)) (now (state .entry)))) in (r ≡ said .number) × (now (row .exit) ≡ said .value)) ⌝ }
+    ensures { λ r. ⌜ (let said = slotSaid (comingSlot (runIn (now (table .entry)) (now (order .entry)) (now (state .entry)))) in
+        (r ≡ said .number)
+        × (now (row .exit) ≡ said .value)) ⌝ }
 {
     let placed = *order;
     let held = *state;
@@ -311,7 +347,8 @@ pub extern "C" fn jb_coming(
     numbers.number
 }
 
-// Works one slot with a supply in work units: the state after it, and the row run. With 8 or 9 the state stays and the row is 0.
+// Works one slot with a supply in work units: the state after it, and the row that ran. With 8 or 9 the state stays and the row is 0
+// (rules 8.9, 8.13, 8.14).
 #[no_mangle]
 pub extern "C" fn jb_slot(
     table: &[u32; 259],
@@ -320,7 +357,10 @@ pub extern "C" fn jb_slot(
     supply: u32,
     row: &mut u32,
 ) -> u32
-    ensures { λ r. ⌜ (let stepped = oneSlot (runIn (now (table .entry)) (now (order .entry)) (now (state .entry))) supply in (r ≡ slotSaid (stepped .answer) .number) × (now (row .exit) ≡ slotSaid (stepped .answer) .value) × (now (state .exit) ≡ stateWords (stepped .run))) ⌝ }
+    ensures { λ r. ⌜ (let stepped = oneSlot (runIn (now (table .entry)) (now (order .entry)) (now (state .entry))) supply in
+        (r ≡ slotSaid (stepped .answer) .number)
+        × (now (row .exit) ≡ slotSaid (stepped .answer) .value)
+        × (now (state .exit) ≡ stateWords (stepped .run))) ⌝ }
 {
     let placed = *order;
     let held = *state;
@@ -334,7 +374,8 @@ pub extern "C" fn jb_slot(
     numbers.number
 }
 
-// Works one slot for each supply (work units) in turn: the state after them, and the slots worked.
+// Works one slot for each supply (work units), first to last: the state after them, and the slots worked (rules 8.10, 8.12 to 8.14). The
+// record goes through `forward::forward`.
 #[no_mangle]
 pub extern "C" fn jb_forward(
     table: &[u32; 259],
@@ -343,12 +384,15 @@ pub extern "C" fn jb_forward(
     supplies: &[u32],
     worked: &mut u32,
 ) -> u32
-    ensures { λ r. ⌜ (let forwarded = forwardOver (runIn (now (table .entry)) (now (order .entry)) (now (state .entry))) (now (supplies .entry)) in (r ≡ forwardSaid (forwarded .answer) .number) × (now (worked .exit) ≡ forwardSaid (forwarded .answer) .value) × (now (state .exit) ≡ stateWords (forwarded .run))) ⌝ }
+    ensures { λ r. ⌜ (let forwarded = forwardOver (runIn (now (table .entry)) (now (order .entry)) (now (state .entry))) (now (supplies .entry)) in
+        (r ≡ forwardSaid (forwarded .answer) .number)
+        × (now (worked .exit) ≡ forwardSaid (forwarded .answer) .value)
+        × (now (state .exit) ≡ stateWords (forwarded .run))) ⌝ }
 {
     let placed = *order;
     let held = *state;
     let run = run_in(table, placed, held);
-    let forwarded = run.forwarded(supplies);
+    let forwarded = forward::forwarded(run, supplies);
     let reached = forwarded.run;
     let answer = forwarded.answer;
     let numbers = numbers::forward_numbers(answer);
@@ -357,13 +401,22 @@ pub extern "C" fn jb_forward(
     numbers.number
 }
 
-// Writes what the planning program writes for an input, zeros after it. Gives how many bytes that is.
+// Writes what the planning program writes for an input, zeros after it (section 12 of the rules). Gives how many bytes that is.
 #[no_mangle]
 pub extern "C" fn jb_program(input: &[u8], text: &mut [u8; 1617]) -> u32
-    ensures { λ r. ⌜ (r ≡ length (programText (now (input .entry)))) × (now (text .exit) ≡ programText (now (input .entry)) ++ replicate (1617 - length (programText (now (input .entry)))) 0) ⌝ }
+    ensures { λ r. ⌜ (r ≡ length (programText (now (input .entry))))
+        × (now (text .exit) ≡ programText (now (input .entry)) ++ replicate (1617 - length (programText (now (input .entry)))) 0) ⌝ }
 {
     let mut bytes = [0u8; 1617];
     let size = text::program(input, &mut bytes);
     *text = bytes;
     size as u32
+}
+
+// The number of this interface, for a caller to compare with the one that it was compiled for.
+#[no_mangle]
+pub extern "C" fn jb_version() -> u32
+    ensures { λ r. ⌜ r ≡ version ⌝ }
+{
+    1
 }

@@ -14,9 +14,9 @@ use Rattle.rules.specs.Worst.{worstSpeed}
 use Rattle.rules.specs.Choice.{padded}
 use Rattle.theory.specs.Sweep.{sweep}
 use Rattle.theory.specs.Caps.{cap}
-use Rattle.worst.specs.Padded.{zeros, padded-drop, rows-length}
-use Rattle.worst.specs.Trials.{trial}
-use Rattle.worst.specs.Finds.{byRelease, queued, finds}
+use Rattle.sweep.specs.Padded.{zeros, padded-drop, rows-length}
+use Rattle.sweep.specs.Trials.{trial}
+use Rattle.sweep.specs.Finds.{byRelease, queued, finds}
 
 -- the finish of row i, in slots, that a sweep at its worst speed over the rows of the word finds
 unfoldable pub sweptDown : Table → ℕ → ℕ → ℕ

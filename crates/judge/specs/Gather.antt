@@ -19,7 +19,7 @@ use Rattle.rules.specs.Orders.{checkBoth}
 use Rattle.rules.specs.Judge.{column, tableOf, judgeOf}
 use Rattle.rules.specs.Choice.{padded}
 use Rattle.theory.specs.Tests.{by-ltb}
-use Rattle.worst.specs.Padded.{padded-more}
+use Rattle.sweep.specs.Padded.{padded-more}
 use Rattle.judge.specs.Promise.{Judged, judge-refused, promised}
 
 -- a table of no rows; speeds in work units per slot

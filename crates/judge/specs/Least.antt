@@ -17,8 +17,8 @@ use Rattle.theory.specs.Counts.{In, in-head, in-tail}
 use Rattle.theory.specs.Facts.{Row, is-row, rows-in, facts}
 use Rattle.theory.specs.Results.{order-bound}
 use Rattle.theory.specs.Tests.{by-bool}
-use Rattle.worst.specs.Padded.{padded-at}
-use Rattle.worst.specs.Sorts.{rowsFrom, rows-all}
+use Rattle.sweep.specs.Padded.{padded-at}
+use Rattle.sweep.specs.Sorts.{rowsFrom, rows-all}
 use Rattle.judge.specs.Checked.{Checked}
 use Rattle.judge.specs.Late.{tightest-row}
 
@@ -72,7 +72,8 @@ module _ (s : ℕ → ℤ) (n : ℕ) where
   least-end b k h = let e : n - k ≡ 0 = omega arith in rw e
 
 -- slacks that are the rows' own
-least-agree : (t : Table) (o : List ℕ) (s : ℕ → ℤ) (b : ℕ) (l : List ℕ) → s b ≡ slack t o b → ((x : ℕ) → In x l → s x ≡ slack t o x) → leastBy s b l ≡ leastSlack t o b l
+least-agree : (t : Table) (o : List ℕ) (s : ℕ → ℤ) (b : ℕ) (l : List ℕ) → s b ≡ slack t o b → ((x : ℕ) → In x l → s x ≡ slack t o x)
+    → leastBy s b l ≡ leastSlack t o b l
 least-agree t o s b [] e h = refl
 least-agree t o s b (i ∷ l) e h =
     ap (λ (x : Bool). leastBy s (cond x i b) l) (ap₂ ltZ (h i (in-head i l)) e)

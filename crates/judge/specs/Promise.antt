@@ -22,7 +22,8 @@ use Rattle.theory.specs.Results.{verdict}
 use Rattle.judge.specs.Checked.{checked}
 use Rattle.judge.specs.Late.{late-tightest, tightest-row}
 
--- the answer is the definition's, and where no check refuses it is yes exactly if the order is correct over all courses of speed
+-- the answer is the definition's, and where no check refuses, yes is said of an order just if it is correct over all courses of speed
+-- (rules 3.4 and 7.2)
 pub record Judged (t : Table) (o : List ℕ) (v : Verdict) : Type 0 where
   pub answer : v ≡ judgeOf t o
   pub exact : checkBoth t o ≡ Passed → ((verdictYes v ≡ true) ↔ Correct t o)
@@ -57,7 +58,8 @@ exactly t o p =
     let v = verdict t (c .accepted) o (c .order) in
     let r = tightest-row t o (facts t (c .accepted) .some) in (
       λ y. v .1 (λ i j. by-bool (ltZ (slack t o i) (pos 0))
-          (λ e. absurd (not-both (verdictYes (verdictAt t o (tightest t o))) (rw (judge-passed t o p) at y) (yes-late t o (tightest t o) (late-tightest t o i (in-rows t i (row-is t i j)) e))))
+          (λ e. absurd (not-both (verdictYes (verdictAt t o (tightest t o))) (rw (judge-passed t o p) at y)
+          (yes-late t o (tightest t o) (late-tightest t o i (in-rows t i (row-is t i j)) e))))
           (λ e. e)),
       λ k. rw (judge-passed t o p) (yes-met t o (tightest t o) (v .0 k (tightest t o) (is-row t (tightest t o) r))),
     )

@@ -18,11 +18,11 @@ use Rattle.theory.specs.Counts.{Within, count-append, count-same, count-other, 
 use Rattle.theory.specs.Facts.{Row, rows-in, facts, count-rows, count-no-row}
 use Rattle.theory.specs.Places.{order-rows, rows-once}
 use Rattle.theory.specs.Results.{worst-sweep}
-use Rattle.worst.specs.Masks.{bit}
-use Rattle.worst.specs.Holds.{Holds, holds-with-last}
-use Rattle.worst.specs.Padded.{padded-at, padded-length, rows-length}
+use Rattle.sweep.specs.Masks.{bit}
+use Rattle.sweep.specs.Holds.{Holds, holds-with-last}
+use Rattle.sweep.specs.Padded.{padded-at, padded-length, rows-length}
 use Rattle.judge.specs.Checked.{Checked}
-use Rattle.worst.specs.Finds.{zero-entry, queued, queued-sorted, queued-same}
+use Rattle.sweep.specs.Finds.{zero-entry, queued, queued-sorted, queued-same}
 use Rattle.judge.specs.Down.{sweptDown, padded-past}
 
 -- the rows of the first k places have their worst finish in the column, in slots, and the others 0
@@ -102,5 +102,7 @@ module _ (t : Table) (o : List ℕ) (c : Checked t o) (long : length o ≡ 64) w
       let n = order-rows t o (c .order) (suc j) in
       let e : getD out j 0 ≡ gate (leb 1 (count (suc j) (take (t .n) o))) (f (suc j)) = rw w at (s (suc j) (omega arith)) in
       by-ltb j (t .n)
-      (λ _ q. e ∙ rw (le-leb 1 (count (suc j) (take (t .n) o)) (omega (arith, count-rows (t .n) (suc j) (omega arith) q))) (sym (rw w at (padded-at f (t .n) (suc j) (omega arith) q few))))
-      (λ _ q. e ∙ rw (lt-leb 1 (count (suc j) (take (t .n) o)) (omega (arith, count-no-row (t .n) (suc j) (omega arith)))) (sym (padded-past f (t .n) j few q))))
+      (λ _ q. e ∙ rw (le-leb 1 (count (suc j) (take (t .n) o)) (omega (arith, count-rows (t .n) (suc j) (omega arith) q)))
+      (sym (rw w at (padded-at f (t .n) (suc j) (omega arith) q few))))
+      (λ _ q. e ∙ rw (lt-leb 1 (count (suc j) (take (t .n) o)) (omega (arith, count-no-row (t .n) (suc j) (omega arith))))
+      (sym (padded-past f (t .n) j few q))))

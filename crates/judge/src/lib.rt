@@ -1,4 +1,4 @@
-// The judge of orders: worst finishes, slacks, the row of least slack, and the verdict on an order.
+// The judge of orders: worst finishes, slacks, the row of least slack, and the verdict on an order (section 7 of the rules).
 // Rows count from 1; row i is bit i - 1 of a word and entry i - 1 of a column.
 ghost use mathlib.Core.Path.{_≡_};
 ghost use mathlib.Core.List.{map};
@@ -36,11 +36,11 @@ fn swept<'a>(
 {
     let release = t.release;
     let level = t.level;
-    let from = worst::entry(&release, row);
-    if worst::entry(&level, row) == 0 {
-        worst::finish(queue, t.n, &release, normal, down, from)
+    let from = sweep::entry(&release, row);
+    if sweep::entry(&level, row) == 0 {
+        sweep::finish(queue, t.n, &release, normal, down, from)
     } else {
-        worst::finish(queue, t.n, &release, degraded, down, from)
+        sweep::finish(queue, t.n, &release, degraded, down, from)
     }
 }
 
@@ -51,15 +51,15 @@ pub fn worst_finishes(t: Table, order: [u8; 64]) -> [u32; 64]
 {
     let n = t.n;
     let release = t.release;
-    let queue = worst::sorted(&release, n);
-    let normal = worst::caps(t, t.normal);
-    let degraded = worst::caps(t, t.degraded);
+    let queue = sweep::sorted(&release, n);
+    let normal = sweep::caps(t, t.normal, t.normal);
+    let degraded = sweep::caps(t, t.normal, t.degraded);
     let mut out: [u32; 64] = [0; 64];
     let mut down: u64 = 0;
     let mut k: u32 = 0;
     while k < n {
         let row = order[k as usize];
-        let upto = worst::with(down, row);
+        let upto = sweep::with(down, row);
         out[(row - 1) as usize] = swept(t, &queue, &normal, &degraded, upto, row);
         down = upto;
         k += 1;
@@ -68,7 +68,7 @@ pub fn worst_finishes(t: Table, order: [u8; 64]) -> [u32; 64]
 }
 
 // Slots left from a finish to the deadline, below zero when late.
-pub fn slack(deadline: u32, finish: u32) -> i32
+fn slack(deadline: u32, finish: u32) -> i32
     requires { ⌜ (deadline < 2 ^ 31) × (finish < 2 ^ 31) ⌝ }
     ensures { λ r. ⌜ r ≡ pos deadline -ℤ pos finish ⌝ }
 {

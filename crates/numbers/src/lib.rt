@@ -1,4 +1,4 @@
-// Document 01's numbers and values of the answers, as numbers.
+// The numbers and values of the answers, as numbers (section 10 of the rules).
 ghost use mathlib.Core.Path.{_≡_};
 ghost use Rattle.rules.specs.Numbers.{refusalNumber, checkNumber, plannedNumber, rowsLeft};
 ghost use Rattle.record.specs.Answers.{slotSaid, forwardSaid};

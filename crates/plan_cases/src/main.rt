@@ -7,12 +7,12 @@ fn show(name: &[u8]) {
         os::fail(name);
         return;
     }
-    let mut sheet = [0u8; 2138];
+    let mut sheet = [0u8; text::KEPT];
     let kept = io::read_full(file, &mut sheet);
     libc::close(file);
     io::write_all(1, name);
     io::write_all(1, b"\n");
-    let mut out = [0u8; 1617];
+    let mut out = [0u8; text::LONGEST];
     let size = text::program(&sheet[..kept], &mut out);
     io::write_all(1, &out[..size]);
 }
@@ -22,6 +22,9 @@ fn main() {
     show(b"p2");
     show(b"no_order");
     show(b"rows64");
+    show(b"one_more");
+    show(b"two_more");
+    show(b"three_more");
     show(b"long");
     show(b"empty");
     show(b"short");

@@ -14,7 +14,7 @@ use Rattle.rules.specs.Choice.{padded}
 use Rattle.theory.specs.Counts.{In, in-head, in-tail}
 use Rattle.theory.specs.Sorting.{insertBy, sortBy, same-sort}
 use Rattle.theory.specs.Facts.{Row, facts}
-use Rattle.worst.specs.Padded.{column-more}
+use Rattle.sweep.specs.Padded.{column-more}
 
 -- a later deadline, in slots, has the lower key
 abbrev pub lateness : ℕ → ℕ

@@ -19,9 +19,9 @@ use Rattle.theory.specs.Counts.{In, Once, in-head, in-tail, first-in, same-size
 use Rattle.theory.specs.Facts.{TableFacts, facts, count-zero}
 use Rattle.theory.specs.Places.{rows-once, length-rows}
 use Rattle.theory.specs.Choosing.{same-sequence}
-use Rattle.worst.specs.Masks.{bit, isLeft, cleared-ones}
-use Rattle.worst.specs.Holds.{Holds, holds-start, holds-without, holds-once, holds-row, holds-in, keep-without}
-use Rattle.worst.specs.Padded.{zeros, padded-zeros}
+use Rattle.sweep.specs.Masks.{bit, isLeft, cleared-ones}
+use Rattle.sweep.specs.Holds.{Holds, holds-start, holds-without, holds-once, holds-row, holds-in, keep-without}
+use Rattle.sweep.specs.Padded.{zeros, padded-zeros}
 use Rattle.planner.specs.Trying.{leftOf}
 
 -- the rows placed so far, highest first, where the places above, as many as `place` says, are open
@@ -62,7 +62,8 @@ unfolding fill
 fill-turn t k l placed e = rw (ne-eqb (taker t l) 0 e)
 
 -- the row that takes a place is put above those placed
-placed-more : (t : Table) (order : List ℕ) (k row : ℕ) → length order ≡ 64 → k < t .n → t .n ≤ 64 → placedBelow t (set order k row) k ≡ row ∷ placedBelow t order (suc k)
+placed-more : (t : Table) (order : List ℕ) (k row : ℕ) → length order ≡ 64 → k < t .n → t .n ≤ 64
+    → placedBelow t (set order k row) k ≡ row ∷ placedBelow t order (suc k)
 placed-more t order k row e h few =
     let m = length-set order k row in
     let z : t .n - k ≡ suc (t .n - suc k) = omega arith in
@@ -139,7 +140,8 @@ module _ (t : Table) (accepted : Accepted t) where
         placing-turn after less a c =
             let k = place - 1 in
             let s : place ≡ suc k = omega arith in
-            let h : Holds after (erase i (leftOf t left)) = rw a (holds-without left (leftOf t left) i (taker-range .0) (taker-range .1) (p .holds) taker-once) in
+            let h : Holds after (erase i (leftOf t left)) =
+            rw a (holds-without left (leftOf t left) i (taker-range .0) (taker-range .1) (p .holds) taker-once) in
             let rows : leftOf t after ≡ erase i (leftOf t left) = rw a left-less in
             let w : less ≡ k = omega (arith, cleared-ones (i - 1) left taker-bit, ap ones a, p .counted) in
             record {

@@ -13,8 +13,8 @@ use Rattle.theory.specs.Sorting.{sortBy}
 use Rattle.theory.specs.Caps.{cap}
 use Rattle.theory.specs.Facts.{rows-in, TableFacts, facts}
 use Rattle.theory.specs.Places.{length-rows}
-use Rattle.worst.specs.Padded.{Rows, padded-take, padded-entry, padded-at}
-use Rattle.worst.specs.Finds.{byRelease}
+use Rattle.sweep.specs.Padded.{Rows, padded-take, padded-entry, padded-at}
+use Rattle.sweep.specs.Finds.{byRelease}
 use Rattle.planner.specs.declared.Trials.{Trials}
 use Rattle.planner.specs.Keys.{trialKey, sort-eq}
 use Rattle.planner.specs.Sequence.{sequence-sort}
@@ -55,7 +55,8 @@ module _ (t : Table) (accepted : Accepted t) where
       (λ x i. let r = rows-in t x i in rw e (padded-at (trialKey t) (t .n) x (r .from) (r .upTo) (f .few)))
       ∙ sequence-sort t f
 
-  pub prepared : (queue keys sequence normal degraded : List ℕ) → queue ≡ padded (sortBy (λ i. at (t .release) i) (rowsOf t)) → keys ≡ padded (map (trialKey t) (rowsOf t))
+  pub prepared : (queue keys sequence normal degraded : List ℕ) → queue ≡ padded (sortBy (λ i. at (t .release) i) (rowsOf t))
+      → keys ≡ padded (map (trialKey t) (rowsOf t))
       → sequence ≡ padded (sortBy (λ i. at keys i) (rowsOf t)) → normal ≡ capsAt t (t .normal) → degraded ≡ capsAt t (t .degraded)
       → _≡_ {A = Trials} (record { queue = queue; sequence = sequence; normal = normal; degraded = degraded }) (trialsOf t)
   unfolding trialsOf

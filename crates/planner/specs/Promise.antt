@@ -14,18 +14,12 @@ use Rattle.rules.specs.declared.Check.the-variants.{Passed, Refused}
 use Rattle.rules.specs.declared.Planning.{Planning}
 use Rattle.rules.specs.Tables.{checkTable, Accepted}
 use Rattle.rules.specs.Orders.{isOrder}
-use Rattle.rules.specs.Correct.{Correct}
+use Rattle.rules.specs.Correct.{Correct, CorrectOrder}
 use Rattle.rules.specs.Choice.{choice, word, padded, planFrom, planChecked, planOf}
 use Rattle.rules.specs.Numbers.{refusalNumber, plannedNumber, rowsLeft}
 use Rattle.theory.specs.Tests.{by-eqb}
 use Rattle.theory.specs.Counts.{In, in-head}
 use Rattle.theory.specs.Results.{choice-order, choice-correct, choice-none}
-
--- an order that passes check 6 and is correct
-pub record CorrectOrder (t : Table) : Type 0 where
-  pub order : List ℕ
-  pub passes : isOrder t order ≡ true
-  pub correct : Correct t order
 
 pub record Promise (t : Table) (r : Planning) : Type 0 where
   -- the answer is the planner's of checks 3 to 5 and the choice
@@ -39,7 +33,7 @@ pub record Promise (t : Table) (r : Planning) : Type 0 where
   pub left : plannedNumber (r .answer) ≡ 7 → rowsLeft (r .answer) ≡ word (choice t .left)
 
 -- no refusal has the number 0 or 7
-refusal-number : (r : Refusal) → (refusalNumber r ≡ 0 → ⊥) × (refusalNumber r ≡ 7 → ⊥)
+pub refusal-number : (r : Refusal) → (refusalNumber r ≡ 0 → ⊥) × (refusalNumber r ≡ 7 → ⊥)
 unfolding refusalNumber
 refusal-number Length = (λ e. omega arith, λ e. omega arith)
 refusal-number Malformed = (λ e. omega arith, λ e. omega arith)
@@ -67,14 +61,25 @@ chosen t accepted =
     (λ e q. let none = empty (choice t .left) q in
     rw e (record {
       answer = rw (accepted, e);
-      exists = λ _. (λ _. record { order = padded (choice t .placed); passes = choice-order t accepted none; correct = choice-correct t accepted none }, λ _. refl);
+      exists = λ _. (
+        λ _. record {
+          order = padded (choice t .placed);
+          passes = choice-order t accepted none;
+          correct = choice-correct t accepted none;
+        },
+        λ _. refl,
+      );
       right = λ _. (choice-order t accepted none, choice-correct t accepted none);
       none = λ z. absurd (omega arith);
       left = λ z. absurd (omega arith);
     }))
     (λ e q. rw e (record {
       answer = rw (accepted, e);
-      exists = λ _. (λ z. absurd (omega arith), λ o. absurd (some-row (choice t .left) q (λ x i. choice-none t accepted x i (o .order) (o .passes) (o .correct))));
+      exists = λ _. (
+        λ z. absurd (omega arith),
+        λ o. absurd (some-row (choice t .left) q
+            (λ x i. choice-none t accepted x i (o .order) (o .passes) (o .correct))),
+      );
       right = λ z. absurd (omega arith);
       none = λ _ o p c. some-row (choice t .left) q (λ x i. choice-none t accepted x i o p c);
       left = λ _. refl;

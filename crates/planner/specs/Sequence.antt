@@ -14,7 +14,7 @@ use Rattle.theory.specs.Tests.{by-bool, by-leb, by-ltb, not-is}
 use Rattle.theory.specs.Counts.{In, in-head, in-tail}
 use Rattle.theory.specs.Sorting.{Sorted, insertBy, sortBy, sorted-sort, same-sort}
 use Rattle.theory.specs.Facts.{rows-in, TableFacts}
-use Rattle.worst.specs.Holds.{count-dropped, count-keep-le}
+use Rattle.sweep.specs.Holds.{count-dropped, count-keep-le}
 use Rattle.planner.specs.Keys.{lateness, trialKey}
 
 -- what a test keeps of a sorted list

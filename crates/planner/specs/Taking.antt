@@ -12,13 +12,13 @@ use Rattle.rules.specs.Choice.{sequence, passes, taker, padded}
 use Rattle.theory.specs.Counts.{In}
 use Rattle.theory.specs.Facts.{TableFacts, facts}
 use Rattle.theory.specs.Choosing.{same-sequence}
-use Rattle.worst.specs.Masks.{isLeft}
-use Rattle.worst.specs.Holds.{holds-left}
-use Rattle.worst.specs.Padded.{Rows, rest, rest-step, rows-within}
-use Rattle.worst.specs.Trials.{Columns}
+use Rattle.sweep.specs.Masks.{isLeft}
+use Rattle.sweep.specs.Holds.{holds-left}
+use Rattle.sweep.specs.Padded.{Rows, rest, rest-step, rows-within}
+use Rattle.sweep.specs.Trials.{Columns}
 use Rattle.planner.specs.declared.Trials.{Trials}
 use Rattle.planner.specs.Prepared.{capsAt, trialsOf, every-take, every-rows}
-use Rattle.worst.specs.Finds.{byRelease, columns}
+use Rattle.sweep.specs.Finds.{byRelease, columns}
 use Rattle.planner.specs.Trying.{leftOf, trialPasses, Trial, trial-passes}
 
 -- the trial of a row over the table's columns and what its trials share

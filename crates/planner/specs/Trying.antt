@@ -20,11 +20,11 @@ use Rattle.theory.specs.Caps.{cap}
 use Rattle.theory.specs.Facts.{rows-in, TableFacts, facts}
 use Rattle.theory.specs.Choosing.{same-sequence}
 use Rattle.theory.specs.Results.{worst-sweep}
-use Rattle.worst.specs.Masks.{isLeft}
-use Rattle.worst.specs.Holds.{Holds, count-keep-le}
-use Rattle.worst.specs.Padded.{padded-at}
-use Rattle.worst.specs.Trials.{trial}
-use Rattle.worst.specs.Finds.{byRelease, queued, queued-sorted, queued-same, sweep-same}
+use Rattle.sweep.specs.Masks.{isLeft}
+use Rattle.sweep.specs.Holds.{Holds, count-keep-le}
+use Rattle.sweep.specs.Padded.{padded-at}
+use Rattle.sweep.specs.Trials.{trial}
+use Rattle.sweep.specs.Finds.{byRelease, queued, queued-sorted, queued-same, sweep-same}
 use Rattle.planner.specs.declared.Trials.{Trials}
 use Rattle.planner.specs.Prepared.{capsAt, trialsOf, every-take}
 
@@ -39,7 +39,8 @@ trialPasses queue n release deadline level normal degraded left row =
 
 -- a finish at these caps decides the trial
 pub decided : (queue : List ℕ) (n : ℕ) (release deadline level normal degraded : List ℕ) (left row : ℕ) (caps : List ℕ) (finish from due : ℕ)
-    → cond (eqb (at level row) 0) normal degraded ≡ caps → from ≡ at release row → due ≡ at deadline row → finish ≡ trial release caps left from 0 (take n queue)
+    → cond (eqb (at level row) 0) normal degraded ≡ caps → from ≡ at release row → due ≡ at deadline row
+    → finish ≡ trial release caps left from 0 (take n queue)
     → leb finish due ≡ trialPasses queue n release deadline level normal degraded left row
 unfolding trialPasses
 decided queue n release deadline level normal degraded left row caps finish from due e p q r = rw (e, r, p, q)
@@ -65,7 +66,8 @@ module _ (t : Table) (accepted : Accepted t) (m : ℕ) (holds : Holds m (leftOf 
   swept-same = queued-same t m (leftOf t m) holds left-within
 
   -- the sweep at the caps of a left row's own worst speed says whether it passes
-  swept-passes : (i : ℕ) → In i (leftOf t m) → leb (sweep (releaseOf t) (λ j. at (capsAt t (worstSpeed t i)) j) (releaseOf t i) 0 swept) (deadlineOf t i) ≡ passes t (leftOf t m) i
+  swept-passes : (i : ℕ) → In i (leftOf t m)
+      → leb (sweep (releaseOf t) (λ j. at (capsAt t (worstSpeed t i)) j) (releaseOf t i) 0 swept) (deadlineOf t i) ≡ passes t (leftOf t m) i
   unfolding passes meets
   swept-passes i k =
       let s = worstSpeed t i in
@@ -80,7 +82,8 @@ module _ (t : Table) (accepted : Accepted t) (m : ℕ) (holds : Holds m (leftOf 
       (λ x. omega (arith, last x, swept-same x))))
 
   pub trial-passes : (i : ℕ) → In i (leftOf t m)
-      → trialPasses (padded (byRelease t)) (t .n) (t .release) (t .deadline) (t .level) (capsAt t (t .normal)) (capsAt t (t .degraded)) m i ≡ passes t (leftOf t m) i
+      → trialPasses (padded (byRelease t)) (t .n) (t .release) (t .deadline) (t .level) (capsAt t (t .normal)) (capsAt t (t .degraded)) m i
+      ≡ passes t (leftOf t m) i
   unfolding trialPasses
   trial-passes i k =
       rw (every-take t f (byRelease t) (same-sort (releaseOf t) (rowsOf t)))

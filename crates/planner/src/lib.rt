@@ -1,12 +1,12 @@
-// The planner's choice: an order for a table, filled from the lowest place up, or the rows left where none exists.
-// Rows count from 1; the rows left are one 64-bit word, row 1 in the lowest bit.
+// The planner's choice (section 4 of the rules): an order for a table, its lowest place first, or the rows left where none exists.
+// The first row is row 1; the rows left are a word in which row i is bit i - 1 (rule 4.8).
 ghost use mathlib.Core.Path.{_≡_};
 ghost use mathlib.Core.List.{map};
 ghost use Prim.Native.Nat.{_≤_};
 ghost use Rattle.rules.specs.Lists.{rowsTo};
 ghost use Rattle.rules.specs.Tables.{Accepted};
 ghost use Rattle.rules.specs.Choice.{padded, taker, choice, planFrom};
-ghost use Rattle.worst.specs.Trials.{Columns};
+ghost use Rattle.sweep.specs.Trials.{Columns};
 ghost use Rattle.planner.specs.Keys.{keyOf, trialKey};
 ghost use Rattle.planner.specs.Prepared.{trialsOf};
 ghost use Rattle.planner.specs.Trying.{leftOf, trialPasses, Trial};
@@ -25,7 +25,7 @@ struct Trials {
     degraded: [u32; 64],
 }
 
-// The key of a row in the trial sequence: LO, of level 0, before HI, and a later deadline (in slots) first.
+// The key of a row in the trial sequence (rule 4.3): LO, of level 0, before HI, and a later deadline (in slots) first.
 fn trial_key(level: u32, deadline: u32) -> u32
     requires { ⌜ deadline ≤ 1000000 ⌝ }
     ensures { λ r. ⌜ r ≡ keyOf level deadline ⌝ }
@@ -55,10 +55,10 @@ fn prepare(t: Table) -> Trials
     ensures { λ w. ⌜ w ≡ trialsOf t ⌝ }
 {
     let keys = trial_keys(t);
-    let queue = worst::sorted(&t.release, t.n);
-    let sequence = worst::sorted(&keys, t.n);
-    let normal = worst::caps(t, t.normal);
-    let degraded = worst::caps(t, t.degraded);
+    let queue = sweep::sorted(&t.release, t.n);
+    let sequence = sweep::sorted(&keys, t.n);
+    let normal = sweep::caps(t, t.normal, t.normal);
+    let degraded = sweep::caps(t, t.normal, t.degraded);
     Trials {
         queue: queue,
         sequence: sequence,
@@ -67,9 +67,9 @@ fn prepare(t: Table) -> Trials
     }
 }
 
-// The row meets its deadline with all other rows left above it: at the normal speed if it is LO, at the degraded speed if
-// it is HI. Releases, deadlines and caps in slots.
-fn passes<'a>(
+// The trial of a row (rule 4.4): it finishes in time with all other rows left above it, at the normal speed if it is LO, at the
+// degraded speed if it is HI. Releases, deadlines and caps in slots.
+fn meets_deadline<'a>(
     queue: &'a [u8; 64],
     n: u32,
     release: &'a [u32; 64],
@@ -81,18 +81,19 @@ fn passes<'a>(
     row: u8,
 ) -> bool
     requires { ⌜ (1 ≤ row) × (row ≤ 64) × Columns (now queue) n (now release) (now normal) × Columns (now queue) n (now release) (now degraded) ⌝ }
-    ensures { λ b. ⌜ b ≡ trialPasses (now (queue .entry)) n (now (release .entry)) (now (deadline .entry)) (now (level .entry)) (now (normal .entry)) (now (degraded .entry)) left row ⌝ }
+    ensures { λ b. ⌜ b ≡ trialPasses (now (queue .entry)) n (now (release .entry)) (now (deadline .entry)) (now (level .entry))
+        (now (normal .entry)) (now (degraded .entry)) left row ⌝ }
 {
-    let from = worst::entry(release, row);
-    let due = worst::entry(deadline, row);
-    if worst::entry(level, row) == 0 {
-        worst::finish(queue, n, release, normal, left, from) <= due
+    let from = sweep::entry(release, row);
+    let due = sweep::entry(deadline, row);
+    if sweep::entry(level, row) == 0 {
+        sweep::finish(queue, n, release, normal, left, from) <= due
     } else {
-        worst::finish(queue, n, release, degraded, left, from) <= due
+        sweep::finish(queue, n, release, degraded, left, from) <= due
     }
 }
 
-// The first row left of the trial sequence that may take the lowest place, 0 where none may.
+// The first row left of the trial sequence that may take the lowest place, 0 where none may (rules 4.2, 4.5).
 fn taker(t: Table, w: Trials, left: u64) -> u8
     requires { ⌜ Trial t w left ⌝ }
     ensures { λ r. ⌜ r ≡ taker t (leftOf t left) ⌝ }
@@ -100,8 +101,8 @@ fn taker(t: Table, w: Trials, left: u64) -> u8
     let mut tried: u32 = 0;
     while tried < t.n {
         let row = w.sequence[tried as usize];
-        if worst::has(left, row) {
-            if passes(
+        if sweep::has(left, row) {
+            if meets_deadline(
                 &w.queue,
                 t.n,
                 &t.release,
@@ -120,15 +121,15 @@ fn taker(t: Table, w: Trials, left: u64) -> u8
     0
 }
 
-// The choice for an accepted table. The place being filled is how many rows are left.
+// The choice for an accepted table (rules 4.1 to 4.6). The place being filled is how many rows are left (rule 4.9).
 fn choose(t: Table) -> Planning
     requires { ⌜ Accepted t ⌝ }
     ensures { λ r. ⌜ r ≡ planFrom (choice t) ⌝ }
 {
     let w = prepare(t);
     let mut order: [u8; 64] = [0; 64];
-    let mut left = worst::first_rows(t.n);
-    let mut place = worst::how_many(left);
+    let mut left = sweep::first_rows(t.n);
+    let mut place = sweep::how_many(left);
     while place > 0 {
         let row = taker(t, w, left);
         if row == 0 {
@@ -139,8 +140,8 @@ fn choose(t: Table) -> Planning
             };
         }
         order[(place - 1) as usize] = row;
-        left = worst::without(left, row);
-        place = worst::how_many(left);
+        left = sweep::without(left, row);
+        place = sweep::how_many(left);
     }
     Planning {
         answer: Planned::Ordered,
@@ -148,7 +149,7 @@ fn choose(t: Table) -> Planning
     }
 }
 
-// The answer for any table: checks 3, 4 and 5, then the choice.
+// The answer for any table: checks 3, 4 and 5, then the choice (rule 11.3).
 pub fn plan(t: Table) -> Planning
     ensures { λ r. ⌜ Promise t r ⌝ }
 {

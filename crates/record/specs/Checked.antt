@@ -1,4 +1,4 @@
--- What checks 3 to 6 give of a table and an order that passed them.
+-- What is known of a table and an order that passed checks 3 to 6 (rules 5.5, 5.7).
 use Prim.Native.Nat.{ℕ, _≤_}
 use mathlib.Core.Bool.{true}
 use mathlib.Core.List.{List}
@@ -11,7 +11,7 @@ use Rattle.rules.specs.Rows.{workOf}
 use Rattle.rules.specs.Tables.{passed}
 use Rattle.rules.specs.Orders.{checkBoth}
 use Rattle.theory.specs.Facts.{TableFacts, facts, both-accepted, both-order}
-use Rattle.record.specs.Places.{Placed, placed}
+use Rattle.columns.specs.Places.{Placed, placed}
 
 pub passed-true : (c : Check) → passed c ≡ true → c ≡ Passed
 passed-true Passed e = refl

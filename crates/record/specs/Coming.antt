@@ -1,4 +1,5 @@
--- The answer for the coming slot is the slot's own answer, whatever its supply: firmware may start the row first and report the supply after.
+-- The answer for the coming slot is the slot's own answer, whatever its supply (rule 8.15): firmware may start the row and report the
+-- supply afterwards.
 use Prim.Native.Nat.{ℕ, _<_}
 use mathlib.Core.Bool.{Bool, true, false, cond}
 use mathlib.Core.Path.{_≡_, refl, sym}
@@ -15,7 +16,7 @@ use Rattle.record.specs.declared.SlotAnswer.the-variants.{Worked, Refuse
 use Rattle.record.specs.declared.Stepped.{Stepped}
 use Rattle.record.specs.Records.{isSound, chosenRow, nextRun, comingSlot, oneSlot}
 
--- the row run does not depend on the slot's supply
+-- working the slot with any supply answers what the coming slot answered (rules 2.4, 8.15)
 pub answer-coming : (r : Run) (v : ℕ) → oneSlot r v .answer ≡ comingSlot r
 unfolding oneSlot comingSlot
 answer-coming r v =
@@ -27,7 +28,7 @@ answer-coming r v =
 never : {P : Type 0} {i : ℕ} {w : Refusal} → Refused w ≡ Worked i → P
 never e = let z : _≡_ {A = ℕ} 0 1 = cc in absurd (omega arith)
 
--- the answers of the two tests, 9 and then 8
+-- the answers of the two tests, 9 and then 8 (rule 11.5)
 abbrev answered : Bool → Bool → ℕ → SlotAnswer
 answered sound early i = cond sound (cond early (Worked i) (Refused ClockOver)) (Refused Unsound)
 

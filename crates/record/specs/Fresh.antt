@@ -1,4 +1,4 @@
--- The fresh record of a checked table and order is sound: every row is open, and needs a slot at least.
+-- The fresh record of a checked table and order (rule 8.2) is sound: every row is open, and needs a slot at least.
 use Prim.Native.Nat.{ℕ, zero, suc, _-_, _≤_}
 use mathlib.Core.Bool.{true, false}
 use mathlib.Core.List.{List}
@@ -16,8 +16,8 @@ use Rattle.rules.specs.Slots.{fresh}
 use Rattle.record.specs.Records.{tailSound, isSound, freshRun}
 use Rattle.theory.specs.Caps.{need-above}
 use Rattle.theory.specs.Tests.{by-bool}
-use Rattle.record.specs.AllRows.{zeros-of}
-use Rattle.record.specs.Figures.{over, sound-test}
+use Rattle.columns.specs.AllRows.{zeros-of}
+use Rattle.columns.specs.Figures.{over, sound-test}
 use Rattle.record.specs.Checked.{limits, works}
 use Rattle.record.specs.Sound.{soundRow, is-sound}
 use Rattle.record.specs.Kept.{Sized}

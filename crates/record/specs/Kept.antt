@@ -1,4 +1,4 @@
--- Every slot keeps a record sound, so that 9 never comes up after a sound start.
+-- Every slot keeps a record sound (rule 8.16), so that 9 never comes up after a sound start (rule 9.11).
 use Prim.Native.Nat.{ℕ, _+_, _≤_, _<_}
 use mathlib.Core.Bool.{true}
 use mathlib.Core.List.{List, [], _∷_}
@@ -16,8 +16,8 @@ use Rattle.record.specs.declared.SlotAnswer.the-variants as Slots
 use Rattle.record.specs.declared.ForwardAnswer.the-variants as Forwards
 use Rattle.record.specs.Records.{tailSound, isSound, nextRun, chosenRow, workOn, oneSlot, forwardOver}
 use Rattle.theory.specs.Tests.{by-bool, by-eqb}
-use Rattle.record.specs.Columns.{put-same, put-other, put-after}
-use Rattle.record.specs.Figures.{soundAt, sound-facts, sound-test, sound-later, sound-run}
+use Rattle.columns.specs.Entries.{put-same, put-other, put-after}
+use Rattle.columns.specs.Figures.{soundAt, sound-facts, sound-test, sound-later, sound-run}
 use Rattle.record.specs.Checked.{limits}
 use Rattle.record.specs.Sound.{soundRow, IsSound, sound-so, is-sound, Runs, runs}
 use Rattle.record.specs.Stepping.{gotNext, closingNext, rested, served, next-idle, next-served}
@@ -43,7 +43,8 @@ module _ (r : Run) (z : Sized r) (f : IsSound r) (early : r .clock < lastClock) 
     in-column : i ≤ 64
     in-column = omega (arith, limits (r .table) (r .order) (f .checked) .few, c .high)
 
-    run-here : soundAt (workOf (r .table) i) (at (r .table .level) i) (r .table .normal) (r .clock + 1) (gotNext r v i) (at (r .used) i + 1) (closingNext r v i) ≡ true
+    run-here : soundAt (workOf (r .table) i) (at (r .table .level) i) (r .table .normal) (r .clock + 1) (gotNext r v i) (at (r .used) i + 1)
+        (closingNext r v i) ≡ true
     run-here =
         let u = sound-facts _ _ _ _ _ _ _ (f .rows i (c .low) (c .high)) .used-by in
         sound-test _ _ _ _ _ _ _ (sound-run _ _ _ _ _ _ (min-le-left (workOf (r .table) i) (at (r .got) i + v)) u)
@@ -52,16 +53,29 @@ module _ (r : Run) (z : Sized r) (f : IsSound r) (early : r .clock < lastClock) 
     row-served j l h =
         by-eqb j i
         (λ _ q.
-        rw (q, put-same (r .got) i (gotNext r v i) (c .low) (omega (arith, in-column, z .got)), put-same (r .used) i (at (r .used) i + 1) (c .low) (omega (arith, in-column, z .used)), put-same (r .closing) i (closingNext r v i) (c .low) (omega (arith, in-column, z .closing)))
+        rw (
+          q,
+          put-same (r .got) i (gotNext r v i) (c .low) (omega (arith, in-column, z .got)),
+          put-same (r .used) i (at (r .used) i + 1) (c .low) (omega (arith, in-column, z .used)),
+          put-same (r .closing) i (closingNext r v i) (c .low) (omega (arith, in-column, z .closing)),
+        )
         run-here)
         (λ _ q.
-        rw (put-other (r .got) i j (gotNext r v i) (c .low) l q, put-other (r .used) i j (at (r .used) i + 1) (c .low) l q, put-other (r .closing) i j (closingNext r v i) (c .low) l q)
+        rw (
+          put-other (r .got) i j (gotNext r v i) (c .low) l q,
+          put-other (r .used) i j (at (r .used) i + 1) (c .low) l q,
+          put-other (r .closing) i j (closingNext r v i) (c .low) l q,
+        )
         (later j l h))
 
     tail-served : tailSound s ≡ true
     unfolding tailSound
     tail-served =
-        rw (put-after (r .got) (r .table .n) i (gotNext r v i) (c .low) (c .high), put-after (r .used) (r .table .n) i (at (r .used) i + 1) (c .low) (c .high), put-after (r .closing) (r .table .n) i (closingNext r v i) (c .low) (c .high))
+        rw (
+          put-after (r .got) (r .table .n) i (gotNext r v i) (c .low) (c .high),
+          put-after (r .used) (r .table .n) i (at (r .used) i + 1) (c .low) (c .high),
+          put-after (r .closing) (r .table .n) i (closingNext r v i) (c .low) (c .high),
+        )
         (f .tail)
 
     served-sound : IsSound s
@@ -102,7 +116,7 @@ work-not-nine k (v ∷ vs) r n =
     (λ h. work-not-nine (k + 1) vs (nextRun r v) (rw h at n))
     (λ h. let a : Forwards.ClockOver k ≡ Forwards.Refused Unsound = rw h at n in let b : _≡_ {A = ℕ} 0 1 = cc in omega arith)
 
--- both run calls leave a sound record sound, and neither says 9 of one
+-- both run calls leave a sound record sound, and neither says 9 of one (rules 8.16, 9.11)
 module _ (r : Run) (e : isSound r ≡ true) where
   pub one-sound : (v : ℕ) → Sized r → isSound (oneSlot r v .run) ≡ true
   unfolding oneSlot

@@ -1,15 +1,9 @@
 pub mod Records
 pub mod Answers
 pub mod RecordCases
-pub mod AllRows
-pub mod Figures
-pub mod Places
-pub mod Columns
 pub mod Checked
 pub mod Sound
 pub mod Stepping
 pub mod Kept
 pub mod Fresh
 pub mod Coming
-pub mod Forwarding
-pub mod Splitting

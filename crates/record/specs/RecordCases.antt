@@ -1,35 +1,55 @@
--- Cases on run records, computed from the definitions and checked by one theorem: numbers 8 and 9, the clock's last slots,
--- sound records that no run reaches, and each clause of check 9 broken alone.
+-- Cases on run records, computed from the definitions and checked by one theorem: numbers 8 and 9, the clock's last slots (rules 8.5, 8.12,
+-- 8.13, 13.9), a sound record that no run reaches (rule 8.7), and records that check 9 refuses for one fault each (rules 8.4 to 8.8).
 use Prim.Native.Nat.{ℕ}
-use mathlib.Core.Bool.{Bool, _&&_}
+use mathlib.Core.Bool.{Bool, true, cond, _&&_}
 use mathlib.Core.List.{List, [], _∷_}
 use lib.Dec.{T, eqb}
 use Rattle.record.specs.declared.Run.{Run}
 use Rattle.record.specs.Answers.{slotSaid, forwardSaid}
-use Rattle.record.specs.Records.{recordOf, rowSound, tailSound, isSound, nextRun, chosenRow, oneSlot, workOn, forwardOver}
+use Rattle.record.specs.Records.{recordOf, rowSound, tailSound, isSound, nextRun, chosenRow, comingSlot, oneSlot, workOn, forwardOver, freshOf}
 use Rattle.rules.specs.Calls.{Said}
 use Rattle.rules.specs.Choice.{padded}
 use Rattle.rules.specs.Judge.{tableOf}
-use Rattle.rules.specs.Lists.{all}
+use Rattle.rules.specs.Lists.{same}
 use Rattle.rules.specs.Need.{need}
-use Rattle.rules.specs.Numbers.{refusalNumber}
+use Rattle.rules.specs.Numbers.{refusalNumber, checkNumber}
 use Rattle.rules.specs.Orders.{isOrder, checkOrder, checkBoth}
-use Rattle.rules.specs.Slots.{isReady, chosen, isOver, serve, slot}
+use Rattle.rules.specs.Slots.{fresh, isReady, chosen, isOver, serve, slot}
 use Rattle.rules.specs.Tables.{rowOk, tailOk, checkTable}
 use Rattle.rules.specs.declared.Table.{Table}
 
 pub data Case : Type 0 where
-  -- one slot on the record with this supply gives this number and row
+  -- one slot on the record with this supply (work units) gives this number and row
   stepped : Run → ℕ → ℕ → ℕ → Case
-  -- forward on the record over these supplies gives this number and slots worked
+  -- forward on the record over these supplies (work units) gives this number and slots worked
   forwarded : Run → List ℕ → ℕ → ℕ → Case
+  -- after one slot with this supply the record shows this clock, work got, slots used and closing slots
+  leaves : Run → ℕ → ℕ → List ℕ → List ℕ → List ℕ → Case
+  -- the fresh record of this table and order has this number, and is the record of zeros unless it is 0
+  begun : Table → List ℕ → ℕ → Case
+  -- the coming slot of the record has this number and row
+  coming : Run → ℕ → ℕ → Case
 
 abbrev sameSaid : Said → ℕ → ℕ → Bool
 sameSaid s number value = eqb (s .number) number && eqb (s .value) value
 
+-- the record's clock and columns, zeros after the figures given
+abbrev shows : Run → ℕ → List ℕ → List ℕ → List ℕ → Bool
+shows r clock got used closing =
+    eqb (r .clock) clock && same (r .got) (padded got) && same (r .used) (padded used) && same (r .closing) (padded closing)
+
 abbrev holds : Case → Bool
 holds (stepped r v number row) = sameSaid (slotSaid (oneSlot r v .answer)) number row
 holds (forwarded r vs number slots) = sameSaid (forwardSaid (forwardOver r vs .answer)) number slots
+holds (leaves r v clock got used closing) = shows (oneSlot r v .run) clock got used closing
+holds (begun t o number) =
+    eqb (checkNumber (freshOf t (padded o) .check)) number
+    && eqb (freshOf t (padded o) .run .table .n) (cond (eqb number 0) (t .n) 0)
+    && eqb (freshOf t (padded o) .run .table .normal) (cond (eqb number 0) (t .normal) 0)
+    && same (freshOf t (padded o) .run .table .work) (cond (eqb number 0) (t .work) (padded []))
+    && same (freshOf t (padded o) .run .order) (cond (eqb number 0) (padded o) (padded []))
+    && shows (freshOf t (padded o) .run) 0 [] [] []
+holds (coming r number row) = sameSaid (slotSaid (comingSlot r)) number row
 
 -- P3's table: N 2, G 1 work units per slot; a LO row of 2 work units (allowance 1 slot) and a HI row of 4
 abbrev two : Table
@@ -46,6 +66,12 @@ at o clock got used closing = recordOf two (padded o) (record { clock = clock; g
 abbrev order : List ℕ
 order = 1 ∷ 2 ∷ []
 
+-- a fresh record of one row and these speeds, in work units per slot
+abbrev one : ℕ → ℕ → ℕ → ℕ → Run
+one work deadline normal degraded =
+    recordOf (tableOf (record { release = 0; work = work; deadline = deadline; level = 1 } ∷ []) normal degraded) (padded (1 ∷ []))
+    (record { clock = 0; got = padded []; used = padded []; closing = padded [] })
+
 abbrev cases : List Case
 cases =
     stepped (at order 1999999 [] [] []) 5 0 1
@@ -54,28 +80,59 @@ cases =
     ∷ forwarded (at order 1999998 [] [] []) (1 ∷ 1 ∷ 1 ∷ []) 8 2
     ∷ forwarded (at order 2000000 [] [] []) [] 0 0
     ∷ forwarded (at order 2000001 [] [] []) [] 9 0
-    -- not an order
+    -- row 1 stands in the order twice (rule 8.4)
     ∷ stepped (at (1 ∷ 1 ∷ []) 0 [] [] []) 5 9 0
-    -- sound, and reached by no run: the LO row closed after more slots than it is allowed, the HI row with slots used and nothing got
+    -- sound, and reached by no run: the LO row has used more slots than its allowance, and the HI row used slots and got nothing (rule 8.7)
     ∷ stepped (at order 9 (1 ∷ 0 ∷ []) (5 ∷ 6 ∷ []) (2 ∷ 0 ∷ [])) 5 0 2
-    -- got over c
+    -- row 1 has 3 work units of 2 (rule 8.6)
     ∷ stepped (at order 9 (3 ∷ 0 ∷ []) (1 ∷ 0 ∷ []) (1 ∷ 0 ∷ [])) 5 9 0
-    -- used over the clock
+    -- row 2 used 10 slots by clock 9 (rule 8.6)
     ∷ stepped (at order 9 (0 ∷ 0 ∷ []) (0 ∷ 10 ∷ []) (0 ∷ 0 ∷ [])) 5 9 0
-    -- closing over the clock
+    -- row 1 closed at 10 by clock 9 (rule 8.6)
     ∷ stepped (at order 9 (2 ∷ 0 ∷ []) (1 ∷ 0 ∷ []) (10 ∷ 0 ∷ [])) 5 9 0
-    -- open though its work is got
+    -- row 2 has all its work, and no closing slot (rule 8.7)
     ∷ stepped (at order 9 (0 ∷ 4 ∷ []) (0 ∷ 2 ∷ []) (0 ∷ 0 ∷ [])) 5 9 0
-    -- open though its LO allowance is used up
+    -- row 1, LO, has used up its allowance of 1 slot, and has no closing slot (rule 8.7)
     ∷ stepped (at order 9 (0 ∷ 0 ∷ []) (1 ∷ 0 ∷ []) (0 ∷ 0 ∷ [])) 5 9 0
-    -- closed with neither
+    -- row 2 has a closing slot, and work missing (rule 8.7)
     ∷ stepped (at order 9 (0 ∷ 0 ∷ []) (0 ∷ 0 ∷ []) (0 ∷ 1 ∷ [])) 5 9 0
-    -- an entry after row n is not zero
+    -- each column with a figure for row 3 of a table of two rows (rule 8.8)
     ∷ stepped (at order 9 (0 ∷ 0 ∷ 1 ∷ []) [] []) 5 9 0
     ∷ stepped (at order 9 [] (0 ∷ 0 ∷ 1 ∷ []) []) 5 9 0
     ∷ stepped (at order 9 [] [] (0 ∷ 0 ∷ 1 ∷ [])) 5 9 0
+    -- each limit of a table (rule 8.4): the row count, N, G, a row
+    ∷ stepped (one 1 1 2 1) 5 0 1
+    ∷ stepped (recordOf (tableOf [] 2 1) (padded []) (record { clock = 0; got = padded []; used = padded []; closing = padded [] })) 5 9 0
+    ∷ stepped (one 1 1 1001 1) 5 9 0
+    ∷ stepped (one 1 1 2 0) 5 9 0
+    ∷ stepped (one 1 1 2 3) 5 9 0
+    ∷ stepped (one 0 1 2 1) 5 9 0
+    ∷ stepped (one 1 1000001 2 1) 5 9 0
+    -- what a slot leaves: the row that runs, an idle slot, a refusal
+    ∷ leaves (at order 0 [] [] []) 1 1 (1 ∷ []) (1 ∷ []) (1 ∷ [])
+    ∷ leaves (at order 1 (1 ∷ []) (1 ∷ []) (1 ∷ [])) 3 2 (1 ∷ 3 ∷ []) (1 ∷ 1 ∷ []) (1 ∷ [])
+    ∷ leaves (at order 9 (2 ∷ 4 ∷ []) (1 ∷ 2 ∷ []) (1 ∷ 3 ∷ [])) 5 10 (2 ∷ 4 ∷ []) (1 ∷ 2 ∷ []) (1 ∷ 3 ∷ [])
+    ∷ leaves (at order 2000000 [] [] []) 5 2000000 [] [] []
+    ∷ leaves (at order 2000001 [] [] []) 5 2000001 [] [] []
+    -- fresh records (rule 8.2)
+    ∷ begun two order 0
+    ∷ begun two (1 ∷ 1 ∷ []) 6
+    ∷ begun (tableOf [] 2 1) [] 3
+    ∷ begun (tableOf (record { release = 0; work = 1; deadline = 1; level = 0 } ∷ []) 2 3) (1 ∷ []) 4
+    ∷ begun (tableOf (record { release = 1; work = 1; deadline = 1; level = 0 } ∷ []) 2 1) (1 ∷ []) 5
+    -- the coming slot (rule 8.15)
+    ∷ coming (at order 0 [] [] []) 0 1
+    ∷ coming (at order 9 (2 ∷ 4 ∷ []) (1 ∷ 2 ∷ []) (1 ∷ 3 ∷ [])) 0 0
+    ∷ coming (at order 2000000 [] [] []) 8 0
+    ∷ coming (at order 2000001 [] [] []) 9 0
     ∷ []
 
-pub cases-hold : T (all holds cases)
-unfolding slotSaid forwardSaid rowSound tailSound isSound nextRun chosenRow oneSlot workOn forwardOver padded tableOf need refusalNumber isOrder checkOrder checkBoth isReady chosen isOver serve slot rowOk tailOk checkTable
+-- every case of a list holds
+abbrev allHold : List Case → Bool
+allHold [] = true
+allHold (c ∷ cs) = holds c && allHold cs
+
+pub cases-hold : T (allHold cases)
+unfolding slotSaid forwardSaid rowSound tailSound isSound nextRun chosenRow comingSlot oneSlot workOn forwardOver freshOf checkNumber fresh
+    padded tableOf need refusalNumber isOrder checkOrder checkBoth isReady chosen isOver serve slot rowOk tailOk checkTable
 cases-hold = tt

@@ -1,4 +1,5 @@
--- Run records: which are sound (check 9), the fresh record, one slot and forward on a record.
+-- Run records (rule 8.1): which of them are sound (rules 8.3 to 8.8), the fresh record (rule 8.2), one slot (rule 8.9), forward (rule 8.10)
+-- and the coming slot (rule 8.15). What a slot does is not said here once more: it is `slot` of the rules, on the state held (rule 9.16).
 use Prim.Native.Nat.{ℕ, _+_}
 use mathlib.Core.Bool.{Bool, cond, not, _&&_}
 use mathlib.Core.List.{List, [], _∷_}
@@ -22,16 +23,16 @@ use Rattle.rules.specs.Orders.{checkBoth}
 use Rattle.rules.specs.Slots.{State, fresh, isOver, chosen, slot}
 use Rattle.rules.specs.Calls.{lastClock}
 
--- the state that a record holds
+-- the state that a record holds (rules 2.13, 8.1)
 abbrev pub stateOf : Run → State
 stateOf r = record { clock = r .clock; got = r .got; used = r .used; closing = r .closing }
 
--- the record of a table, an order and a state
+-- the record of a table, an order and a state (rule 8.1)
 abbrev pub recordOf : Table → List ℕ → State → Run
 recordOf t o s = record { table = t; order = o; clock = s .clock; got = s .got; used = s .used; closing = s .closing }
 
--- Row i of check 9: it has not "got over c, used over clock or closing over clock", and it is not
--- "open though its work is got or its LO allowance used up", nor "closed with neither".
+-- Row i's figures are sound: its work got is at most c, its slots used and its closing slot are at most the clock (rule 8.6), and it is
+-- over, as `isOver` says, exactly if it has a closing slot (rule 8.7).
 unfoldable pub rowSound : Run → ℕ → Bool
 rowSound r i =
     leb (at (r .got) i) (workOf (r .table) i)
@@ -41,11 +42,12 @@ rowSound r i =
     (not (isOver (r .table) i (at (r .got) i) (at (r .used) i)))
     (isOver (r .table) i (at (r .got) i) (at (r .used) i))
 
--- no "entry after row n is not zero"
+-- after row n the columns of the state hold zeros only (rule 8.8)
 unfoldable pub tailSound : Run → Bool
 tailSound r = allZero (drop (r .table .n) (r .got)) && allZero (drop (r .table .n) (r .used)) && allZero (drop (r .table .n) (r .closing))
 
--- check 9 does not refuse the record: its table and order pass 3 to 6, its clock is at most 2,000,000 slots, and its rows are sound
+-- Check 9 lets the record through (rule 8.3): its table and order pass checks 3 to 6 (rule 8.4), its clock is at most 2,000,000 slots
+-- (rule 8.5), the figures of each row are sound (rules 8.6, 8.7), and zeros stand behind them (rule 8.8).
 unfoldable pub isSound : Run → Bool
 isSound r =
     passed (checkBoth (r .table) (r .order))
@@ -53,34 +55,37 @@ isSound r =
     && all (rowSound r) (rowsOf (r .table))
     && tailSound r
 
--- "A fresh record holds a table, an order of it, clock 0 and only zeros as work got, slots used and closing slots."
+-- a table and an order before their first slot: the state is the one of zeros (rules 2.13, 8.2)
 abbrev pub freshRun : Table → List ℕ → Run
 freshRun t o = recordOf t o fresh
 
+-- by what checks 3 to 6 answer: that record, or on a refusal the record of zeros (rule 8.2)
 abbrev pub freshChecked : Check → Table → List ℕ → FreshRun
 freshChecked Checks.Passed t o = record { check = Checks.Passed; run = freshRun t o }
 freshChecked (Checks.Refused r) t o = record { check = Checks.Refused r; run = freshRun zeroTable (replicate 64 0) }
 
--- the fresh record of any table and any sixty-four numbers: refused by 3 to 6 with a record of zeros
+-- the fresh record of any table and any sixty-four numbers, with the answer of checks 3 to 6 (rules 8.2, 11.4)
 unfoldable pub freshOf : Table → List ℕ → FreshRun
 freshOf t o = freshChecked (checkBoth t o) t o
 
--- the record with the next slot worked, with supply v in work units
+-- the record with its coming slot worked, with supply v in work units; table and order stay (rules 8.9, 9.10)
 unfoldable pub nextRun : Run → ℕ → Run
 nextRun r v = recordOf (r .table) (r .order) (slot (r .table) (r .order) v (stateOf r))
 
--- the row that the coming slot runs, 0 for none
+-- the row that the coming slot runs, 0 for an idle slot; it is the same for every supply, since none is asked for (rules 2.3, 2.4)
 unfoldable pub chosenRow : Run → ℕ
 chosenRow r = chosen (r .table) (r .order) (stateOf r)
 
--- the answer for the coming slot, before its supply is known: firmware may start the row first and report the supply after
+-- The answer for the coming slot, before its supply is known: 9 for an unsound record, 8 at clock 2,000,000, else the row (rules 8.15,
+-- 11.5). Firmware may start that row and report the supply afterwards.
 unfoldable pub comingSlot : Run → SlotAnswer
 comingSlot r =
     cond (isSound r)
     (cond (ltb (r .clock) lastClock) (Slots.Worked (chosenRow r)) (Slots.Refused Refusals.ClockOver))
     (Slots.Refused Refusals.Unsound)
 
--- "Working a slot checks 9, then 8"; with either the record is unchanged
+-- One slot with supply v, in work units. Check 9 comes first and 8 after it, and with either of them the record stays (rules 8.9, 8.13,
+-- 8.14, 11.5).
 unfoldable pub oneSlot : Run → ℕ → Stepped
 oneSlot r v =
     cond (isSound r)
@@ -89,11 +94,13 @@ oneSlot r v =
     (record { answer = Slots.Refused Refusals.ClockOver; run = r }))
     (record { answer = Slots.Refused Refusals.Unsound; run = r })
 
--- one slot for each supply in turn, of which k are worked already; with 8 "record as it was then, slots worked so far"
+-- One slot for each supply (work units), first to last, on a sound record; k are worked already (rule 8.10). No supply, no change (rule
+-- 8.12). A supply at clock 2,000,000 ends it with the count up to there and the record as these slots left it (rule 8.13).
 unfoldable pub workOn : ℕ → List ℕ → Run → Forwarded
 workOn k [] r = record { answer = Forwards.Worked k; run = r }
 workOn k (v ∷ vs) r = cond (ltb (r .clock) lastClock) (workOn (k + 1) vs (nextRun r v)) (record { answer = Forwards.ClockOver k; run = r })
 
--- the second entry: with 9 "record unchanged, 0 slots"; "With a sound record an empty list changes nothing and answers 0."
+-- Forward, the second entry (rule 8.10). Check 9 is made once, before any supply is looked at; an unsound record stays as it was,
+-- whatever the supplies (rules 8.14, 11.5).
 unfoldable pub forwardOver : Run → List ℕ → Forwarded
 forwardOver r vs = cond (isSound r) (workOn 0 vs r) (record { answer = Forwards.Refused Refusals.Unsound; run = r })

@@ -1,4 +1,4 @@
--- What check 9 says of a sound record, as facts, and the facts of the row that its coming slot runs.
+-- What check 9 says of a sound record (rules 8.3 to 8.8), as facts, and the facts of the row that its coming slot runs (rule 2.3).
 use Prim.Native.Nat.{ℕ, _≤_}
 use mathlib.Core.Bool.{Bool, true, _&&_}
 use mathlib.Core.Path.{_≡_, refl, sym, _∙_}
@@ -15,10 +15,10 @@ use Rattle.rules.specs.Slots.{isReady, chosen, isOver}
 use Rattle.record.specs.declared.Run.{Run}
 use Rattle.record.specs.Records.{stateOf, rowSound, tailSound, isSound, chosenRow}
 use Rattle.theory.specs.Tests.{and-left, and-right}
-use Rattle.record.specs.AllRows.{all-each, all-of}
+use Rattle.columns.specs.AllRows.{all-each, all-of}
 use Rattle.theory.specs.Counts.{first-passes}
-use Rattle.record.specs.Figures.{over, soundAt, rowSoundAt, sound-facts}
-use Rattle.record.specs.Places.{Placed}
+use Rattle.columns.specs.Figures.{over, soundAt, rowSoundAt, sound-facts}
+use Rattle.columns.specs.Places.{Placed}
 use Rattle.record.specs.Checked.{passed-true, limits, places}
 
 -- row i's soundness over the record's columns
@@ -29,6 +29,7 @@ row-figures : (r : Run) (i : ℕ) → rowSound r i ≡ soundRow r i
 unfolding rowSound soundAt isOver over
 row-figures r i = refl
 
+-- check 9 as facts: the test `isSound` passes exactly if they hold (`sound-so`, `is-sound`)
 pub record IsSound (r : Run) : Type 0 where
   pub checked : checkBoth (r .table) (r .order) ≡ Passed
   pub clock : r .clock ≤ lastClock

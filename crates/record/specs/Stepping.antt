@@ -1,4 +1,4 @@
--- The next record, apart: idle, or with the chosen row served.
+-- The next record, apart: after an idle slot (rule 2.12), or with the chosen row served (rule 2.5).
 use Prim.Native.Nat.{ℕ, _+_, min}
 use mathlib.Core.Bool.{cond}
 use mathlib.Core.Path.{_≡_, sym}
@@ -7,13 +7,13 @@ use Rattle.rules.specs.Rows.{at, put, workOf}
 use Rattle.rules.specs.Slots.{isOver, serve, slot}
 use Rattle.record.specs.declared.Run.{Run}
 use Rattle.record.specs.Records.{chosenRow, nextRun}
-use Rattle.record.specs.Figures.{over}
+use Rattle.columns.specs.Figures.{over}
 
--- row i's work units got after a slot of supply v
+-- row i's work units after a slot that supplies v: at most its work (rule 2.5)
 abbrev pub gotNext : Run → ℕ → ℕ → ℕ
 gotNext r v i = min (workOf (r .table) i) (at (r .got) i + v)
 
--- its closing slot after that slot
+-- its closing slot after that slot, 0 while it is open (rule 2.10)
 abbrev pub closingNext : Run → ℕ → ℕ → ℕ
 closingNext r v i =
     cond (over (workOf (r .table) i) (at (r .table .level) i) (r .table .normal) (gotNext r v i) (at (r .used) i + 1)) (r .clock + 1) 0

@@ -1,5 +1,5 @@
--- Fields of a sheet. "Fields are 8 bytes: a decimal number right-justified, spaces (byte 32) before it, at least one digit,
--- no leading zero except 0 itself."
+-- Fields of a sheet: 8 bytes with a decimal number at their right end, byte 32 to its left, and no zero before other digits
+-- (rules 6.1, 6.2).
 use Prim.Native.Nat.{ℕ, _+_, _-_, _*_, _/_, _%_}
 use mathlib.Core.Bool.{Bool, cond, _&&_, _||_}
 use mathlib.Core.List.{List, [], _∷_, map}
@@ -7,35 +7,36 @@ use lib.Dec.{eqb, leb}
 use lib.ListN.{take, drop}
 use Rattle.rules.specs.Lists.{same}
 
--- "one of eight fixed powers of ten"
+-- what a digit counts for at each byte of a field, from the left (rule 6.3)
 abbrev pub weights : List ℕ
 weights = 10000000 ∷ 1000000 ∷ 100000 ∷ 10000 ∷ 1000 ∷ 100 ∷ 10 ∷ 1 ∷ []
 
--- the byte of v at a weight: its digit there (byte 48 is "0"), and a space before its first digit
+-- the byte of v at a weight: its digit there (byte 48 is the digit 0), and a space before its first digit (rules 6.1, 6.2)
 unfoldable pub digitAt : ℕ → ℕ → ℕ
 digitAt v w = cond (leb w v || eqb w 1) (48 + v / w % 10) 32
 
--- the eight bytes of a number below 100,000,000
+-- the eight bytes of a number below 100,000,000 (rules 6.1, 6.2)
 unfoldable pub written : ℕ → List ℕ
 written v = map (digitAt v) weights
 
--- what a byte adds: its digit, and nothing for a byte that is none
+-- what a byte adds: its digit, and nothing for a byte that is none (rule 6.3)
 unfoldable pub digitOf : ℕ → ℕ
 digitOf b = cond (leb 48 b && leb b 57) (b - 48) 0
 
--- "Reading weighs each digit by one of eight fixed powers of ten."
+-- each digit times its weight, added up (rule 6.3)
 abbrev pub weigh : List ℕ → List ℕ → ℕ
 weigh [] bs = 0
 weigh (w ∷ ws) [] = 0
 weigh (w ∷ ws) (b ∷ bs) = w * digitOf b + weigh ws bs
 
+-- the number that eight bytes hold (rule 6.3)
 unfoldable pub valueOf : List ℕ → ℕ
 valueOf field = weigh weights field
 
--- well formed: the eight bytes are those of a number, which is then the field's value
+-- well formed: the eight bytes are those of a number, which is then the field's value (rules 6.1 to 6.3)
 unfoldable pub isField : List ℕ → Bool
 isField field = same field (written (valueOf field))
 
--- the field that starts at a byte
+-- the field that starts at a byte (rule 6.1)
 abbrev pub fieldAt : List ℕ → ℕ → List ℕ
 fieldAt bytes start = take 8 (drop start bytes)

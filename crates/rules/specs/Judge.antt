@@ -1,4 +1,4 @@
--- The judge. "It answers yes or no, the row of least slack (lower row on a tie) and that slack."
+-- The judge: a verdict on an order, the tightest row and its slack (section 7 of the rules).
 use Prim.Native.Nat.{ℕ}
 use mathlib.Core.Bool.{cond}
 use mathlib.Core.List.{List, [], _∷_, _++_, map}
@@ -15,31 +15,34 @@ use Rattle.rules.specs.Orders.{checkBoth}
 use Rattle.rules.specs.Rows.{rowsOf}
 use Rattle.rules.specs.Worst.{slack}
 
--- the row of least slack among row b and the rows of the list, which come after it
+-- the row of least slack among row b and the rows of the list, which come after it; b on a tie (rule 7.3)
 abbrev pub leastSlack : Table → List ℕ → ℕ → List ℕ → ℕ
 leastSlack t o b [] = b
 leastSlack t o b (i ∷ is) = leastSlack t o (cond (ltZ (slack t o i) (slack t o b)) i b) is
 
--- the row of least slack, the lower row on a tie
+-- the tightest row: of all rows that share the least slack, the one with the lowest number (rule 7.3)
 unfoldable pub tightest : Table → List ℕ → ℕ
 tightest t o = leastSlack t o 1 (rowsOf t)
 
--- yes exactly if no slack is below zero (in slots)
+-- yes if row i's slack, in slots, is not below zero; for the tightest row this says that no row is late (rule 7.2; that it is
+-- yes exactly for correct orders is proved, `exact` in the judge's promise)
 abbrev pub verdictAt : Table → List ℕ → ℕ → Verdict
 verdictAt t o i = cond (ltZ (slack t o i) (pos 0)) (Incorrect i (slack t o i)) (Correct i (slack t o i))
 
+-- a refused table or order has no verdict (rule 7.4)
 abbrev pub judgeChecked : Check → Table → List ℕ → Verdict
 judgeChecked Checks.Passed t o = verdictAt t o (tightest t o)
 judgeChecked (Checks.Refused r) t o = Refused r
 
--- the judge's answer for any table and any sixty-four numbers: checks 3, 4, 5, 6, then the verdict
+-- the judge's answer for any table and any sixty-four numbers: checks 3, 4, 5, 6, then the verdict (rules 7.1, 11.4)
 unfoldable pub judgeOf : Table → List ℕ → Verdict
 judgeOf t o = judgeChecked (checkBoth t o) t o
 
--- "The judge borrows the rows as a list of records. The list's length is n." A longer list than 64 is refused by its n.
+-- one figure of all rows of a lent list, zeros after the last; what stands after sixty-four rows is cut off (rule 7.1)
 abbrev pub column : (Row → ℕ) → List Row → List ℕ
 column f rows = take 64 (map f rows ++ replicate 64 0)
 
+-- the table of a lent list of rows: n is the list's length, so that more than 64 rows are refused by 3 (rule 7.1)
 unfoldable pub tableOf : List Row → ℕ → ℕ → Table
 tableOf rows normal degraded =
     record {

@@ -5,6 +5,7 @@ pub mod Tables
 pub mod Orders
 pub mod Slots
 pub mod Correct
+pub mod Meaning
 pub mod Worst
 pub mod Choice
 pub mod Judge

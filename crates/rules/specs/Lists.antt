@@ -1,10 +1,10 @@
--- Small list functions that the definitions share.
+-- Small list functions that the definitions share. None of them states a rule by itself.
 use Prim.Native.Nat.{ℕ, zero, suc, _+_, max, min}
 use mathlib.Core.Bool.{Bool, true, false, cond, _&&_}
 use mathlib.Core.List.{List, [], _∷_, _++_}
 use lib.Dec.{eqb}
 
--- the numbers of the first n rows: 1, 2, .., n
+-- the numbers of the first n rows: 1, 2, .., n (rule 1.3)
 abbrev pub rowsTo : ℕ → List ℕ
 rowsTo zero = []
 rowsTo (suc k) = rowsTo k ++ (suc k ∷ [])

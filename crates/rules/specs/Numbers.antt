@@ -1,4 +1,4 @@
--- This paper's number and values for every case of every answer ("Numbers a caller may get").
+-- The number and the values of every case of every answer (section 10 of the rules).
 use Prim.Native.Nat.{ℕ}
 use mathlib.Core.Bool.{Bool, true, false}
 use lib.IntN.{ℤ, pos}
@@ -11,6 +11,7 @@ use Rattle.rules.specs.declared.Planned.the-variants as Plans
 use Rattle.rules.specs.declared.Verdict.{Verdict}
 use Rattle.rules.specs.declared.Verdict.the-variants as Verdicts
 
+-- a refusal's number (rules 10.1 to 10.6, 10.8, 10.9)
 unfoldable pub refusalNumber : Refusal → ℕ
 refusalNumber Length = 1
 refusalNumber Malformed = 2
@@ -21,41 +22,45 @@ refusalNumber NotAnOrder = 6
 refusalNumber ClockOver = 8
 refusalNumber Unsound = 9
 
--- the reader, the checks of tables and orders, the fresh record
+-- the number of the reader, of the checks of tables and orders, of the fresh record: 0 where no check refuses (rule 10.0)
 unfoldable pub checkNumber : Check → ℕ
 unfolding refusalNumber
 checkNumber Checks.Passed = 0
 checkNumber (Checks.Refused r) = refusalNumber r
 
--- the planner: its number, and the rows left as a word, "which is 0 in every other answer"
+-- the planner's number: 0 with an order, 7 where none exists (rules 10.0, 10.7)
 unfoldable pub plannedNumber : Planned → ℕ
 unfolding refusalNumber
 plannedNumber Plans.Ordered = 0
 plannedNumber (Plans.NoOrder left) = 7
 plannedNumber (Plans.Refused r) = refusalNumber r
 
+-- the planner's rows left as a word, which is 0 unless the number is 7 (rule 4.8)
 unfoldable pub rowsLeft : Planned → ℕ
 rowsLeft Plans.Ordered = 0
 rowsLeft (Plans.NoOrder left) = left
 rowsLeft (Plans.Refused r) = 0
 
--- the judge: its number, yes or no, the row of least slack, that slack in slots; a refusal is all zero
+-- the judge's number, which is 0 with either verdict (rule 10.0)
 unfoldable pub verdictNumber : Verdict → ℕ
 unfolding refusalNumber
 verdictNumber (Verdicts.Correct row slack) = 0
 verdictNumber (Verdicts.Incorrect row slack) = 0
 verdictNumber (Verdicts.Refused r) = refusalNumber r
 
+-- the judge's yes; no with a refusal (rules 7.2, 7.4)
 unfoldable pub verdictYes : Verdict → Bool
 verdictYes (Verdicts.Correct row slack) = true
 verdictYes (Verdicts.Incorrect row slack) = false
 verdictYes (Verdicts.Refused r) = false
 
+-- the judge's tightest row; 0 with a refusal (rules 7.3, 7.4)
 unfoldable pub verdictRow : Verdict → ℕ
 verdictRow (Verdicts.Correct row slack) = row
 verdictRow (Verdicts.Incorrect row slack) = row
 verdictRow (Verdicts.Refused r) = 0
 
+-- the slack of that row, in slots; 0 with a refusal (rules 7.3, 7.4)
 unfoldable pub verdictSlack : Verdict → ℤ
 verdictSlack (Verdicts.Correct row slack) = slack
 verdictSlack (Verdicts.Incorrect row slack) = slack

@@ -1,4 +1,4 @@
--- What the planning program writes. "It writes 8-byte fields as in the sheet."
+-- What the planning program writes, in fields like those of a sheet (section 12 of the rules).
 use Prim.Native.Nat.{ℕ, _-_}
 use mathlib.Core.List.{List, [], _∷_, _++_}
 use lib.Count.{ones}
@@ -16,29 +16,32 @@ use Rattle.rules.specs.Rows.{at, deadlineOf}
 use Rattle.rules.specs.Sheets.{readOf}
 use Rattle.rules.specs.Worst.{worstFinish}
 
--- fields on a line, which ends with byte 10
+-- fields on a line, which ends with byte 10 (rule 12.3)
 abbrev pub line : List ℕ → List ℕ
 line [] = 10 ∷ []
 line (v ∷ vs) = written v ++ line vs
 
--- "After 0, one line per place: place, row, slack": the k-th place's row, and its slack in slots, which is not below zero after 0
+-- the line of place k: the place, its row, and the row's slack in slots, which after success is not below zero (rule 12.5)
 unfoldable pub placeLine : Table → List ℕ → ℕ → List ℕ
 placeLine t o k = line (k ∷ at o k ∷ (deadlineOf t (at o k) - worstFinish t o (at o k)) ∷ [])
 
+-- the lines of these places (rule 12.5)
 abbrev pub placeLines : Table → List ℕ → List ℕ → List ℕ
 placeLines t o [] = []
 placeLines t o (k ∷ ks) = placeLine t o k ++ placeLines t o ks
 
--- "First line: 0 and n, or the refusal's number and how many rows are left (0 unless 7)."
+-- first line and places for a planner's answer; a refusal has its number and the count of rows left alone, which is
+-- that of the set bits of their word (rules 4.9, 12.4, 12.5)
 abbrev pub planText : Table → List ℕ → Planned → List ℕ
 planText t o Plans.Ordered = line (0 ∷ t .n ∷ []) ++ placeLines t o (rowsTo (t .n))
 planText t o (Plans.NoOrder left) = line (7 ∷ ones left ∷ [])
 planText t o (Plans.Refused r) = line (refusalNumber r ∷ 0 ∷ [])
 
+-- the text for a reader's answer: a refused sheet has no row left (rule 12.4)
 abbrev pub readText : Check → Table → List ℕ
 readText Checks.Passed t = planText t (planOf t .order) (planOf t .answer)
 readText (Checks.Refused r) t = line (refusalNumber r ∷ 0 ∷ [])
 
--- "It keeps one byte more than the longest sheet (2,138)"
+-- the program from input to output; of its input it looks at 2,138 bytes (rules 12.1, 12.2)
 unfoldable pub programText : List ℕ → List ℕ
 programText input = let r = readOf (take 2138 input) in readText (r .check) (r .table)

@@ -1,4 +1,4 @@
--- A table's rows and their figures. "A job is a row: release a, work c, deadline d, level (0 = LO, 1 = HI). Rows count from 1."
+-- A table's rows and their figures (rules 1.1 to 1.3).
 use Prim.Native.Nat.{ℕ, _-_}
 use mathlib.Core.Bool.{Bool, not, _&&_}
 use mathlib.Core.List.{List}
@@ -7,38 +7,38 @@ use lib.ListN.{getD, set}
 use Rattle.rules.specs.declared.Table.{Table}
 use Rattle.rules.specs.Lists.{rowsTo}
 
--- row i's entry of a column
+-- row i's entry of a column (rule 1.3)
 abbrev pub at : List ℕ → ℕ → ℕ
 at xs i = getD xs (i - 1) 0
 
--- the column with v as row i's entry
+-- the column with v as row i's entry (rule 1.3)
 abbrev pub put : List ℕ → ℕ → ℕ → List ℕ
 put xs i v = set xs (i - 1) v
 
--- i is the number of a row of the table
+-- i is the number of a row of the table (rule 1.3)
 abbrev pub isRow : Table → ℕ → Bool
 isRow t i = ltb 0 i && leb i (t .n)
 
--- the rows of the table, by number
+-- the rows of the table, by number (rule 1.3)
 abbrev pub rowsOf : Table → List ℕ
 rowsOf t = rowsTo (t .n)
 
--- a, in slots
+-- the release a, in slots (rule 1.5)
 abbrev pub releaseOf : Table → ℕ → ℕ
 releaseOf t i = at (t .release) i
 
--- c, in work units
+-- the work c, in work units (rule 1.1)
 abbrev pub workOf : Table → ℕ → ℕ
 workOf t i = at (t .work) i
 
--- d, in slots
+-- the deadline d, in slots (rule 1.6)
 abbrev pub deadlineOf : Table → ℕ → ℕ
 deadlineOf t i = at (t .deadline) i
 
--- level 0
+-- a LO row: level 0 (rule 1.2)
 abbrev pub isLow : Table → ℕ → Bool
 isLow t i = eqb (at (t .level) i) 0
 
--- any other level; in an accepted table this is level 1
+-- a HI row: any other level, which in an accepted table is level 1 (rule 1.2)
 abbrev pub isHigh : Table → ℕ → Bool
 isHigh t i = not (isLow t i)

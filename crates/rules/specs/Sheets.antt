@@ -1,5 +1,5 @@
--- The sheet and its reader. "A line ends with byte 10. The first line holds row count n, N, G (25 bytes).
--- Then n lines hold a, c, d, level (33 bytes each). Nothing follows the last line."
+-- The sheet and its reader: a first line of 25 bytes with n, N and G, a line of 33 bytes for each row, and no byte more
+-- (rules 6.4 to 6.8).
 use Prim.Native.Nat.{ℕ, _+_, _-_, _*_}
 use mathlib.Core.Bool.{Bool, cond, _&&_}
 use mathlib.Core.List.{List, _++_, map}
@@ -14,23 +14,23 @@ use Rattle.rules.specs.Fields.{valueOf, isField, fieldAt}
 use Rattle.rules.specs.Lists.{all, rowsTo}
 use Rattle.rules.specs.Tables.{countOk, checkTable, zeroTable}
 
--- k fields and a line end are well formed from byte start on
+-- k fields and a line end are well formed from byte start on (rules 6.1, 6.4)
 unfoldable pub isLine : List ℕ → ℕ → ℕ → Bool
 isLine bytes start k = all (λ j. isField (fieldAt bytes (start + 8 * (j - 1)))) (rowsTo k) && eqb (getD bytes (start + 8 * k) 0) 10
 
--- the number in the j-th field (from 1) of the line that starts at a byte
+-- the number in the j-th field (from 1) of the line that starts at a byte (rule 6.3)
 unfoldable pub numberAt : List ℕ → ℕ → ℕ → ℕ
 numberAt bytes start j = valueOf (fieldAt bytes (start + 8 * (j - 1)))
 
--- the byte at which row i's line starts
+-- the byte at which row i's line starts (rules 6.5, 6.6)
 abbrev pub lineOf : ℕ → ℕ
 lineOf i = 25 + 33 * (i - 1)
 
--- the j-th figures of the first n rows, zeros after
+-- the j-th figures of the first n rows, zeros after (rules 6.6, 6.8)
 unfoldable pub columnOf : List ℕ → ℕ → ℕ → List ℕ
 columnOf bytes n j = take 64 (map (λ i. numberAt bytes (lineOf i) j) (rowsTo n) ++ replicate 64 0)
 
--- the table that the bytes state
+-- the table that the bytes state (rules 6.5, 6.6)
 unfoldable pub tableIn : List ℕ → Table
 tableIn bytes =
     let n = numberAt bytes 0 1 in
@@ -44,7 +44,8 @@ tableIn bytes =
       level = columnOf bytes n 4;
     }
 
--- "Sheet checks come in this order: 1 for under 25 bytes, 2 in the first line, 3, 1 for length, 2 by row, 4, 5 by row."
+-- the reader's checks: too short (1), first line (2), row count (3), length (1), row lines (2), then those of the table, of which
+-- 4 and 5 are left (rules 6.7, 11.2)
 unfoldable pub checkSheet : List ℕ → Check
 checkSheet bytes =
     cond (ltb (length bytes) 25)
@@ -57,10 +58,11 @@ checkSheet bytes =
     (Refused RowCount))
     (Refused Malformed))
 
+-- a refusal comes with the table of zeros (rule 6.8)
 abbrev pub readChecked : Check → Table → Reading
 readChecked Passed t = record { check = Passed; table = t }
 readChecked (Refused r) t = record { check = Refused r; table = zeroTable }
 
--- the reader's answer for any bytes: the number and the whole table, all zero on a refusal
+-- the reader's answer for any bytes: the number and the whole table, all zero on a refusal (rule 6.8)
 unfoldable pub readOf : List ℕ → Reading
 readOf bytes = readChecked (checkSheet bytes) (tableIn bytes)

@@ -1,4 +1,4 @@
--- The run on paper, slot by slot. "Its state is a clock and, per row, work got, slots used and closing slot, all 0 at first."
+-- The run on paper, slot by slot (section 2 of the rules, and rule 9.6). At clock t the coming slot is slot t (rule 1.4).
 use Prim.Native.Nat.{ℕ, zero, suc, _+_, min}
 use mathlib.Core.Bool.{Bool, cond, _&&_, _||_}
 use mathlib.Core.List.{List}
@@ -9,39 +9,42 @@ use Rattle.rules.specs.Lists.{first}
 use Rattle.rules.specs.Need.{need}
 use Rattle.rules.specs.Rows.{at, put, isRow, releaseOf, workOf, isLow}
 
--- the clock in slots; for each row the work units got, the slots used and the closing slot (0 while open)
+-- the clock in slots; for each row the work units got, the slots used and the closing slot, 0 while open (rules 2.10, 2.13)
 pub record State : Type 0 where
   pub clock : ℕ
   pub got : List ℕ
   pub used : List ℕ
   pub closing : List ℕ
 
+-- the state at the start of a run: zeros (rule 2.13)
 unfoldable pub fresh : State
 fresh = record { clock = 0; got = replicate 64 0; used = replicate 64 0; closing = replicate 64 0 }
 
--- the row has closing slot 0 and a at most the clock
+-- row i is ready: it is a row of the table, released, and open (rules 1.5, 2.2)
 unfoldable pub isReady : Table → State → ℕ → Bool
 isReady t s i = isRow t i && leb (releaseOf t i) (s .clock) && eqb (at (s .closing) i) 0
 
--- "Each slot goes to the highest-standing job that is released and open. With none, the slot is idle" (row 0).
--- "The choice in slot t never depends on the supply of slot t": no supply is among the arguments.
+-- The row that the coming slot runs: the first ready one from the top of the order, 0 for an idle slot (rule 2.3).
+-- No supply is among the arguments, so that the choice cannot depend on one (rule 2.4).
 unfoldable pub chosen : Table → List ℕ → State → ℕ
 chosen t o s = first (isReady t s) o
 
--- the slots that a LO row may use: its need at N
+-- the slots that a LO row may use, at whatever speed: its need at N (rule 1.9; at G it would be the fault of rule 14.2)
 abbrev pub allowance : Table → ℕ → ℕ
 allowance t i = need (workOf t i) (t .normal)
 
--- row i with g work units got and u slots used is done (it has got c) or, if it is LO, has used its need at N
+-- Row i with g work units got and u slots used is over: it is done, having got c, or it is LO and has used up its allowance
+-- (rules 2.6, 2.7, 2.8). Its deadline does not come into it (rules 2.9, 14.3). Where both hold it is done and not dropped, since a row that
+-- is over was dropped just if it has not got c (rule 2.11).
 unfoldable pub isOver : Table → ℕ → ℕ → ℕ → Bool
 isOver t i g u = eqb g (workOf t i) || (isLow t i && leb (allowance t i) u)
 
--- "With no such row the slot is idle. Either way the clock becomes t+1."
+-- an idle slot: only the clock moves (rules 2.3, 2.12)
 abbrev pub idle : State → State
 idle s = record { clock = s .clock + 1; got = s .got; used = s .used; closing = s .closing }
 
--- Row i runs with supply v: "Its slots used grow by 1, its work got by s, but to c at most.
--- It closes with t+1 if it now has got c, or if it is LO and has now used its need at N."
+-- Row i runs with supply v, in work units. It has used one slot more and got v more, but never above c; the rest of v is lost
+-- (rules 2.1, 2.5). If that closes it, its closing slot is the clock after this slot (rule 2.10).
 unfoldable pub serve : Table → ℕ → ℕ → State → State
 serve t v i s =
     let g = min (workOf t i) (at (s .got) i + v) in
@@ -53,14 +56,15 @@ serve t v i s =
       closing = put (s .closing) i (cond (isOver t i g u) (s .clock + 1) 0);
     }
 
+-- row i runs, or for row 0 the slot is idle (rule 2.3)
 abbrev pub serveOrIdle : Table → ℕ → ℕ → State → State
 serveOrIdle t v i s = cond (eqb i 0) (idle s) (serve t v i s)
 
--- the step on paper, with supply v in work units; the clock's limit stands in Calls
+-- the step on paper, with supply v in work units (rules 2.3, 9.6); the last clock stands in Calls, since worst runs have none (rule 3.5)
 unfoldable pub slot : Table → List ℕ → ℕ → State → State
 slot t o v s = serveOrIdle t v (chosen t o s) s
 
--- the state after k slots from the fresh state; slot u supplies σ u work units
+-- the state after k slots from the fresh state, under the course of speed in which slot u supplies σ u work units (rule 3.4)
 unfoldable pub after : Table → List ℕ → (ℕ → ℕ) → ℕ → State
 after t o σ zero = fresh
 after t o σ (suc k) = slot t o (σ k) (after t o σ k)

@@ -1,6 +1,4 @@
--- Which tables are accepted: checks 3, 4 and 5, in this order.
--- "Limits: n 1 to 64; N 1 to 1,000; G 1 to N; c 1 to 1,000,000; d at most 1,000,000; a below d; level 0 or 1.
--- A table's rows after the n-th are all zero, else 5."
+-- Which tables are accepted: checks 3, 4 and 5, in this order (rules 5.1 to 5.5).
 use Prim.Native.Nat.{ℕ}
 use mathlib.Core.Bool.{Bool, true, false, cond, _&&_}
 use mathlib.Core.Path.{_≡_}
@@ -13,15 +11,15 @@ use Rattle.rules.specs.declared.Check.the-variants.{Passed, Refused}
 use Rattle.rules.specs.Lists.{all, allZero}
 use Rattle.rules.specs.Rows.{at, rowsOf, releaseOf, workOf, deadlineOf}
 
--- n is from 1 to 64 rows
+-- n is from 1 to 64 rows (rule 5.1)
 abbrev pub countOk : ℕ → Bool
 countOk n = leb 1 n && leb n 64
 
--- N is from 1 to 1,000 and G from 1 to N, in work units per slot
+-- N is from 1 to 1,000 and G from 1 to N, in work units per slot (rule 5.2)
 abbrev pub speedsOk : ℕ → ℕ → Bool
 speedsOk normal degraded = leb 1 normal && leb normal 1000 && leb 1 degraded && leb degraded normal
 
--- row i is within its limits
+-- row i is within its limits: work in work units, release and deadline in slots, level (rule 5.3)
 unfoldable pub rowOk : Table → ℕ → Bool
 rowOk t i =
     leb 1 (workOf t i)
@@ -30,11 +28,11 @@ rowOk t i =
     && ltb (releaseOf t i) (deadlineOf t i)
     && leb (at (t .level) i) 1
 
--- the rows after the n-th are all zero
+-- no figure stands after row n (rule 5.4)
 unfoldable pub tailOk : Table → Bool
 tailOk t = allZero (drop (t .n) (t .release)) && allZero (drop (t .n) (t .work)) && allZero (drop (t .n) (t .deadline)) && allZero (drop (t .n) (t .level))
 
--- checks 3, 4, 5
+-- checks 3, 4, 5 (rule 11.3)
 unfoldable pub checkTable : Table → Check
 checkTable t =
     cond (countOk (t .n))
@@ -43,15 +41,16 @@ checkTable t =
     (Refused Speeds))
     (Refused RowCount)
 
--- "A table is accepted if no check on tables (here 3 to 5) refuses it."
+-- the table passes all three (rule 5.5)
 abbrev pub Accepted : Table → Type 0
 Accepted t = checkTable t ≡ Passed
 
+-- the check did not refuse (rule 11.1)
 abbrev pub passed : Check → Bool
 passed Passed = true
 passed (Refused r) = false
 
--- the table of zeros
+-- the table of zeros (rule 6.8)
 abbrev pub zeroTable : Table
 zeroTable =
     record {

@@ -1,5 +1,4 @@
--- Worst finish and slack. "A job's worst finish under an order is its finish in the run that supplies exactly N (LO)
--- or exactly G (HI) in each slot, however long that lasts. Its slack is d less that finish, below zero when late."
+-- Worst run, worst finish and slack (rules 3.5 to 3.7).
 use Prim.Native.Nat.{ℕ, _+_}
 use mathlib.Core.Bool.{Bool, cond}
 use mathlib.Core.List.{List}
@@ -11,22 +10,22 @@ use Rattle.rules.specs.Need.{need}
 use Rattle.rules.specs.Rows.{at, rowsOf, releaseOf, workOf, deadlineOf, isLow}
 use Rattle.rules.specs.Slots.{after}
 
--- the supply of row i's own worst run, in work units per slot: exactly N for a LO row, exactly G for a HI row
+-- what each slot of row i's worst run supplies, in work units per slot: N for a LO row, G for a HI row (rule 3.5)
 abbrev pub worstSpeed : Table → ℕ → ℕ
 worstSpeed t i = cond (isLow t i) (t .normal) (t .degraded)
 
--- slots after which every row is closed at this speed: the latest release and all needs
+-- slots after which every row is closed at this speed, so that the run is long enough: the latest release and all needs (rule 3.5)
 unfoldable pub horizon : Table → ℕ → ℕ
 horizon t s = greatest (releaseOf t) (rowsOf t) + sum (λ i. need (workOf t i) s) (rowsOf t)
 
--- the clock, in slots, at which row i closes in its own worst run
+-- row i's closing slot in its worst run (rule 3.6); it is found slot by slot, so that each need is rounded by itself (rule 14.5)
 unfoldable pub worstFinish : Table → List ℕ → ℕ → ℕ
 worstFinish t o i = at (after t o (λ _. worstSpeed t i) (horizon t (worstSpeed t i)) .closing) i
 
--- in slots
+-- deadline minus worst finish, in slots, below zero for a late row (rule 3.7)
 unfoldable pub slack : Table → List ℕ → ℕ → ℤ
 slack t o i = pos (deadlineOf t i) -ℤ pos (worstFinish t o i)
 
--- row i meets its deadline in its own worst run
+-- row i's worst finish is not after its deadline (rule 4.4)
 unfoldable pub meets : Table → List ℕ → ℕ → Bool
 meets t o i = leb (worstFinish t o i) (deadlineOf t i)

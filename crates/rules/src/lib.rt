@@ -1,7 +1,7 @@
-// The words of the product: what a row, a table and each answer about them hold. An order is sixty-four row numbers.
-// What they mean stands in specs/; this file has no function. Rows count from 1.
+// The words of the product: what a row, a table and each answer about them hold. An order is sixty-four row numbers (rule 5.6).
+// What they mean stands in specs/; this file has no function. Row 1 is the first (rule 1.3). Rules are those of docs/RULES.md.
 
-// A job: release and deadline in slots, work in work units, level 0 (LO) or 1 (HI).
+// A job: release and deadline in slots, work in work units, level 0 (LO) or 1 (HI) (rules 1.1, 1.2).
 #[repr(C)]
 pub struct Row {
     pub release: u32,
@@ -10,8 +10,8 @@ pub struct Row {
     pub level: u32,
 }
 
-// A table of n jobs, one column for each figure; row i is at index i - 1, and the rows after the n-th are zero.
-// normal and degraded are speeds in work units per slot.
+// A table of n jobs, one column for each figure; row i is at index i - 1, and no figure stands after row n (rules 1.1, 5.4).
+// normal and degraded are speeds in work units per slot (rule 1.7).
 pub struct Table {
     pub n: u32,
     pub normal: u32,
@@ -22,7 +22,7 @@ pub struct Table {
     pub level: [u32; 64],
 }
 
-// Why a call was refused. The number of each is given by specs/Numbers.
+// Why a call was refused (rules 10.1 to 10.6, 10.8, 10.9). The number of each is given by specs/Numbers.
 pub enum Refusal {
     Length,
     Malformed,
@@ -34,32 +34,32 @@ pub enum Refusal {
     Unsound,
 }
 
-// A check passed, or what it was refused for.
+// A check passed, or what it was refused for (rule 11.1).
 pub enum Check {
     Passed,
     Refused(Refusal),
 }
 
-// The reader's answer, and the table that was read (all zero on a refusal).
+// The reader's answer, and the table that was read (all zero on a refusal) (rule 6.8).
 pub struct Reading {
     pub check: Check,
     pub table: Table,
 }
 
-// The planner's answer: an order was made, none exists and these rows are left (row 1 in the lowest bit), or a refusal.
+// The planner's answer: an order was made, none exists and these rows are left (as a word, rule 4.8), or a refusal (rule 4.10).
 pub enum Planned {
     Ordered,
     NoOrder(u64),
     Refused(Refusal),
 }
 
-// The planner's answer with the order made (all zero unless it was).
+// The planner's answer with the order made, all zero unless it was (rules 10.0, 10.7).
 pub struct Planning {
     pub answer: Planned,
     pub order: [u8; 64],
 }
 
-// The judge's answer: yes or no, each with the row of least slack and that slack in slots, or a refusal.
+// The judge's answer: yes or no, each with the tightest row and its slack in slots, or a refusal (rules 7.2 to 7.4).
 pub enum Verdict {
     Correct { row: u8, slack: i32 },
     Incorrect { row: u8, slack: i32 },

@@ -15,7 +15,7 @@ use Rattle.rules.specs.declared.Check.the-variants.{Passed, Refused}
 use Rattle.rules.specs.Fields.{written, valueOf, isField, fieldAt}
 use Rattle.rules.specs.Lists.{all, same, rowsTo}
 use Rattle.rules.specs.Sheets.{isLine, numberAt, columnOf, tableIn, checkSheet}
-use Rattle.rules.specs.Tables.{countOk}
+use Rattle.rules.specs.Tables.{countOk, Accepted}
 use Rattle.theory.specs.Tests.{by-bool, by-ltb, by-eqb, and-left, and-right}
 use Rattle.sheet.specs.Lines.{linesOk, line-field, lines-line, column-more, field-byte, up-down}
 
@@ -48,7 +48,8 @@ module _ (a b : List ℕ) (start k : ℕ) (la : isLine a start k ≡ true) (lb :
 
   line-end : (c : List ℕ) → isLine c start k ≡ true → getD c (start + 8 * k) 0 ≡ 10
   unfolding isLine
-  line-end c l = eqb-true (getD c (start + 8 * k) 0) 10 (and-right (all (λ j. isField (fieldAt c (start + 8 * (j - 1)))) (rowsTo k)) (eqb (getD c (start + 8 * k) 0) 10) l)
+  line-end c l =
+      eqb-true (getD c (start + 8 * k) 0) 10 (and-right (all (λ j. isField (fieldAt c (start + 8 * (j - 1)))) (rowsTo k)) (eqb (getD c (start + 8 * k) 0) 10) l)
 
   same-line : (p : ℕ) → p ≤ 8 * k → getD a (start + p) 0 ≡ getD b (start + p) 0
   same-line p h =
@@ -57,11 +58,11 @@ module _ (a b : List ℕ) (start k : ℕ) (la : isLine a start k ≡ true) (lb :
       (λ _ h'. let q : p ≡ 8 * k = omega arith in rw (q, line-end a la, line-end b lb))
 
 -- ---- columns
-column-long : (bytes : List ℕ) (n j : ℕ) → length (columnOf bytes n j) ≡ 64
+pub column-long : (bytes : List ℕ) (n j : ℕ) → length (columnOf bytes n j) ≡ 64
 unfolding columnOf
 column-long bytes n j = simp (length-take, length-append, length-replicate) (omega arith)
 
-column-at : (bytes : List ℕ) (n j i : ℕ) → n ≤ 64 → i < n → getD (columnOf bytes n j) i 0 ≡ numberAt bytes (25 + 33 * i) j
+pub column-at : (bytes : List ℕ) (n j i : ℕ) → n ≤ 64 → i < n → getD (columnOf bytes n j) i 0 ≡ numberAt bytes (25 + 33 * i) j
 column-at bytes zero j i h k = absurd (omega arith)
 column-at bytes (suc m) j i h k =
     let l = column-long bytes m j in
@@ -76,6 +77,7 @@ pub record Accepts (bytes : List ℕ) : Type 0 where
   pub few : numberAt bytes 0 1 ≤ 64
   pub long : length bytes ≡ 25 + 33 * numberAt bytes 0 1
   pub lines : linesOk bytes (numberAt bytes 0 1) ≡ true
+  pub accepted : Accepted (tableIn bytes)
 
 clash : {A : Type 0} {r : Refusal} → Refused r ≡ Passed → A
 clash e = let z : _≡_ {A = ℕ} 0 1 = cc in absurd (omega arith)
@@ -94,7 +96,13 @@ accepts bytes e =
     by-bool (eqb (length bytes) (25 + 33 * n))
     (λ l.
     by-bool (linesOk bytes n)
-    (λ m. record { first = f; few = leb-true n 64 (and-right (leb 1 n) (leb n 64) c); long = eqb-true (length bytes) (25 + 33 * n) l; lines = m })
+    (λ m. record {
+      first = f;
+      few = leb-true n 64 (and-right (leb 1 n) (leb n 64) c);
+      long = eqb-true (length bytes) (25 + 33 * n) l;
+      lines = m;
+      accepted = rw (t, f, c, l, m) at e;
+    })
     (λ m. clash (rw (t, f, c, l, m) at e)))
     (λ l. clash (rw (t, f, c, l) at e)))
     (λ c. clash (rw (t, f, c) at e)))

@@ -34,7 +34,13 @@ pub byte-more : (v i : ℕ) (field : List ℕ) → i < 8 → length field ≡ 8 
     → take (i + 1) (set field i (digitAt v (getD weights i 0))) ≡ take (i + 1) (written v)
 unfolding written
 byte-more v i field h l e =
-    rw (add-one, take-suc-set field i (digitAt v (getD weights i 0)) (omega arith), take-suc (map (digitAt v) weights) i 0 h, entry-map (digitAt v) weights i h, e)
+    rw (
+      add-one,
+      take-suc-set field i (digitAt v (getD weights i 0)) (omega arith),
+      take-suc (map (digitAt v) weights) i 0 h,
+      entry-map (digitAt v) weights i h,
+      e,
+    )
 
 -- all eight bytes written
 pub bytes-all : (v i : ℕ) (field : List ℕ) → i ≡ 8 → length field ≡ 8 → take i field ≡ take i (written v) → field ≡ written v

@@ -1,4 +1,4 @@
-// The sheet reader: bytes in, a checked table out. The bytes are only read.
+// The sheet reader: bytes in, a checked table out (section 6 of the rules). The bytes are only read (rule 9.3).
 ghost use mathlib.Core.Path.{_≡_};
 ghost use mathlib.Core.Bool.{true, _&&_};
 ghost use Prim.Native.Nat.{_+_, _-_, _*_, _/_, _%_, _≤_, _<_};
@@ -14,7 +14,7 @@ use rules::Reading;
 use rules::Refusal;
 use rules::Table;
 
-// What a digit counts for at each of a field's eight places.
+// What a digit counts for at each of a field's eight places (rule 6.3).
 pub const WEIGHTS: [u32; 8] = [10000000, 1000000, 100000, 10000, 1000, 100, 10, 1];
 
 // What a field of eight bytes holds: a number, or nothing that is well formed.
@@ -202,7 +202,8 @@ fn answer(check: Check, table: Table) -> Reading
     }
 }
 
-// The reader's answer for any bytes: the first check that fails, with the table of zeros, or the table. Checks 4 and 5 come last.
+// The reader's answer for any bytes: the first check that fails, with the table of zeros, or the table (rules 6.8, 11.2).
+// Checks 4 and 5 come last.
 pub fn read(bytes: &[u8]) -> Reading
     ensures { λ r. ⌜ r ≡ readOf (now (bytes .entry)) ⌝ }
 {

@@ -4,25 +4,23 @@ use mathlib.Core.Path.{_≡_, refl, sym, ap, _∙_}
 use mathlib.Core.List.{List, [], _∷_, _++_}
 use native.Mathlib.Omega.{arith}
 use lib.Count.{ones}
-use lib.Dec.{eqb, ltb}
 use lib.ListN.{length, take, drop, length-append}
 use Rattle.rules.specs.declared.Table.{Table}
 use Rattle.rules.specs.declared.Refusal.{Refusal}
-use Rattle.rules.specs.declared.Refusal.the-variants.{Length, Malformed, RowCount}
 use Rattle.rules.specs.declared.Check.{Check}
 use Rattle.rules.specs.declared.Check.the-variants as Checks
 use Rattle.rules.specs.declared.Reading.{Reading}
 use Rattle.rules.specs.declared.Planning.{Planning}
 use Rattle.rules.specs.declared.Planned.{Planned}
 use Rattle.rules.specs.declared.Planned.the-variants as Plans
-use Rattle.rules.specs.Lists.{all, rowsTo}
+use Rattle.rules.specs.Lists.{rowsTo}
 use Rattle.rules.specs.Numbers.{refusalNumber}
-use Rattle.rules.specs.Tables.{countOk, Accepted}
-use Rattle.rules.specs.Sheets.{isLine, numberAt, lineOf, tableIn, checkSheet, readChecked, readOf}
+use Rattle.rules.specs.Tables.{Accepted}
+use Rattle.rules.specs.Sheets.{tableIn, checkSheet, readChecked, readOf}
 use Rattle.rules.specs.Choice.{planOf}
 use Rattle.rules.specs.Program.{line, placeLines, planText, readText, programText}
-use Rattle.theory.specs.Tests.{by-bool}
 use Rattle.theory.specs.Facts.{facts}
+use Rattle.sheet.specs.SheetsDiffer.{accepts}
 use Rattle.text.specs.Lines.{pair-long, places-long}
 use Rattle.text.specs.Wrote.{Wrote}
 
@@ -30,34 +28,19 @@ use Rattle.text.specs.Wrote.{Wrote}
 pub record Answered (input out out' : List ℕ) (r : ℕ) : Type 0 where
   pub size : r ≡ length (programText input)
   pub most : r ≤ 1617
+  pub within : r ≤ length out'
   pub text : out' ≡ programText input ++ drop (length (programText input)) out
 
 clash : (r : Refusal) → Checks.Refused r ≡ Checks.Passed → ⊥
 clash r e = let z : _≡_ {A = ℕ} 0 1 = cc in omega arith
 
--- a sheet that passes states an accepted table
-sheet-accepted : (bytes : List ℕ) → checkSheet bytes ≡ Checks.Passed → Accepted (tableIn bytes)
-unfolding checkSheet
-sheet-accepted bytes h =
-    by-bool (ltb (length bytes) 25)
-    (λ e1. absurd (clash Length (rw e1 at h)))
-    (λ e1. by-bool (isLine bytes 0 3)
-    (λ e2. by-bool (countOk (numberAt bytes 0 1))
-    (λ e3. by-bool (eqb (length bytes) (25 + 33 * numberAt bytes 0 1))
-    (λ e4. by-bool (all (λ i. isLine bytes (lineOf i) 4) (rowsTo (numberAt bytes 0 1)))
-    (λ e5. rw (e1, e2, e3, e4, e5) at h)
-    (λ e5. absurd (clash Malformed (rw (e1, e2, e3, e4, e5) at h))))
-    (λ e4. absurd (clash Length (rw (e1, e2, e3, e4) at h))))
-    (λ e3. absurd (clash RowCount (rw (e1, e2, e3) at h))))
-    (λ e2. absurd (clash Malformed (rw (e1, e2) at h))))
-
--- and so does what the reader makes of it
+-- a sheet that passes states an accepted table, and so does what the reader makes of it
 read-accepted : (bytes : List ℕ) → readOf bytes .check ≡ Checks.Passed → Accepted (readOf bytes .table)
 unfolding readOf
 read-accepted bytes h = go (checkSheet bytes) refl h
   where
     go : (c : Check) → checkSheet bytes ≡ c → readChecked c (tableIn bytes) .check ≡ Checks.Passed → Accepted (readChecked c (tableIn bytes) .table)
-    go Checks.Passed e q = sheet-accepted bytes e
+    go Checks.Passed e q = accepts bytes e .accepted
     go (Checks.Refused r) e q = absurd (clash r q)
 
 -- a table read from a sheet that passed
@@ -70,7 +53,8 @@ unfolding programText
 reading-text input r c e q = ap (λ (d : Check). readText d (r .table)) (sym q) ∙ ap (λ (s : Reading). readText (s .check) (s .table)) e
 
 -- the text of a planning, by its answer
-pub planning-text : (t : Table) (r : Planning) (a : Planned) → r ≡ planOf t → r .answer ≡ a → planText t (r .order) a ≡ planText t (planOf t .order) (planOf t .answer)
+pub planning-text : (t : Table) (r : Planning) (a : Planned) → r ≡ planOf t → r .answer ≡ a
+    → planText t (r .order) a ≡ planText t (planOf t .order) (planOf t .answer)
 planning-text t r a e q = ap (planText t (r .order)) (sym q) ∙ ap (λ (s : Planning). planText t (s .order) (s .answer)) e
 
 plan-most : (t : Table) (o : List ℕ) (p : Planned) → t .n ≤ 64 → length (planText t o p) ≤ 1617
@@ -91,4 +75,6 @@ text-most input = let r = readOf (take 2138 input) in read-most (r .check) (r .t
 pub answered : (input out out' : List ℕ) (r : ℕ) → Wrote out 0 out' r (programText input) → Answered input out out' r
 answered input out out' r w =
     let e : r ≡ length (programText input) = omega (arith, w .after) in
-    record { size = e; most = omega (arith, text-most input); text = rw (← e) (w .text) }
+    let f : out' ≡ programText input ++ drop (length (programText input)) out = rw (← e) (w .text) in
+    let l = length-append (programText input) (drop (length (programText input)) out) in
+    record { size = e; most = omega (arith, text-most input); within = rw f (omega (arith, l)); text = f }

@@ -1,5 +1,5 @@
--- A longer input is answered as its first 2,138 bytes are, which is also its own answer: the first line lies within them, and the
--- length is wrong for both, since a sheet of 64 rows has 2,137 bytes.
+-- Whatever comes after the first 2,138 bytes of an input does not change its answer (rule 12.2): the first line lies within them,
+-- and the length is wrong with and without the rest, since a sheet of 64 rows has 2,137 bytes.
 use Prim.Native.Nat.{ℕ, _+_, _*_, _≤_, _<_}
 use mathlib.Core.Bool.{Bool, true, false, cond}
 use mathlib.Core.Path.{_≡_, refl, sym, ap, _∙_}
@@ -28,7 +28,12 @@ module _ (xs ys : List ℕ) (h : 25 ≤ length xs) where
   first-line : isLine (xs ++ ys) 0 3 ≡ isLine xs 0 3
   unfolding isLine
   first-line =
-      rw (field-within xs ys 0 (omega arith), field-within xs ys 8 (omega arith), field-within xs ys 16 (omega arith), List·getD-append xs ys 0 24 (omega arith))
+      rw (
+        field-within xs ys 0 (omega arith),
+        field-within xs ys 8 (omega arith),
+        field-within xs ys 16 (omega arith),
+        List·getD-append xs ys 0 24 (omega arith),
+      )
 
   first-number : numberAt (xs ++ ys) 0 1 ≡ numberAt xs 0 1
   unfolding numberAt

@@ -23,7 +23,7 @@ use Rattle.theory.specs.Counts.{In, in-head, in-tail, same-size}
 use Rattle.theory.specs.Facts.{Row, rows-in, facts}
 use Rattle.theory.specs.Places.{length-rows, order-rows}
 use Rattle.theory.specs.Verdict.{all-meet}
-use Rattle.worst.specs.Padded.{padded-at}
+use Rattle.sweep.specs.Padded.{padded-at}
 use Rattle.planner.specs.Promise.{Promise}
 
 -- an accepted table and a correct order of it
@@ -74,7 +74,12 @@ module _ (t : Table) (o finishes : List ℕ) (timed : Timed t o finishes) where
   pub in-time : (i : ℕ) → Row t i → at finishes i ≤ deadlineOf t i
   unfolding meets
   in-time i r =
-      omega (arith, finish-is i r, leb-true (worstFinish t o i) (deadlineOf t i) (all-meet t (facts t (timed .right .accepted)) o (timed .right .order) (timed .right .correct) i r))
+      omega (
+        arith,
+        finish-is i r,
+        leb-true (worstFinish t o i) (deadlineOf t i)
+            (all-meet t (facts t (timed .right .accepted)) o (timed .right .order) (timed .right .correct) i r),
+      )
 
   -- the line of a place, from its row's deadline and worst finish
   pub place-line : (k due finish : ℕ) → 1 ≤ k → k ≤ t .n → due ≡ deadlineOf t (at o k) → finish ≡ at finishes (at o k)

@@ -1,4 +1,4 @@
-// The text that the planning program writes for a sheet: lines of 8-byte fields, each line ended by byte 10.
+// The text that the planning program writes for a sheet: lines of 8-byte fields, each line ended by byte 10 (section 12 of the rules).
 // Each function writes from a byte of the text on and answers the byte after what it wrote.
 ghost use mathlib.Core.Path.{_≡_};
 ghost use mathlib.Core.List.{[], _∷_};
@@ -18,8 +18,11 @@ use rules::Planned;
 use rules::Reading;
 use rules::Table;
 
-// The greatest number of bytes kept of an input: one more than the longest sheet has.
-const KEPT: usize = 2138;
+// The bytes kept of an input: one more than the longest sheet has.
+pub const KEPT: usize = 2138;
+
+// The bytes of the longest text: a first line of 17 and 64 lines of 25.
+pub const LONGEST: usize = 1617;
 
 // One byte.
 fn put_byte(out: &mut [u8], at: usize, byte: u8) -> usize
@@ -77,8 +80,8 @@ fn put_place(
 {
     let row = order[(place - 1) as usize];
     let deadline = t.deadline;
-    let due = worst::entry(&deadline, row);
-    let finish = worst::entry(&finishes, row);
+    let due = sweep::entry(&deadline, row);
+    let finish = sweep::entry(&finishes, row);
     put_triple(out, at, place, row as u32, due - finish)
 }
 
@@ -116,7 +119,7 @@ fn put_plan(out: &mut [u8], t: Table) -> usize
     let order = planning.order;
     match answer {
         Planned::Ordered => put_order(out, t, order),
-        Planned::NoOrder(left) => put_pair(out, 0, 7, worst::how_many(left)),
+        Planned::NoOrder(left) => put_pair(out, 0, 7, sweep::how_many(left)),
         Planned::Refused(why) => put_pair(out, 0, numbers::refusal_number(why), 0),
     }
 }
@@ -132,8 +135,7 @@ fn read_kept(input: &[u8]) -> Reading
 }
 
 // The program's text for any input, at the start of the lent bytes, and how many bytes it has. The bytes after it stay as they were.
-pub fn program(input: &[u8], out: &mut [u8]) -> usize
-    requires { ⌜ 1617 ≤ length (now out) ⌝ }
+pub fn program(input: &[u8], out: &mut [u8; LONGEST]) -> usize
     ensures { λ r. ⌜ Answered (now (input .entry)) (now (out .entry)) (now (out .exit)) r ⌝ }
 {
     let reading = read_kept(input);

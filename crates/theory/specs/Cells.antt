@@ -71,7 +71,14 @@ module _ (t : Table) (o : List ℕ) (v : ℕ) (s : State) where
   pub slot-served : (i : ℕ) → Sized s → 1 ≤ i → i ≤ 64 → chosen t o s ≡ i → cellAt (slot t o v s) i ≡ served t v (s .clock) i (cellAt s i)
   unfolding slot serve served
   slot-served i z p q e =
-      rw (e, ne-eqb i 0 (λ w. omega arith), at-put-same (s .got) i (min (workOf t i) (at (s .got) i + v)) (z .gots) p q, at-put-same (s .used) i (at (s .used) i + 1) (z .useds) p q, at-put-same (s .closing) i (cond (isOver t i (min (workOf t i) (at (s .got) i + v)) (at (s .used) i + 1)) (s .clock + 1) 0) (z .closings) p q)
+      rw (
+        e,
+        ne-eqb i 0 (λ w. omega arith),
+        at-put-same (s .got) i (min (workOf t i) (at (s .got) i + v)) (z .gots) p q,
+        at-put-same (s .used) i (at (s .used) i + 1) (z .useds) p q,
+        at-put-same (s .closing) i
+            (cond (isOver t i (min (workOf t i) (at (s .got) i + v)) (at (s .used) i + 1)) (s .clock + 1) 0) (z .closings) p q,
+      )
 
   -- every other row
   pub slot-other : (j : ℕ) → 1 ≤ j → (chosen t o s ≡ j → ⊥) → cellAt (slot t o v s) j ≡ cellAt s j
@@ -79,7 +86,15 @@ module _ (t : Table) (o : List ℕ) (v : ℕ) (s : State) where
   slot-other j p h =
       by-eqb (chosen t o s) 0
       (λ e q. rw e)
-      (λ e q. rw (e, at-put-other (s .got) (chosen t o s) j (min (workOf t (chosen t o s)) (at (s .got) (chosen t o s) + v)) (omega arith) p (λ w. h (sym w)), at-put-other (s .used) (chosen t o s) j (at (s .used) (chosen t o s) + 1) (omega arith) p (λ w. h (sym w)), at-put-other (s .closing) (chosen t o s) j (cond (isOver t (chosen t o s) (min (workOf t (chosen t o s)) (at (s .got) (chosen t o s) + v)) (at (s .used) (chosen t o s) + 1)) (s .clock + 1) 0) (omega arith) p (λ w. h (sym w))))
+      (λ e q. rw (
+        e,
+        at-put-other (s .got) (chosen t o s) j (min (workOf t (chosen t o s)) (at (s .got) (chosen t o s) + v)) (omega arith) p
+            (λ w. h (sym w)),
+        at-put-other (s .used) (chosen t o s) j (at (s .used) (chosen t o s) + 1) (omega arith) p (λ w. h (sym w)),
+        at-put-other (s .closing) (chosen t o s) j
+            (cond (isOver t (chosen t o s) (min (workOf t (chosen t o s)) (at (s .got) (chosen t o s) + v)) (at (s .used) (chosen t o s) + 1)) (s .clock + 1) 0)
+            (omega arith) p (λ w. h (sym w)),
+      ))
 
 -- ready: a row of the table, released, open
 pub record Ready (t : Table) (s : State) (i : ℕ) : Type 0 where

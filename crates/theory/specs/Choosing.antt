@@ -16,7 +16,8 @@ use Rattle.rules.specs.Correct.{Correct}
 use Rattle.rules.specs.Worst.{meets}
 use Rattle.rules.specs.Choice.{insert, falling, sequence, passes, taker, Choice, fill, choice, padded}
 use Rattle.theory.specs.Tests.{by-bool, by-eqb, by-leb, not-both, and-both}
-use Rattle.theory.specs.Counts.{In, Once, Within, Same, part, last-of, count-append, count-same, count-other, count-erase-same, count-erase-other, erase-last, length-erase, first-in, first-passes, first-none, same-size}
+use Rattle.theory.specs.Counts.{In, Once, Within, Same, part, last-of, count-append, count-same, count-other, count-erase-same, count-erase-other}
+use Rattle.theory.specs.Counts.{erase-last, length-erase, first-in, first-passes, first-none, same-size}
 use Rattle.theory.specs.Facts.{Row, in-rows, rows-in, in-all, count-rows, count-zero, TableFacts}
 use Rattle.theory.specs.Places.{order-rows, rows-once, length-rows, count-zeros}
 use Rattle.theory.specs.Finishes.{clear-within, meets-clear, clear-meets}
@@ -68,7 +69,8 @@ module _ (t : Table) (f : TableFacts t) where
   once-of l w x = omega (arith, w x, rows-once (t .n) x)
 
   -- a row moved: what it met above a list, it meets above another, with no more rows above it
-  pub moved : (a b a' b' : List ℕ) (i : ℕ) → Within (a ++ (i ∷ [])) (rowsOf t) → Within (a' ++ (i ∷ [])) (a ++ (i ∷ [])) → meets t (a ++ (i ∷ b)) i ≡ true → meets t (a' ++ (i ∷ b')) i ≡ true
+  pub moved : (a b a' b' : List ℕ) (i : ℕ) → Within (a ++ (i ∷ [])) (rowsOf t) → Within (a' ++ (i ∷ [])) (a ++ (i ∷ [])) → meets t (a ++ (i ∷ b)) i ≡ true
+      → meets t (a' ++ (i ∷ b')) i ≡ true
   moved a b a' b' i w s m =
       let w' : Within (a' ++ (i ∷ [])) (rowsOf t) = λ x. omega (arith, w x, s x) in
       clear-meets t f a' b' i (rows-of (a' ++ (i ∷ [])) w') (once-of (a' ++ (i ∷ [])) w')
@@ -79,8 +81,22 @@ module _ (t : Table) (f : TableFacts t) where
     taken-every : Same (erase i left ++ (i ∷ placed)) (rowsOf t)
     taken-every x =
         by-eqb x i
-        (λ _ q. rw q (omega (arith, h .every i, count-append i (erase i left) (i ∷ placed), count-append i left placed, count-erase-same i left, count-same i placed)))
-        (λ _ q. omega (arith, h .every x, count-append x (erase i left) (i ∷ placed), count-append x left placed, count-erase-other x i left q, count-other x i placed q))
+        (λ _ q. rw q (omega (
+          arith,
+          h .every i,
+          count-append i (erase i left) (i ∷ placed),
+          count-append i left placed,
+          count-erase-same i left,
+          count-same i placed,
+        )))
+        (λ _ q. omega (
+          arith,
+          h .every x,
+          count-append x (erase i left) (i ∷ placed),
+          count-append x left placed,
+          count-erase-other x i left q,
+          count-other x i placed q,
+        ))
 
     taken-self : meets t (erase i left ++ (i ∷ placed)) i ≡ true
     unfolding passes
@@ -95,7 +111,8 @@ module _ (t : Table) (f : TableFacts t) where
         let a = d .above in
         let b = d .below in
         let was : left ++ placed ≡ left ++ a ++ (k ∷ b) = ap (λ (l : List ℕ). left ++ l) (d .whole) ∙ sym (append-assoc left a (k ∷ b)) in
-        let is : erase i left ++ (i ∷ placed) ≡ erase i left ++ (i ∷ a) ++ (k ∷ b) = ap (λ (l : List ℕ). erase i left ++ (i ∷ l)) (d .whole) ∙ sym (append-assoc (erase i left) (i ∷ a) (k ∷ b)) in
+        let is : erase i left ++ (i ∷ placed) ≡ erase i left ++ (i ∷ a) ++ (k ∷ b) =
+        ap (λ (l : List ℕ). erase i left ++ (i ∷ l)) (d .whole) ∙ sym (append-assoc (erase i left) (i ∷ a) (k ∷ b)) in
         subst (λ (l : List ℕ). meets t l k ≡ true) (sym is)
         (moved (left ++ a) b (erase i left ++ (i ∷ a)) b k
         (λ x. omega (arith, h .every x, ap (count x) was, count-append x (left ++ a) (k ∷ []), count-append x (left ++ a) (k ∷ b), count-append x (k ∷ []) b))
@@ -105,8 +122,24 @@ module _ (t : Table) (f : TableFacts t) where
         fewer : (a : List ℕ) (k x : ℕ) → count x (erase i left ++ (i ∷ a) ++ (k ∷ [])) ≤ count x (left ++ a ++ (k ∷ []))
         fewer a k x =
             by-eqb x i
-            (λ _ q. rw q (omega (arith, count-append i (erase i left ++ (i ∷ a)) (k ∷ []), count-append i (erase i left) (i ∷ a), count-append i (left ++ a) (k ∷ []), count-append i left a, count-erase-same i left, count-same i a)))
-            (λ _ q. omega (arith, count-append x (erase i left ++ (i ∷ a)) (k ∷ []), count-append x (erase i left) (i ∷ a), count-append x (left ++ a) (k ∷ []), count-append x left a, count-erase-other x i left q, count-other x i a q))
+            (λ _ q. rw q (omega (
+              arith,
+              count-append i (erase i left ++ (i ∷ a)) (k ∷ []),
+              count-append i (erase i left) (i ∷ a),
+              count-append i (left ++ a) (k ∷ []),
+              count-append i left a,
+              count-erase-same i left,
+              count-same i a,
+            )))
+            (λ _ q. omega (
+              arith,
+              count-append x (erase i left ++ (i ∷ a)) (k ∷ []),
+              count-append x (erase i left) (i ∷ a),
+              count-append x (left ++ a) (k ∷ []),
+              count-append x left a,
+              count-erase-other x i left q,
+              count-other x i a q,
+            ))
 
     taken : Filling t (erase i left) (i ∷ placed)
     taken =
@@ -170,17 +203,31 @@ module _ (t : Table) (f : TableFacts t) where
         rw padded-is
         (and-both (all (λ i. eqb (count i (l ++ rest)) 1) (rowsOf t)) (allZero (drop (t .n) (l ++ rest)))
         (in-all (λ i. eqb (count i (l ++ rest)) 1) (rowsOf t) (λ x i. let r = rows-in t x i in
-        eq-eqb (count x (l ++ rest)) 1 (omega (arith, count-append x l rest, every x, count-rows (t .n) x (r .from) (r .upTo), count-zeros x rest (r .from) rest-zero))))
+        eq-eqb (count x (l ++ rest)) 1 (omega (
+          arith,
+          count-append x l rest,
+          every x,
+          count-rows (t .n) x (r .from) (r .upTo),
+          count-zeros x rest (r .from) rest-zero,
+        ))))
         (rw (drop-at l rest (t .n) (same-size l (rowsOf t) every ∙ length-rows (t .n))) rest-zero))
 
     -- zeros below matter to no row
     pub padded-meets : (i : ℕ) → Row t i → meets t l i ≡ true → meets t (padded l) i ≡ true
     padded-meets i r m =
         let d = part i l (omega (arith, every i, in-rows t i r)) in
-        let is : padded l ≡ d .above ++ (i ∷ (d .below ++ rest)) = padded-is ∙ ap (λ (k : List ℕ). k ++ rest) (d .whole) ∙ append-assoc (d .above) (i ∷ d .below) rest in
+        let is : padded l ≡ d .above ++ (i ∷ (d .below ++ rest)) =
+        padded-is ∙ ap (λ (k : List ℕ). k ++ rest) (d .whole) ∙ append-assoc (d .above) (i ∷ d .below) rest in
         subst (λ (k : List ℕ). meets t k i ≡ true) (sym is)
         (moved (d .above) (d .below) (d .above) (d .below ++ rest) i
-        (λ x. omega (arith, every x, ap (count x) (d .whole), count-append x (d .above) (i ∷ []), count-append x (d .above) (i ∷ d .below), count-append x (i ∷ []) (d .below)))
+        (λ x. omega (
+          arith,
+          every x,
+          ap (count x) (d .whole),
+          count-append x (d .above) (i ∷ []),
+          count-append x (d .above) (i ∷ d .below),
+          count-append x (i ∷ []) (d .below),
+        ))
         (λ x. omega arith)
         (subst (λ (k : List ℕ). meets t k i ≡ true) (d .whole) m))
 
@@ -210,7 +257,17 @@ module _ (t : Table) (f : TableFacts t) where
         by-leb 1 (count y s)
         (λ l i. by-leb 1 (count y b)
         (λ _ z. absurd (not-both (leb 1 (count y s)) l (after y z)))
-        (λ _ z. omega (arith, erase-last k s j y, w y, rows-once (t .n) y, order-rows t o e y, ap (count y) whole, count-append y a (k ∷ []), count-append y a (k ∷ b), count-append y (k ∷ []) b)))
+        (λ _ z. omega (
+          arith,
+          erase-last k s j y,
+          w y,
+          rows-once (t .n) y,
+          order-rows t o e y,
+          ap (count y) whole,
+          count-append y a (k ∷ []),
+          count-append y a (k ∷ b),
+          count-append y (k ∷ []) b,
+        )))
         (λ _ i. omega (arith, erase-last k s j y))
 
     lowest-passes : meets t o k ≡ true → passes t s k ≡ true
@@ -233,4 +290,5 @@ module _ (t : Table) (f : TableFacts t) where
   -- the choice leaves a row: no order is correct
   pub choice-none : (x : ℕ) → In x (choice t .left) → (o : List ℕ) → isOrder t o ≡ true → Correct t o → ⊥
   choice-none x i =
-      no-order (choice t .left) (λ y. omega (arith, choice-filled .filling .every y, count-append y (choice t .left) (choice t .placed))) (choice-filled .stuck) x i
+      no-order (choice t .left) (λ y. omega (arith, choice-filled .filling .every y, count-append y (choice t .left) (choice t .placed)))
+      (choice-filled .stuck) x i

@@ -173,7 +173,8 @@ sum-falls f g x (y ∷ l) i h k =
     (λ e q. omega (arith, h y (in-head y l), sum-falls f g x l (rw e at i) (λ z j. h z (in-tail z y l j)) k))
 
 -- one row, which stands in the list once, falls by one and the others stay: the sum falls by one
-pub sum-falls-one : (f g : ℕ → ℕ) (x : ℕ) (l : List ℕ) → count x l ≡ 1 → ((y : ℕ) → In y l → (y ≡ x → ⊥) → f y ≡ g y) → suc (f x) ≡ g x → suc (sum f l) ≡ sum g l
+pub sum-falls-one : (f g : ℕ → ℕ) (x : ℕ) (l : List ℕ) → count x l ≡ 1 → ((y : ℕ) → In y l → (y ≡ x → ⊥) → f y ≡ g y) → suc (f x) ≡ g x
+    → suc (sum f l) ≡ sum g l
 sum-falls-one f g x [] i h k = absurd (omega arith)
 sum-falls-one f g x (y ∷ l) i h k =
     by-eqb x y

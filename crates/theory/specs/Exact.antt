@@ -54,7 +54,8 @@ module _ (t : Table) (f : TableFacts t) (a b : List ℕ) (rows : (x : ℕ) → I
       let z = ran t f (a ++ b) (λ _. s) u x r q in
       let y = cellAt (worstAt u) x in
       rw (cell-served t f (a ++ b) (λ _. s) u x r q)
-      (left-served-one t s u x y (hold u x r) s (z .still) (z .released) (under t s u x y (f .runs) s1 (hold u x r) (z .still)) (spent y (got-exact t f (a ++ b) s u x r)))
+      (left-served-one t s u x y (hold u x r) s (z .still) (z .released) (under t s u x y (f .runs) s1 (hold u x r) (z .still))
+      (spent y (got-exact t f (a ++ b) s u x r)))
     where
       spent : (y : Cell) → Brought t s x y → Over t x (min (workOf t x) (y .got + s)) (suc (y .used)) → cap t s x ≤ suc (y .used)
       spent y e (inl p) = cap-done t s x (f .runs) s1 sn (suc (y .used)) (let more : suc (y .used) * s ≡ y .used * s + s = omega arith in omega arith)
@@ -64,8 +65,22 @@ module _ (t : Table) (f : TableFacts t) (a b : List ℕ) (rows : (x : ℕ) → I
   left-slot u =
       by-leb 1 (count (chosen t (a ++ b) (worstAt u)) a)
       (λ _ i. let c = chosen t (a ++ b) (worstAt u) in
-      omega (arith, sum-falls-one (leftAt (suc u)) (λ x. leftAt u x + bring t s u x) c a (omega (arith, once c)) (λ x j n. waits u x (rows x j) (λ q. n (sym q))) (serves u c (rows c i) refl), sum-both (leftAt u) (bring t s u) a))
-      (λ _ i. omega (arith, sum-zero (leftAt (suc u)) a (λ x j. gone u x (λ k. omega arith) j), sum-zero (λ x. leftAt u x + bring t s u x) a (λ x j. omega (arith, gone u x (λ k. omega arith) j, waits u x (rows x j) (λ q. let k : In (chosen t (a ++ b) (worstAt u)) a = rw q j in omega arith))), sum-both (leftAt u) (bring t s u) a))
+      omega (
+        arith,
+        sum-falls-one (leftAt (suc u)) (λ x. leftAt u x + bring t s u x) c a (omega (arith, once c))
+            (λ x j n. waits u x (rows x j) (λ q. n (sym q))) (serves u c (rows c i) refl),
+        sum-both (leftAt u) (bring t s u) a,
+      ))
+      (λ _ i. omega (
+        arith,
+        sum-zero (leftAt (suc u)) a (λ x j. gone u x (λ k. omega arith) j),
+        sum-zero (λ x. leftAt u x + bring t s u x) a (λ x j. omega (
+          arith,
+          gone u x (λ k. omega arith) j,
+          waits u x (rows x j) (λ q. let k : In (chosen t (a ++ b) (worstAt u)) a = rw q j in omega arith),
+        )),
+        sum-both (leftAt u) (bring t s u) a,
+      ))
     where
       gone : (u x : ℕ) → (In (chosen t (a ++ b) (worstAt u)) a → ⊥) → In x a → leftAt (suc u) x ≡ 0
       gone u x out j = none-left t f (a ++ b) a b refl rows (λ _. s) s u x out j
@@ -77,10 +92,17 @@ module _ (t : Table) (f : TableFacts t) (a b : List ℕ) (rows : (x : ℕ) → I
   -- an open row that is released has something left
   pub open-left : (u i : ℕ) → In i a → releaseOf t i < u → at (worstAt u .closing) i ≡ 0 → 0 < backlog (arrivals (releaseOf t) (cap t s) a) u
   open-left u i j r z =
-      omega (arith, left-exact u, sum-part (leftAt u) i a j, left-open t s u i (cellAt (worstAt u) i) z r, under t s u i (cellAt (worstAt u) i) (f .runs) s1 (hold u i (rows i j)) z)
+      omega (
+        arith,
+        left-exact u,
+        sum-part (leftAt u) i a j,
+        left-open t s u i (cellAt (worstAt u) i) z r,
+        under t s u i (cellAt (worstAt u) i) (f .runs) s1 (hold u i (rows i j)) z,
+      )
 
 -- the lowest row i of a list, with a above it
-module _ (t : Table) (f : TableFacts t) (a b : List ℕ) (i : ℕ) (rows : (x : ℕ) → In x (a ++ (i ∷ [])) → Row t x) (once : Once (a ++ (i ∷ []))) (s : ℕ) (s1 : 1 ≤ s) (sn : s ≤ t .normal) where
+module _ (t : Table) (f : TableFacts t) (a b : List ℕ) (i : ℕ) (rows : (x : ℕ) → In x (a ++ (i ∷ [])) → Row t x) (once : Once (a ++ (i ∷ []))) (s : ℕ)
+    (s1 : 1 ≤ s) (sn : s ≤ t .normal) where
   abbrev work : ℕ → ℕ
   work = arrivals (releaseOf t) (cap t s) (a ++ (i ∷ []))
 
@@ -115,13 +137,18 @@ module _ (t : Table) (f : TableFacts t) (a b : List ℕ) (i : ℕ) (rows : (x : 
   -- the slot that closes the row leaves nothing: no row above was ready
   clear-after : (u : ℕ) → chosen t (a ++ (i ∷ []) ++ b) (after t (a ++ (i ∷ []) ++ b) (λ _. s) u) ≡ i → (closingAt (suc u) ≡ 0 → ⊥) → backlog work (suc u) ≡ 0
   clear-after u e z =
-      omega (arith, left-exact t f (a ++ (i ∷ [])) b rows once s s1 sn (suc u), sum-zero (λ x. left t s (suc u) x (cellAt (after t (a ++ (i ∷ []) ++ b) (λ _. s) (suc u)) x)) (a ++ (i ∷ [])) (λ x j. gone x j))
+      omega (
+        arith,
+        left-exact t f (a ++ (i ∷ [])) b rows once s s1 sn (suc u),
+        sum-zero (λ x. left t s (suc u) x (cellAt (after t (a ++ (i ∷ []) ++ b) (λ _. s) (suc u)) x)) (a ++ (i ∷ [])) (λ x j. gone x j),
+      )
     where
       gone : (x : ℕ) → In x (a ++ (i ∷ [])) → left t s (suc u) x (cellAt (after t (a ++ (i ∷ []) ++ b) (λ _. s) (suc u)) x) ≡ 0
       gone x j =
           by-eqb x i
           (λ _ q. rw q (left-closed t s (suc u) i (cellAt (after t (a ++ (i ∷ []) ++ b) (λ _. s) (suc u)) i) z))
-          (λ _ q. none-left t f (a ++ (i ∷ []) ++ b) a ((i ∷ []) ++ b) (append-assoc a (i ∷ []) b) (λ y k. rows y (omega (arith, count-append y a (i ∷ [])))) (λ _. s) s u x
+          (λ _ q. none-left t f (a ++ (i ∷ []) ++ b) a ((i ∷ []) ++ b) (append-assoc a (i ∷ []) b)
+          (λ y k. rows y (omega (arith, count-append y a (i ∷ [])))) (λ _. s) s u x
           (λ k. not-above (rw e at k)) (omega (arith, count-append x a (i ∷ []), count-other x i [] q)))
 
   closing-slot : (u : ℕ) → StillOpen u → StillOpen (suc u) ⊎ ClosedAt (suc u)
@@ -146,12 +173,18 @@ module _ (t : Table) (f : TableFacts t) (a b : List ℕ) (i : ℕ) (rows : (x : 
 
   closing-stays : (u : ℕ) → ClosedAt u → ClosedAt (suc u)
   closing-stays u h =
-      let e : closingAt (suc u) ≡ closingAt u = ap (λ (x : Cell). x .closing) (cell-other t f (a ++ (i ∷ []) ++ b) (λ _. s) u i own-row (λ q. let z = ran t f (a ++ (i ∷ []) ++ b) (λ _. s) u i own-row q in omega (arith, z .still, h .finish .after))) in
+      let e : closingAt (suc u) ≡ closingAt u =
+      ap (λ (x : Cell). x .closing) (cell-other t f (a ++ (i ∷ []) ++ b) (λ _. s) u i own-row
+      (λ q. let z = ran t f (a ++ (i ∷ []) ++ b) (λ _. s) u i own-row q in omega (arith, z .still, h .finish .after))) in
       record { finish = rw e (h .finish); by = omega (arith, h .by) }
 
   pub closing-cases : (u : ℕ) → StillOpen u ⊎ ClosedAt u
   unfolding after
-  closing-cases zero = inl (record { still = ap (λ (x : Cell). x .closing) (fresh-cell i (own-row .from) (omega (arith, f .few, own-row .upTo))); busy = λ w p q. absurd (omega arith) })
+  closing-cases zero =
+      inl (record {
+        still = ap (λ (x : Cell). x .closing) (fresh-cell i (own-row .from) (omega (arith, f .few, own-row .upTo)));
+        busy = λ w p q. absurd (omega arith);
+      })
   closing-cases (suc u) = go (closing-cases u)
     where
       go : StillOpen u ⊎ ClosedAt u → StillOpen (suc u) ⊎ ClosedAt (suc u)

@@ -65,10 +65,15 @@ module _ (t : Table) (f : TableFacts t) where
   within-rows l rows once x = by-leb 1 (count x l) (λ _ i. omega (arith, once x, in-rows t x (rows x i))) (λ _ i. omega arith)
 
   -- the slots that a set of rows can take at s end by the horizon
-  horizon-enough : (s : ℕ) → 1 ≤ s → s ≤ t .normal → (l : List ℕ) → ((x : ℕ) → In x l → Row t x) → Once l → greatest (releaseOf t) (rowsOf t) + sum (cap t s) l ≤ horizon t s
+  horizon-enough : (s : ℕ) → 1 ≤ s → s ≤ t .normal → (l : List ℕ) → ((x : ℕ) → In x l → Row t x) → Once l
+      → greatest (releaseOf t) (rowsOf t) + sum (cap t s) l ≤ horizon t s
   unfolding horizon
   horizon-enough s s1 sn l rows once =
-      omega (arith, sum-within (cap t s) l (rowsOf t) (within-rows l rows once), sum-le (cap t s) (λ i. need (workOf t i) s) (rowsOf t) (λ x i. cap-need t s x (f .runs) s1 sn))
+      omega (
+        arith,
+        sum-within (cap t s) l (rowsOf t) (within-rows l rows once),
+        sum-le (cap t s) (λ i. need (workOf t i) s) (rowsOf t) (λ x i. cap-need t s x (f .runs) s1 sn),
+      )
 
   module _ (a b : List ℕ) (i : ℕ) (rows : (x : ℕ) → In x (a ++ (i ∷ [])) → Row t x) (once : Once (a ++ (i ∷ []))) where
     -- the rows from the top down to i, at i's worst speed
@@ -93,14 +98,24 @@ module _ (t : Table) (f : TableFacts t) where
     pub worst-finish : Finish workDownTo (releaseOf t i) (worstFinish t (a ++ (i ∷ b)) i)
     worst-finish = rw worst-is (ends-down .finish)
 
+    -- and stays so, however long the run lasts
+    pub worst-lasts : (u : ℕ) → horizon t (worstSpeed t i) ≤ u
+        → at (after t (a ++ (i ∷ []) ++ b) (λ _. worstSpeed t i) u .closing) i ≡ worstFinish t (a ++ (i ∷ b)) i
+    worst-lasts u h =
+        rw worst-is
+        (closes-at t f a b i rows once (worstSpeed t i) (worst-runs i) (worst-slower i) (ends-down .at) u (ends-down .finish)
+        (omega (arith, h, ends-down .bound, horizon-enough (worstSpeed t i) (worst-runs i) (worst-slower i) (a ++ (i ∷ [])) rows once)))
+
     pub worst-bound : worstFinish t (a ++ (i ∷ b)) i ≤ greatest (releaseOf t) (rowsOf t) + sum (cap t (worstSpeed t i)) (a ++ (i ∷ []))
     worst-bound = rw worst-is (ends-down .bound)
 
     -- the sweep over the same rows sorted by release
-    pub worst-sweep : (l : List ℕ) → Sorted (releaseOf t) 0 l → Same l (a ++ (i ∷ [])) → worstFinish t (a ++ (i ∷ b)) i ≡ sweep (releaseOf t) (cap t (worstSpeed t i)) (releaseOf t i) 0 l
+    pub worst-sweep : (l : List ℕ) → Sorted (releaseOf t) 0 l → Same l (a ++ (i ∷ []))
+        → worstFinish t (a ++ (i ∷ b)) i ≡ sweep (releaseOf t) (cap t (worstSpeed t i)) (releaseOf t i) 0 l
     worst-sweep l sorted same =
         finish-only workDownTo (releaseOf t i) (worstFinish t (a ++ (i ∷ b)) i) (sweep (releaseOf t) (cap t (worstSpeed t i)) (releaseOf t i) 0 l) worst-finish
-        (finish-set (releaseOf t) (cap t (worstSpeed t i)) l (a ++ (i ∷ [])) same (releaseOf t i) (sweep (releaseOf t) (cap t (worstSpeed t i)) (releaseOf t i) 0 l)
+        (finish-set (releaseOf t) (cap t (worstSpeed t i)) l (a ++ (i ∷ [])) same (releaseOf t i)
+        (sweep (releaseOf t) (cap t (worstSpeed t i)) (releaseOf t i) 0 l)
         (sweep-finish (releaseOf t) (cap t (worstSpeed t i)) l sorted i (omega (arith, same i, (in-last a i))) own-cap))
 
   module _ (a b : List ℕ) (i : ℕ) (rows : (x : ℕ) → In x (a ++ (i ∷ [])) → Row t x) (once : Once (a ++ (i ∷ []))) where
@@ -114,4 +129,9 @@ module _ (t : Table) (f : TableFacts t) where
     unfolding meets
     clear-meets c =
         le-leb (worstFinish t (a ++ (i ∷ b)) i) (deadlineOf t i)
-        (omega (arith, c .by, finish-first (workDownTo a b i rows once) (releaseOf t i) (worstFinish t (a ++ (i ∷ b)) i) (c .at) (worst-finish a b i rows once) (c .after) (c .clear)))
+        (omega (
+          arith,
+          c .by,
+          finish-first (workDownTo a b i rows once) (releaseOf t i) (worstFinish t (a ++ (i ∷ b)) i) (c .at)
+              (worst-finish a b i rows once) (c .after) (c .clear),
+        ))

@@ -75,7 +75,12 @@ module _ (t : Table) (s u i : ℕ) (x : Cell) (h : Held t s u i x) where
     unfolding served
     left-served-one spent =
         by-over t i (min (workOf t i) (x .got + v)) (x .used + 1)
-        (λ e o. omega (arith, left-ready p q, left-closed t s (suc u) i (served t v u i x) (λ z. let z' : u + 1 ≡ 0 = rw e at z in omega arith), spent (rw (← one) at o)))
+        (λ e o. omega (
+          arith,
+          left-ready p q,
+          left-closed t s (suc u) i (served t v u i x) (λ z. let z' : u + 1 ≡ 0 = rw e at z in omega arith),
+          spent (rw (← one) at o),
+        ))
         (λ e _ _. omega (arith, left-ready p q, left-open t s (suc u) i (served t v u i x) (rw e) (omega arith)))
       where
         one : suc (x .used) ≡ x .used + 1

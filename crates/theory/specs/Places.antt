@@ -53,7 +53,8 @@ unfolding isOrder
 order-rows t o e = same-length (rowsOf t) (take (t .n) o) within (omega (arith, length-take (t .n) o, length-rows (t .n)))
   where
     each : (x : ℕ) → In x (rowsOf t) → count x o ≡ 1
-    each x i = eqb-true (count x o) 1 (all-in (λ i. eqb (count i o) 1) (rowsOf t) (and-left (all (λ i. eqb (count i o) 1) (rowsOf t)) (allZero (drop (t .n) o)) e) x i)
+    each x i =
+        eqb-true (count x o) 1 (all-in (λ i. eqb (count i o) 1) (rowsOf t) (and-left (all (λ i. eqb (count i o) 1) (rowsOf t)) (allZero (drop (t .n) o)) e) x i)
 
     parts : (x : ℕ) → count x o ≡ count x (take (t .n) o) + count x (drop (t .n) o)
     parts x = rw (← count-append x (take (t .n) o) (drop (t .n) o), take-append-drop (t .n) o)
@@ -61,7 +62,14 @@ order-rows t o e = same-length (rowsOf t) (take (t .n) o) within (omega (arith, 
     within : (x : ℕ) → count x (rowsOf t) ≤ count x (take (t .n) o)
     within x = by-leb 1 (count x (rowsOf t))
         (λ _ i. let r = rows-in t x i in
-        omega (arith, each x i, parts x, rows-once (t .n) x, count-zeros x (drop (t .n) o) (r .from) (and-right (all (λ i. eqb (count i o) 1) (rowsOf t)) (allZero (drop (t .n) o)) e)))
+        omega (
+          arith,
+          each x i,
+          parts x,
+          rows-once (t .n) x,
+          count-zeros x (drop (t .n) o) (r .from)
+              (and-right (all (λ i. eqb (count i o) 1) (rowsOf t)) (allZero (drop (t .n) o)) e),
+        ))
         (λ _ i. omega arith)
 
 -- row i in an order: the rows above it are rows of the table, and none of them, nor i, stands there twice

@@ -1,7 +1,7 @@
 -- The results of this crate, to be cited by name. Each is a statement about the definitions of `rules` and is preceded by what it says.
 -- Lists of rows are compared by how often each row stands in them (Counts): `In x l`, row x stands in l; `Within a b`, what stands in a
 -- stands in b; `Same a b`, the two hold the same rows. A list that is within the table's rows holds each row at most once.
-use Prim.Native.Nat.{ℕ, _+_, _*_, _≤_}
+use Prim.Native.Nat.{ℕ, _+_, _-_, _*_, _≤_}
 use mathlib.Core.Bool.{true, false}
 use mathlib.Core.Path.{_≡_, sym, subst}
 use mathlib.Core.List.{List, [], _∷_, _++_}
@@ -10,6 +10,7 @@ use native.Mathlib.Omega.{arith}
 use lib.IntN.{pos}
 use lib.ListN.{length}
 use lib.Signed.{ltZ}
+use borrow.Author.Tests.{leb-true}
 use Rattle.rules.specs.declared.Table.{Table}
 use Rattle.rules.specs.Lists.{sum, greatest, erase}
 use Rattle.rules.specs.Rows.{isRow, isLow, isHigh, rowsOf, releaseOf, deadlineOf}
@@ -17,7 +18,7 @@ use Rattle.rules.specs.Tables.{Accepted}
 use Rattle.rules.specs.Orders.{isOrder}
 use Rattle.rules.specs.Slots.{after}
 use Rattle.rules.specs.Correct.{KeptIn, Correct, Window}
-use Rattle.rules.specs.Worst.{worstSpeed, worstFinish, slack}
+use Rattle.rules.specs.Worst.{worstSpeed, horizon, worstFinish, slack, meets}
 use Rattle.rules.specs.Choice.{passes, choice, padded}
 use Rattle.theory.specs.Tests.{not-is}
 use Rattle.theory.specs.Counts.{In, Within, Same, in-head, in-tail, erase-last, count-append, sum-within}
@@ -29,7 +30,7 @@ use Rattle.theory.specs.Facts.{Row, TableFacts, row-is, is-row, rows-in,
 use Rattle.theory.specs.Places.{placed, length-rows}
 use Rattle.theory.specs.Finishes.{worst-runs, worst-slower, worst-finish, worst-bound, within-rows}
 use Rattle.theory.specs.Finishes as Finishes
-use Rattle.theory.specs.Verdict.{slack-meets, meets-slack, kept, all-meet, correct}
+use Rattle.theory.specs.Verdict.{Finished, finished, slack-difference, slack-meets, meets-slack, kept, all-meet, correct}
 use Rattle.theory.specs.Choosing.{rows-of, once-of, moved, choice-filled, no-order}
 use Rattle.theory.specs.Choosing as Choosing
 
@@ -73,6 +74,16 @@ module _ (t : Table) (accepted : Accepted t) where
       λ h. correct t f o order (λ i r. slack-meets t o i (h i (is-row t i r))),
     )
 
+    -- A slack that is not below zero is the difference of deadline and worst finish as natural numbers.
+    pub natural-slack : (i : ℕ) → ltZ (slack t o i) (pos 0) ≡ false → pos (deadlineOf t i - worstFinish t o i) ≡ slack t o i
+    unfolding meets
+    natural-slack i s = slack-difference t o i (leb-true (worstFinish t o i) (deadlineOf t i) (slack-meets t o i s))
+
+    -- A worst run may last as long as it likes: at every clock from the horizon on, the row is closed at its worst finish, which is at
+    -- least 1 slot, and has got all its work.
+    pub lasting : (i : ℕ) → isRow t i ≡ true → (k : ℕ) → horizon t (worstSpeed t i) ≤ k → Finished t o i k
+    lasting i r k h = finished t f o order i (row-is t i r) k h
+
   -- 4. SWEEP. One pass over the rows down to i, sorted by release, finds i's worst finish: the busy time grows by each row's cap from its
   -- release on, and the pass stops at a row released after i that finds the processor free.
   pub worst-sweep : (a b : List ℕ) (i : ℕ) → Within (a ++ (i ∷ [])) (rowsOf t) → (l : List ℕ) → Sorted (releaseOf t) 0 l → Same l (a ++ (i ∷ []))
@@ -84,7 +95,8 @@ module _ (t : Table) (accepted : Accepted t) where
   unfolding passes
   antitone s r i w v k p =
       let j : In i s = omega (arith, v i) in
-      moved t f (erase i s) [] (erase i r) [] i (λ x. omega (arith, w x, erase-last i s j x)) (λ x. omega (arith, v x, erase-last i s j x, erase-last i r k x)) p
+      moved t f (erase i s) [] (erase i r) [] i (λ x. omega (arith, w x, erase-last i s j x))
+      (λ x. omega (arith, v x, erase-last i s j x, erase-last i r k x)) p
 
   -- 6. CHOICE. If the choice leaves no row, the order that it makes passes check 6 and is correct.
   pub choice-order : choice t .left ≡ [] → isOrder t (padded (choice t .placed)) ≡ true
@@ -106,13 +118,21 @@ module _ (t : Table) (accepted : Accepted t) where
   choice-every = choice-filled t f .filling .every
 
   -- Any set of rows in which no row passes lowest rules out every order.
-  pub stuck-none : (s : List ℕ) → Within s (rowsOf t) → ((x : ℕ) → In x s → passes t s x ≡ false) → (x : ℕ) → In x s → (o : List ℕ) → isOrder t o ≡ true → Correct t o → ⊥
+  pub stuck-none : (s : List ℕ) → Within s (rowsOf t) → ((x : ℕ) → In x s → passes t s x ≡ false) → (x : ℕ) → In x s → (o : List ℕ)
+      → isOrder t o ≡ true → Correct t o → ⊥
   stuck-none = no-order t f
 
   -- 7. BOUNDS. What a sweep adds, the latest release and every row's cap, is at most 65,000,000 slots.
   pub sum-bound : (s : ℕ) → 1 ≤ s → (l : List ℕ) → Within l (rowsOf t) → greatest (releaseOf t) (rowsOf t) + sum (cap t s) l ≤ 65000000
   sum-bound s s1 l w =
-      omega (arith, sum-within (cap t s) l (rowsOf t) w, most (rowsOf t) (λ x i. rows-in t x i), latest (rowsOf t) (λ x i. rows-in t x i), length-rows (t .n), f .few)
+      omega (
+        arith,
+        sum-within (cap t s) l (rowsOf t) w,
+        most (rowsOf t) (λ x i. rows-in t x i),
+        latest (rowsOf t) (λ x i. rows-in t x i),
+        length-rows (t .n),
+        f .few,
+      )
     where
       most : (l : List ℕ) → ((x : ℕ) → In x l → Row t x) → sum (cap t s) l ≤ 1000000 * length l
       most [] r = omega arith
@@ -128,10 +148,15 @@ module _ (t : Table) (accepted : Accepted t) where
   -- A worst finish is at most 65,000,000 slots.
   pub finish-bound : (a b : List ℕ) (i : ℕ) → Within (a ++ (i ∷ [])) (rowsOf t) → worstFinish t (a ++ (i ∷ b)) i ≤ 65000000
   finish-bound a b i w =
-      omega (arith, worst-bound t f a b i (rows-of t f (a ++ (i ∷ [])) w) (once-of t f (a ++ (i ∷ [])) w), sum-bound (worstSpeed t i) (worst-runs t f i) (a ++ (i ∷ [])) w)
+      omega (
+        arith,
+        worst-bound t f a b i (rows-of t f (a ++ (i ∷ [])) w) (once-of t f (a ++ (i ∷ [])) w),
+        sum-bound (worstSpeed t i) (worst-runs t f i) (a ++ (i ∷ [])) w,
+      )
 
   -- Under an order that passes check 6 this holds of every row.
   pub order-bound : (o : List ℕ) → isOrder t o ≡ true → (i : ℕ) → isRow t i ≡ true → worstFinish t o i ≤ 65000000
   order-bound o e i r =
       let p = placed t o e i (row-is t i r) in
-      subst (λ (l : List ℕ). worstFinish t l i ≤ 65000000) (sym (p .whole)) (finish-bound (p .above) (p .below) i (within-rows t f (p .above ++ (i ∷ [])) (p .rows) (p .once)))
+      subst (λ (l : List ℕ). worstFinish t l i ≤ 65000000) (sym (p .whole))
+      (finish-bound (p .above) (p .below) i (within-rows t f (p .above ++ (i ∷ [])) (p .rows) (p .once)))

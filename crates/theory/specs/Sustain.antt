@@ -52,7 +52,11 @@ module _ (t : Table) (f : TableFacts t) (a b : List ℕ) (rows : (x : ℕ) → I
               (λ _ q. omega (arith, served-left x (rows x i) q))
               (λ _ q. rw (cell-other t f (a ++ b) σ u x (rows x i) q) (omega (arith, left-waits t s u x (cellAt (stateAt u) x) (hold x (rows x i)))));
           works = by-leb 1 (count (chosen t (a ++ b) (stateAt u)) a)
-              (λ _ i. inr (record { row = chosen t (a ++ b) (stateAt u); among = i; falls = served-left (chosen t (a ++ b) (stateAt u)) (rows (chosen t (a ++ b) (stateAt u)) i) refl }))
+              (λ _ i. inr (record {
+                row = chosen t (a ++ b) (stateAt u);
+                among = i;
+                falls = served-left (chosen t (a ++ b) (stateAt u)) (rows (chosen t (a ++ b) (stateAt u)) i) refl;
+              }))
               (λ _ i. inl (λ x j. none-left t f (a ++ b) a b refl rows σ s u x (λ k. omega arith) j));
         }
 

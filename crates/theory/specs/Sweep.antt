@@ -123,7 +123,11 @@ module _ (rel cap : ℕ → ℕ) where
   sweep-bound a b m (x ∷ xs) h k =
       by-bool (ltb a (rel x) && leb b (rel x))
       (λ e. rw e (omega arith))
-      (λ e. rw e (omega (arith, sweep-bound a (max b (rel x) + cap x) (m + cap x) xs (omega (arith, k x (in-head x xs))) (λ y i. omega (arith, k y (in-tail y x xs i))))))
+      (λ e. rw e (omega (
+        arith,
+        sweep-bound a (max b (rel x) + cap x) (m + cap x) xs (omega (arith, k x (in-head x xs)))
+            (λ y i. omega (arith, k y (in-tail y x xs i))),
+      )))
 
   -- every row of a list has a finish, by the latest release and all caps
   pub record Ends (l : List ℕ) (a m : ℕ) : Type 0 where

@@ -1,4 +1,5 @@
--- A row that meets its deadline in its own worst run keeps it in every run that supplies as much; an order is correct exactly if all do.
+-- A row whose worst finish is in time keeps its deadline in every run that supplies as much; an order is correct exactly if all rows do
+-- (rules 3.4 and 3.6).
 use Prim.Native.Nat.{ℕ, zero, suc, _+_, _-_, _≤_, _<_}
 use mathlib.Core.Bool.{true, false}
 use mathlib.Core.Path.{_≡_, sym, ap, subst, _∙_}
@@ -13,7 +14,7 @@ use Rattle.rules.specs.Rows.{at, isLow, workOf, deadlineOf}
 use Rattle.rules.specs.Orders.{isOrder}
 use Rattle.rules.specs.Slots.{after}
 use Rattle.rules.specs.Correct.{KeptIn, Kept, Correct, earliest, Window}
-use Rattle.rules.specs.Worst.{worstSpeed, worstFinish, slack, meets}
+use Rattle.rules.specs.Worst.{worstSpeed, horizon, worstFinish, slack, meets}
 use Rattle.theory.specs.Tests.{by-bool, not-is}
 use Rattle.theory.specs.Counts.{In, in-last}
 use Rattle.theory.specs.Facts.{Row, row-is, is-row, TableFacts}
@@ -22,7 +23,7 @@ use Rattle.theory.specs.Invariant.{Held, held, got-high, got-normal}
 use Rattle.theory.specs.Sustain.{closed-by, closed-stays}
 use Rattle.theory.specs.Exact.{closed-finish}
 use Rattle.theory.specs.Places.{placed}
-use Rattle.theory.specs.Finishes.{earliest-first, worst-runs, worst-slower, worst-finish, Clear, meets-clear}
+use Rattle.theory.specs.Finishes.{earliest-first, worst-runs, worst-slower, worst-finish, worst-lasts, Clear, meets-clear}
 
 -- a slack is below zero exactly if the finish is after the deadline
 pub late-is : (d k : ℕ) → ltZ (pos d -ℤ pos k) (pos 0) ≡ ltb d k
@@ -31,17 +32,34 @@ late-is d (suc k) = by-bool (ltb d (suc k)) (λ e. rw e) (λ e. rw e (le-ltb (d 
 
 pub slack-meets : (t : Table) (o : List ℕ) (i : ℕ) → ltZ (slack t o i) (pos 0) ≡ false → meets t o i ≡ true
 unfolding slack meets
-slack-meets t o i e = le-leb (worstFinish t o i) (deadlineOf t i) (ltb-false (deadlineOf t i) (worstFinish t o i) (sym (late-is (deadlineOf t i) (worstFinish t o i)) ∙ e))
+slack-meets t o i e =
+    le-leb (worstFinish t o i) (deadlineOf t i) (ltb-false (deadlineOf t i) (worstFinish t o i) (sym (late-is (deadlineOf t i) (worstFinish t o i)) ∙ e))
 
 pub meets-slack : (t : Table) (o : List ℕ) (i : ℕ) → meets t o i ≡ true → ltZ (slack t o i) (pos 0) ≡ false
 unfolding slack meets
-meets-slack t o i e = late-is (deadlineOf t i) (worstFinish t o i) ∙ le-ltb (deadlineOf t i) (worstFinish t o i) (leb-true (worstFinish t o i) (deadlineOf t i) e)
+meets-slack t o i e =
+    late-is (deadlineOf t i) (worstFinish t o i) ∙ le-ltb (deadlineOf t i) (worstFinish t o i) (leb-true (worstFinish t o i) (deadlineOf t i) e)
+
+-- where the finish is not after the deadline, the slack is their difference as natural numbers
+pub slack-difference : (t : Table) (o : List ℕ) (i : ℕ) → worstFinish t o i ≤ deadlineOf t i → pos (deadlineOf t i - worstFinish t o i) ≡ slack t o i
+unfolding slack
+slack-difference t o i h = difference (deadlineOf t i) (worstFinish t o i) h
+  where
+    difference : (d k : ℕ) → k ≤ d → pos (d - k) ≡ pos d -ℤ pos k
+    difference d zero h = ap pos (let e : d - 0 ≡ d + 0 = omega arith in e)
+    difference d (suc k) h = rw (le-ltb d (suc k) h)
 
 -- row i's cell shows that it has kept its deadline
 pub record KeptCell (t : Table) (i : ℕ) (x : Cell) : Type 0 where
   pub done : x .got ≡ workOf t i
   pub closed : 1 ≤ x .closing
   pub inTime : x .closing ≤ deadlineOf t i
+
+-- Row i's worst run at clock k: it is closed, at its worst finish, which is at least 1 slot, and has got all its work units.
+pub record Finished (t : Table) (o : List ℕ) (i k : ℕ) : Type 0 where
+  pub closing : at (after t o (λ _. worstSpeed t i) k .closing) i ≡ worstFinish t o i
+  pub from : 1 ≤ worstFinish t o i
+  pub got : at (after t o (λ _. worstSpeed t i) k .got) i ≡ workOf t i
 
 module _ (t : Table) (f : TableFacts t) where
   -- a closed row has got its work where its slots supplied its worst speed
@@ -55,7 +73,8 @@ module _ (t : Table) (f : TableFacts t) where
   kept-below : (a b : List ℕ) (i : ℕ) → ((x : ℕ) → In x (a ++ (i ∷ [])) → Row t x) → Clear t (a ++ (i ∷ [])) i → (σ : ℕ → ℕ) → Window t σ i (worstSpeed t i)
       → (k : ℕ) → deadlineOf t i ≤ k → KeptIn t (after t (a ++ (i ∷ []) ++ b) σ k) i
   kept-below a b i rows c σ w k q =
-      let x : KeptCell t i (cellAt (after t (a ++ (i ∷ []) ++ b) σ k) i) = subst (KeptCell t i) (sym later) (record { done = got-all (c .at) i now hold closed; closed = closed; inTime = omega (arith, hold .past, c .by) }) in
+      let x : KeptCell t i (cellAt (after t (a ++ (i ∷ []) ++ b) σ k) i) =
+      subst (KeptCell t i) (sym later) (record { done = got-all (c .at) i now hold closed; closed = closed; inTime = omega (arith, hold .past, c .by) }) in
       record { done = x .done; closed = x .closed; inTime = x .inTime }
     where
       own : Row t i
@@ -71,10 +90,14 @@ module _ (t : Table) (f : TableFacts t) where
       hold = held t f (a ++ (i ∷ []) ++ b) σ (worstSpeed t i) (earliest t) (c .at) (earliest-first t) enough (c .at) (omega arith) i own
 
       closed : 1 ≤ now .closing
-      closed = closed-by t f (a ++ (i ∷ [])) b rows σ (worstSpeed t i) (earliest t) (c .at) (worst-runs t f i) (earliest-first t) enough (c .clear) i (in-last a i) (c .after)
+      closed =
+          closed-by t f (a ++ (i ∷ [])) b rows σ (worstSpeed t i) (earliest t) (c .at) (worst-runs t f i) (earliest-first t) enough
+          (c .clear) i (in-last a i) (c .after)
 
       later : cellAt (after t (a ++ (i ∷ []) ++ b) σ k) i ≡ now
-      later = ap (λ (u : ℕ). cellAt (after t (a ++ (i ∷ []) ++ b) σ u) i) (let e : k ≡ k - c .at + c .at = omega (arith, c .by) in e) ∙ closed-stays t f (a ++ (i ∷ []) ++ b) σ i own (c .at) (k - c .at) closed
+      later =
+          ap (λ (u : ℕ). cellAt (after t (a ++ (i ∷ []) ++ b) σ u) i) (let e : k ≡ k - c .at + c .at = omega (arith, c .by) in e)
+          ∙ closed-stays t f (a ++ (i ∷ []) ++ b) σ i own (c .at) (k - c .at) closed
 
   -- an order under check 6
   module _ (o : List ℕ) (e : isOrder t o ≡ true) where
@@ -85,6 +108,24 @@ module _ (t : Table) (f : TableFacts t) where
         let whole : o ≡ p .above ++ (i ∷ []) ++ p .below = p .whole ∙ sym (append-assoc (p .above) (i ∷ []) (p .below)) in
         let c = meets-clear t f (p .above) (p .below) i (p .rows) (p .once) (subst (λ (l : List ℕ). meets t l i ≡ true) (p .whole) m) in
         subst (λ (l : List ℕ). KeptIn t (after t l σ k) i) (sym whole) (kept-below (p .above) (p .below) i (p .rows) c σ w k q)
+
+    -- row i's worst run at a clock k that is not before the horizon
+    pub finished : (i : ℕ) → Row t i → (k : ℕ) → horizon t (worstSpeed t i) ≤ k → Finished t o i k
+    finished i r k h =
+        let p = placed t o e i r in
+        let whole : p .above ++ (i ∷ []) ++ p .below ≡ o = append-assoc (p .above) (i ∷ []) (p .below) ∙ sym (p .whole) in
+        let same : worstFinish t (p .above ++ (i ∷ p .below)) i ≡ worstFinish t o i = ap (λ (l : List ℕ). worstFinish t l i) (sym (p .whole)) in
+        let w = worst-finish t f (p .above) (p .below) i (p .rows) (p .once) .after in
+        let closing : at (after t o (λ _. worstSpeed t i) k .closing) i ≡ worstFinish t o i =
+        subst (λ (l : List ℕ). at (after t l (λ _. worstSpeed t i) k .closing) i ≡ worstFinish t o i) whole
+        (worst-lasts t f (p .above) (p .below) i (p .rows) (p .once) k h ∙ same) in
+        record {
+          closing = closing;
+          from = omega (arith, w, same);
+          got = got-all k i (cellAt (after t o (λ _. worstSpeed t i) k) i)
+              (held t f o (λ _. worstSpeed t i) (worstSpeed t i) (earliest t) k (earliest-first t) (λ u p q. omega arith) k (omega arith) i r)
+              (omega (arith, closing, w, same));
+        }
 
     -- the run at exactly a row's worst speed is itself a course of speed
     kept-worst : Correct t o → (i : ℕ) → Row t i → Kept t o (λ _. worstSpeed t i) i
@@ -101,7 +142,8 @@ module _ (t : Table) (f : TableFacts t) where
         let k = kept-worst c i r .closed in
         subst (λ (l : List ℕ). leb (worstFinish t l i) (deadlineOf t i) ≡ true) (sym (p .whole))
         (le-leb (worstFinish t (p .above ++ (i ∷ p .below)) i) (deadlineOf t i)
-        (closed-finish t f (p .above) (p .below) i (p .rows) (p .once) (worstSpeed t i) (worst-runs t f i) (worst-slower t f i) (worstFinish t (p .above ++ (i ∷ p .below)) i) (deadlineOf t i)
+        (closed-finish t f (p .above) (p .below) i (p .rows) (p .once) (worstSpeed t i) (worst-runs t f i) (worst-slower t f i)
+        (worstFinish t (p .above ++ (i ∷ p .below)) i) (deadlineOf t i)
         (worst-finish t f (p .above) (p .below) i (p .rows) (p .once))
         (subst (λ (l : List ℕ). 1 ≤ at (after t l (λ _. worstSpeed t i) (deadlineOf t i) .closing) i) whole k)))
 

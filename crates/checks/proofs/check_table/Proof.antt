@@ -16,15 +16,22 @@ use Rattle.checks.proofs.check_table.Tie as tie
 count-ok-requires : tie.Need-count-ok-requires
 count-ok-requires c κs = search needs
 
+-- the places of the code past a check that passed, from the places past the next check
+abbrev count-passed : tie.Else2 → tie.Else1
+count-passed c = c .before .before
+
+abbrev speeds-passed : tie.Else3 → tie.Else2
+speeds-passed c = c .before .before
+
 -- the table, past each check that passed
 abbrev table1 : tie.Else1 → Table
 table1 c = c .before .before .args .t
 
 abbrev table2 : tie.Else2 → Table
-table2 c = table1 (c .before .before)
+table2 c = table1 (count-passed c)
 
 abbrev table3 : tie.Else3 → Table
-table3 c = table2 (c .before .before)
+table3 c = table2 (speeds-passed c)
 
 counted : (c : tie.Else1) → countOk (table1 c .n) ≡ true
 counted c = sym (c .before .count-ok .ensures) ∙ not-false _ (c .if1 .left)
@@ -52,26 +59,26 @@ unfolding checkTable
 returns-2 c = rw (counted (c .before .before), sym (c .before .speeds-ok .ensures) ∙ not-true _ (c .if2 .taken))
 
 rows-ok-requires : tie.Need-rows-ok-requires
-rows-ok-requires c κs = few (c .before .before)
+rows-ok-requires c κs = few (count-passed c)
 
 returns-3 : tie.Need-returns-3
 unfolding checkTable
 returns-3 c =
     rw (
-      counted (c .before .before .before .before),
+      counted (count-passed (c .before .before)),
       paced (c .before .before),
       sym (c .before .rows-ok .ensures) ∙ not-true _ (c .if3 .taken),
     )
 
 tail-ok-requires : tie.Need-tail-ok-requires
-tail-ok-requires c κs = few (c .before .before .before .before)
+tail-ok-requires c κs = search needs
 
 returns-4 : tie.Need-returns-4
 unfolding checkTable
 returns-4 c =
     rw (
-      counted (c .before .before .before .before .before .before),
-      paced (c .before .before .before .before),
+      counted (count-passed (speeds-passed (c .before .before))),
+      paced (speeds-passed (c .before .before)),
       limited (c .before .before),
       sym (c .before .tail-ok .ensures) ∙ not-true _ (c .if4 .taken),
     )
@@ -80,8 +87,8 @@ returns-5 : tie.Need-returns-5
 unfolding checkTable
 returns-5 c =
     rw (
-      counted (c .before .before .before .before .before .before),
-      paced (c .before .before .before .before),
+      counted (count-passed (speeds-passed (c .before .before))),
+      paced (speeds-passed (c .before .before)),
       limited (c .before .before),
       sym (c .before .tail-ok .ensures) ∙ not-false _ (c .if4 .left),
     )

@@ -19,6 +19,10 @@ due c d = worked c && leb d 1000000
 abbrev released : ℕ → ℕ → ℕ → Bool
 released a c d = due c d && ltb a d
 
+-- the start, past the test of the release
+abbrev start : tie.Joined3 → tie.Start
+start c = c .before .before .before
+
 work-ok : (c : tie.Joined1) → c .if1 .if2 ≡ worked (c .before .args .work)
 work-ok c =
     ⊎-elim
@@ -35,9 +39,9 @@ deadline-ok c =
     (c .if2 .came)
     ∙ ap (λ (b : Bool). b && last) (work-ok (c .before))
 
-release-ok : (c : tie.Joined3) → c .if3 .if4 ≡ released (c .before .before .before .args .release) (c .before .before .before .args .work) (c .before .before .before .args .deadline)
+release-ok : (c : tie.Joined3) → c .if3 .if4 ≡ released (start c .args .release) (start c .args .work) (start c .args .deadline)
 release-ok c =
-    let last = ltb (c .before .before .before .args .release) (c .before .before .before .args .deadline) in
+    let last = ltb (start c .args .release) (start c .args .deadline) in
     ⊎-elim
     (λ w. both _ last _ (w .0 .taken) (w .1))
     (λ w. neither _ last _ (w .0 .left) (w .1))
@@ -46,12 +50,12 @@ release-ok c =
 
 returns : tie.Need-returns
 returns c =
-    let last = leb (c .before .before .before .before .args .level) 1 in
+    let last = leb (start (c .before) .args .level) 1 in
     both _ last last (c .if4 .taken) refl ∙ ap (λ (b : Bool). b && last) (release-ok (c .before))
 
 returns-2 : tie.Need-returns-2
 returns-2 c =
-    let last = leb (c .before .before .before .before .args .level) 1 in
+    let last = leb (start (c .before) .args .level) 1 in
     neither _ last _ (c .if4 .left) refl ∙ ap (λ (b : Bool). b && last) (release-ok (c .before))
 
 pub row-ok-spec : {M : Type 1} → statement M

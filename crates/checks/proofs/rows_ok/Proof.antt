@@ -18,6 +18,10 @@ Inv-loop t n k₀ k = (k ≤ n) × (n ≤ 64) × (all (rowOk t) (rowsTo k) ≡ t
 abbrev μ-loop : tie.MeasureT-loop
 μ-loop t n k₀ k = n - k
 
+-- the turn that a row was tested in
+abbrev turn-of : tie.After-row-ok Inv-loop μ-loop → tie.In-loop Inv-loop μ-loop
+turn-of c = c .before .before .before .before .before
+
 cast-n : tie.Need-cast-n Inv-loop μ-loop
 cast-n c = search needs
 
@@ -53,8 +57,9 @@ row-ok-requires c κs = search needs
 
 returns : tie.Need-returns Inv-loop μ-loop
 returns c =
-    let s = c .before .before .before .before .before .before .before .before in
-    let l = c .before .before .before .before .before .before .before .loop in
+    let turn = turn-of (c .before) in
+    let s = turn .before .before in
+    let l = turn .before .loop in
     let bad = row-limits (s .args .t1) (l .k) ∙ sym (c .before .row-ok .ensures) ∙ not-true _ (c .if1 .taken) in
     sym (all-rows-fail (rowOk (s .args .t1)) (l .k) (s .args .t1 .n) (omega arith) bad)
 
@@ -66,8 +71,9 @@ loop-less c = search needs
 
 loop-again : tie.Need-loop-again Inv-loop μ-loop
 loop-again c =
-    let s = c .before .before .before .before .before .before .before .before in
-    let l = c .before .before .before .before .before .before .before .loop in
+    let turn = turn-of (c .before) in
+    let s = turn .before .before in
+    let l = turn .before .loop in
     let good = row-limits (s .args .t1) (l .k) ∙ sym (c .before .row-ok .ensures) ∙ not-false _ (c .if1 .left) in
     (omega arith, omega arith, all-rows-more (rowOk (s .args .t1)) (l .k) ∙ rw (l .inv .2) good)
 

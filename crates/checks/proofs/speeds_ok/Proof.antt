@@ -16,6 +16,10 @@ first n = leb 1 n && leb n 1000
 abbrev second : ℕ → ℕ → Bool
 second n g = first n && leb 1 g
 
+-- the start, past the tests of the degraded speed's least
+abbrev start : tie.Joined2 → tie.Start
+start c = c .before .before
+
 normal-ok : (c : tie.Joined1) → c .if1 .if2 ≡ first (c .before .args .normal)
 normal-ok c =
     ⊎-elim
@@ -34,12 +38,14 @@ degraded-ok c =
 
 returns : tie.Need-returns
 returns c =
-    let last = leb (c .before .before .before .args .degraded) (c .before .before .before .args .normal) in
+    let s = start (c .before) in
+    let last = leb (s .args .degraded) (s .args .normal) in
     both _ last last (c .if3 .taken) refl ∙ ap (λ (b : Bool). b && last) (degraded-ok (c .before))
 
 returns-2 : tie.Need-returns-2
 returns-2 c =
-    let last = leb (c .before .before .before .args .degraded) (c .before .before .before .args .normal) in
+    let s = start (c .before) in
+    let last = leb (s .args .degraded) (s .args .normal) in
     neither _ last _ (c .if3 .left) refl ∙ ap (λ (b : Bool). b && last) (degraded-ok (c .before))
 
 pub speeds-ok-spec : {M : Type 1} → statement M

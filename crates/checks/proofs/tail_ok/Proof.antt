@@ -1,86 +1,72 @@
--- Each column is zero after the n-th entry, or the first that is not answers for all.
-use borrow.Author.Tests.{not-true, not-false}
-use mathlib.Core.Path.{_≡_, sym, _∙_}
-use mathlib.Core.Bool.{true}
-use lib.ListN.{drop}
-use Rattle.rules.specs.declared.Table.{Table}
-use Rattle.rules.specs.Lists.{allZero}
-use Rattle.rules.specs.Tables.{tailOk}
+-- One test for each column, in the definition's order.
 use borrow.Author.Needs.{needs}
+use borrow.Author.Tests.{not-true, not-false}
+use mathlib.Core.Path.{sym, _∙_}
+use Rattle.rules.specs.Tables.{tailOk}
 use Rattle.checks.proofs.tail_ok.Statement.{statement}
 use Rattle.checks.proofs.tail_ok.Tie as tie
 
-cast-n : tie.Need-cast-n
-cast-n c = search needs
+-- the places of the code past a column that passed, from where the next is checked
+abbrev first-passed : tie.After-zero-after2 → tie.Else1
+first-passed c = c .before .before .before
 
-zero-from-requires : tie.Need-zero-from-requires
-zero-from-requires c κs = search needs
+abbrev second-passed : tie.After-zero-after3 → tie.Else2
+second-passed c = c .before .before .before
 
--- the table, past each column that is clear
-abbrev table1 : tie.Else1 → Table
-table1 c = c .before .before .before .before .before .before .before .args .t
-
-abbrev table2 : tie.Else2 → Table
-table2 c = table1 (c .before .before)
-
-abbrev table3 : tie.Else3 → Table
-table3 c = table2 (c .before .before)
-
-releases : (c : tie.Else1) → allZero (drop (table1 c .n) (table1 c .release)) ≡ true
-releases c = sym (c .before .zero-from .ensures) ∙ not-false _ (c .if1 .left)
-
-works : (c : tie.Else2) → allZero (drop (table2 c .n) (table2 c .work)) ≡ true
-works c = sym (c .before .zero-from2 .ensures) ∙ not-false _ (c .if2 .left)
-
-deadlines : (c : tie.Else3) → allZero (drop (table3 c .n) (table3 c .deadline)) ≡ true
-deadlines c = sym (c .before .zero-from3 .ensures) ∙ not-false _ (c .if3 .left)
+zero-after-requires : tie.Need-zero-after-requires
+zero-after-requires c κs = search needs
 
 returns : tie.Need-returns
 unfolding tailOk
-returns c = rw (sym (c .before .zero-from .ensures) ∙ not-true _ (c .if1 .taken))
+returns c = simp (sym (c .before .zero-after .ensures) ∙ not-true _ (c .if1 .taken))
 
-zero-from-requires-2 : tie.Need-zero-from-requires-2
-zero-from-requires-2 c κs = search needs
+zero-after-requires-2 : tie.Need-zero-after-requires-2
+zero-after-requires-2 c κs = search needs
 
 returns-2 : tie.Need-returns-2
 unfolding tailOk
-returns-2 c = rw (releases (c .before .before), sym (c .before .zero-from2 .ensures) ∙ not-true _ (c .if2 .taken))
+returns-2 c =
+    let b = first-passed (c .before) in
+    simp (sym (b .before .zero-after .ensures) ∙ not-false _ (b .if1 .left), sym (c .before .zero-after2 .ensures) ∙ not-true _ (c .if2 .taken))
 
-zero-from-requires-3 : tie.Need-zero-from-requires-3
-zero-from-requires-3 c κs = search needs
+zero-after-requires-3 : tie.Need-zero-after-requires-3
+zero-after-requires-3 c κs = search needs
 
 returns-3 : tie.Need-returns-3
 unfolding tailOk
 returns-3 c =
-    rw (
-      releases (c .before .before .before .before),
-      works (c .before .before),
-      sym (c .before .zero-from3 .ensures) ∙ not-true _ (c .if3 .taken),
+    let d = second-passed (c .before) in
+    let b = first-passed (d .before) in
+    simp (
+      sym (b .before .zero-after .ensures) ∙ not-false _ (b .if1 .left),
+      sym (d .before .zero-after2 .ensures) ∙ not-false _ (d .if2 .left),
+      sym (c .before .zero-after3 .ensures) ∙ not-true _ (c .if3 .taken),
     )
 
-zero-from-requires-4 : tie.Need-zero-from-requires-4
-zero-from-requires-4 c κs = search needs
+zero-after-requires-4 : tie.Need-zero-after-requires-4
+zero-after-requires-4 c κs = search needs
 
 returns-4 : tie.Need-returns-4
 unfolding tailOk
 returns-4 c =
-    rw (
-      releases (c .before .before .before .before .before),
-      works (c .before .before .before),
-      deadlines (c .before),
-    )
-    (c .zero-from4 .ensures)
+    let e = c .before .before .before in
+    let d = second-passed (e .before) in
+    let b = first-passed (d .before) in
+    simp (
+      sym (b .before .zero-after .ensures) ∙ not-false _ (b .if1 .left),
+      sym (d .before .zero-after2 .ensures) ∙ not-false _ (d .if2 .left),
+      sym (e .before .zero-after3 .ensures) ∙ not-false _ (e .if3 .left),
+    ) (c .zero-after4 .ensures)
 
 pub tail-ok-spec : {M : Type 1} → statement M
 tail-ok-spec =
     tie.close
     (tie.spec
-    cast-n
-    zero-from-requires
+    zero-after-requires
     returns
-    zero-from-requires-2
+    zero-after-requires-2
     returns-2
-    zero-from-requires-3
+    zero-after-requires-3
     returns-3
-    zero-from-requires-4
+    zero-after-requires-4
     returns-4)

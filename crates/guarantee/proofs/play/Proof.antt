@@ -25,9 +25,9 @@ returns c =
     let s = p .before .before .before in
     record {
       planned = p .plan .ensures .answer;
-      noting = rw (f .fresh .ensures) at (a .answered .ensures .noting);
-      left = rw (f .fresh .ensures) at (a .answered .ensures .left);
-      claim = λ accepted. rw (p .plan .ensures .answer) (demand-3 (s .args .t) accepted (callsIn (s .args .calls .now)));
+      noting = rw (f .fresh .ensures, p .plan .ensures .answer) at (a .answered .ensures .noting);
+      left = rw (f .fresh .ensures, p .plan .ensures .answer) at (a .answered .ensures .left);
+      claim = λ accepted. demand-3 (s .args .t) accepted (callsIn (s .args .calls .now));
     }
 
 pub play-spec : {M : Type 1} → statement M

@@ -8,6 +8,10 @@ use Rattle.jasminebrace.specs.Finishes.{finishesOf, finishes-passed, fin
 use Rattle.jasminebrace.proofs.jb_finishes.Statement.{statement}
 use Rattle.jasminebrace.proofs.jb_finishes.Tie as tie
 
+-- the place where the table is read, from where it is checked
+abbrev table-read : tie.After-check-both → tie.After-table-in
+table-read c = c .before .before
+
 table-in-requires : tie.Need-table-in-requires
 table-in-requires c κs = search needs
 
@@ -29,9 +33,10 @@ refusal-number-requires c κs = search needs
 returns : tie.Need-returns
 unfolding checkNumber
 returns c =
-    let o = c .before .before .before .before .before .before .args .order .now in
-    let t = c .before .before .before .before .before .table-in in
-    let p = sym (c .before .before .before .check-both .ensures) ∙ c .before .enum-told .given .1 in (
+    let k = c .before .before .before in
+    let o = table-read k .before .args .order .now in
+    let t = table-read k .table-in in
+    let p = sym (k .check-both .ensures) ∙ c .before .enum-told .given .1 in (
       sym (ap checkNumber p) ∙ ap (λ (t : Table). checkNumber (checkBoth t o)) (t .ensures),
       c .worst-finishes .ensures ∙ sym (finishes-passed (t .result) o p) ∙ ap (λ (t : Table). finishesOf t o) (t .ensures),
     )
@@ -39,9 +44,10 @@ returns c =
 returns-2 : tie.Need-returns-2
 unfolding checkNumber
 returns-2 c =
-    let o = c .before .before .before .before .before .before .before .args .order .now in
-    let t = c .before .before .before .before .before .before .table-in in
-    let p = sym (c .before .before .before .before .check-both .ensures) ∙ c .before .before .check .given .1 in (
+    let k = c .before .before .before .before in
+    let o = table-read k .before .args .order .now in
+    let t = table-read k .table-in in
+    let p = sym (k .check-both .ensures) ∙ c .before .before .check .given .1 in (
       c .refusal-number .ensures ∙ sym (ap checkNumber p) ∙ ap (λ (t : Table). checkNumber (checkBoth t o)) (t .ensures),
       sym (finishes-refused (t .result) o _ p) ∙ ap (λ (t : Table). finishesOf t o) (t .ensures),
     )

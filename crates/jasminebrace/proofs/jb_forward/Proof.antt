@@ -9,6 +9,10 @@ use Rattle.jasminebrace.specs.Words.{stateWords}
 use Rattle.jasminebrace.proofs.jb_forward.Statement.{statement}
 use Rattle.jasminebrace.proofs.jb_forward.Tie as tie
 
+-- the start, from where the record is read
+abbrev start : tie.After-run-in → tie.Start
+start c = c .before .before .before .before
+
 run-in-requires : tie.Need-run-in-requires
 run-in-requires c κs = search needs
 
@@ -24,7 +28,9 @@ state-words-requires c κs = search needs
 returns : tie.Need-returns
 returns c =
     let n = c .before .forward-numbers in
-    let e = c .before .before .before .forwarded .ensures ∙ ap (λ (r : Run). forwardOver r (c .before .before .before .before .before .before .before .before .args .supplies .now)) (c .before .before .before .before .run-in .ensures) in (
+    let f = c .before .before .before in
+    let r = f .before in
+    let e = f .forwarded .ensures ∙ ap (λ (d : Run). forwardOver d (start r .args .supplies .now)) (r .run-in .ensures) in (
       n .ensures .0 ∙ ap (λ (d : Forwarded). forwardSaid (d .answer) .number) e,
       n .ensures .1 ∙ ap (λ (d : Forwarded). forwardSaid (d .answer) .value) e,
       c .state-words .ensures ∙ ap (λ (d : Forwarded). stateWords (d .run)) e,

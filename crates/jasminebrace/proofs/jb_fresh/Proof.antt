@@ -9,6 +9,10 @@ use Rattle.jasminebrace.specs.Words.{wordsOf, stateWords}
 use Rattle.jasminebrace.proofs.jb_fresh.Statement.{statement}
 use Rattle.jasminebrace.proofs.jb_fresh.Tie as tie
 
+-- the place where the record is made, from where its words are
+abbrev made : tie.After-words-of → tie.After-fresh
+made c = c .before .before .before .before
+
 table-in-requires : tie.Need-table-in-requires
 table-in-requires c κs = search needs
 
@@ -26,8 +30,10 @@ check-number-requires c κs = search needs
 
 returns : tie.Need-returns
 returns c =
-    let o = c .before .before .before .before .before .before .before .before .before .args .order .now in
-    let e = c .before .before .before .before .before .before .fresh .ensures ∙ ap (λ (t : Table). freshOf t o) (c .before .before .before .before .before .before .before .before .table-in .ensures) in (
+    let m = made (c .before .before) in
+    let r = m .before .before in
+    let o = r .before .args .order .now in
+    let e = m .fresh .ensures ∙ ap (λ (t : Table). freshOf t o) (r .table-in .ensures) in (
       c .check-number .ensures ∙ ap (λ (f : FreshRun). checkNumber (f .check)) e,
       c .before .before .words-of .ensures ∙ ap (λ (f : FreshRun). wordsOf (f .run .table)) e,
       ap (λ (f : FreshRun). f .run .order) e,

@@ -23,10 +23,11 @@ verdict-numbers-requires c κs = search needs
 
 returns : tie.Need-returns
 returns c =
-    let s = c .before .before .before .before .before in
     let n = c .before .verdict-numbers in
-    let e = c .before .before .judge-table .ensures .answer ∙ ap (λ (t : Table). judgeOf t (s .args .order .now)) (c .before .before .before .before .table-in .ensures) in
-    let fits : SFits w32 (n .result .slack) = search needs in (
+    let fits : SFits w32 (n .result .slack) = search needs in
+    let j = c .before .before in
+    let r = j .before .before in
+    let e = j .judge-table .ensures .answer ∙ ap (λ (t : Table). judgeOf t (r .before .args .order .now)) (r .table-in .ensures) in (
       n .ensures .0 ∙ ap verdictNumber e,
       n .ensures .1 ∙ ap (λ (v : Verdict). yesWord (verdictYes v)) e,
       n .ensures .2 ∙ ap verdictRow e,

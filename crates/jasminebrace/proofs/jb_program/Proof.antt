@@ -9,9 +9,6 @@ use Rattle.jasminebrace.specs.Zeros.{drop-zeros}
 use Rattle.jasminebrace.proofs.jb_program.Statement.{statement}
 use Rattle.jasminebrace.proofs.jb_program.Tie as tie
 
-slice-aggregate-program : tie.Need-slice-aggregate-program
-slice-aggregate-program c = search needs
-
 program-requires : tie.Need-program-requires
 program-requires c κs = search needs
 
@@ -20,8 +17,8 @@ cast-result c = search needs
 
 returns : tie.Need-returns
 returns c =
-    let w = programText (c .before .before .before .before .args .input .now) in
-    (c .before .program .ensures .size, c .before .program .ensures .text ∙ ap (λ (l : List ℕ). w ++ l) (drop-zeros (length w) 1617))
+    let w = programText (c .before .before .before .args .input .now) in
+    (c .program .ensures .size, c .program .ensures .text ∙ ap (λ (l : List ℕ). w ++ l) (drop-zeros (length w) 1617))
 
 pub jb-program-spec : {M : Type 1} → statement M
-jb-program-spec = tie.close (tie.spec slice-aggregate-program program-requires cast-result returns)
+jb-program-spec = tie.close (tie.spec program-requires cast-result returns)

@@ -9,6 +9,10 @@ use Rattle.jasminebrace.specs.Words.{stateWords}
 use Rattle.jasminebrace.proofs.jb_slot.Statement.{statement}
 use Rattle.jasminebrace.proofs.jb_slot.Tie as tie
 
+-- the start, from where the record is read
+abbrev start : tie.After-run-in → tie.Start
+start c = c .before .before .before
+
 run-in-requires : tie.Need-run-in-requires
 run-in-requires c κs = search needs
 
@@ -24,7 +28,9 @@ state-words-requires c κs = search needs
 returns : tie.Need-returns
 returns c =
     let n = c .before .slot-numbers in
-    let e = c .before .before .before .slot .ensures ∙ ap (λ (r : Run). oneSlot r (c .before .before .before .before .before .before .before .args .supply)) (c .before .before .before .before .run-in .ensures) in (
+    let w = c .before .before .before in
+    let r = w .before in
+    let e = w .slot .ensures ∙ ap (λ (d : Run). oneSlot d (start r .args .supply)) (r .run-in .ensures) in (
       n .ensures .0 ∙ ap (λ (d : Stepped). slotSaid (d .answer) .number) e,
       n .ensures .1 ∙ ap (λ (d : Stepped). slotSaid (d .answer) .value) e,
       c .state-words .ensures ∙ ap (λ (d : Stepped). stateWords (d .run)) e,

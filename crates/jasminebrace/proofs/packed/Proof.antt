@@ -46,10 +46,12 @@ add-result-3 c = search needs
 
 returns : tie.Need-returns
 returns c =
-    let b = c .before .before .before .slack-bits in
-    let n = c .before .before .before .before .before .verdict-numbers in
+    let k = c .before .before .before in
+    let b = k .slack-bits in
+    let v = k .before .before in
+    let n = v .verdict-numbers in
     let fits : SFits w32 (n .result .slack) = search needs in
-    packs (c .before .before .before .before .before .before .args .verdict) (n .result .number) (n .result .yes) (n .result .row) (b .result)
+    packs (v .before .args .verdict) (n .result .number) (n .result .yes) (n .result .row) (b .result)
     (n .ensures .0) (n .ensures .1) (n .ensures .2) (b .ensures ∙ ap (ofZ w32) (toZ-ofZ fits ∙ n .ensures .3))
 
 pub packed-spec : {M : Type 1} → statement M

@@ -30,7 +30,13 @@ column-requires-3 c κs = search needs
 
 returns : tie.Need-returns
 unfolding runIn
-returns c = rw (c .before .before .before .before .before .before .table-in .ensures, c .before .before .before .before .column .ensures, c .before .before .column2 .ensures, c .column3 .ensures)
+returns c =
+    rw (
+      c .before .before .before .before .before .before .table-in .ensures,
+      c .before .before .before .before .column .ensures,
+      c .before .before .column2 .ensures,
+      c .column3 .ensures,
+    )
 
 pub run-in-spec : {M : Type 1} → statement M
 run-in-spec =

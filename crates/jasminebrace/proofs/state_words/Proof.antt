@@ -7,6 +7,26 @@ use Rattle.jasminebrace.specs.Copies.{state-written}
 use Rattle.jasminebrace.proofs.state_words.Statement.{statement}
 use Rattle.jasminebrace.proofs.state_words.Tie as tie
 
+-- the places of the code, each from a later one: the column got is put, then used
+abbrev start : tie.After-put-column → tie.Start
+start c = c .before .before .before .before .before
+
+abbrev got-put : tie.After-put-column2 → tie.After-put-column
+got-put c = c .before .before .before
+
+abbrev used-put : tie.After-put-column3 → tie.After-put-column2
+used-put c = c .before .before .before
+
+-- each column has sixty-four entries
+got-full : (s : tie.Start) → length (s .args .run .got) ≡ 64
+got-full s = search needs
+
+used-full : (s : tie.Start) → length (s .args .run .used) ≡ 64
+used-full s = search needs
+
+closing-full : (s : tie.Start) → length (s .args .run .closing) ≡ 64
+closing-full s = search needs
+
 array-write-words : tie.Need-array-write-words
 array-write-words c = search needs
 
@@ -30,14 +50,15 @@ put-column-requires-3 c κs = search needs
 
 returns : tie.Need-returns
 returns c =
-    let r = c .before .before .before .before .before .before .before .before .before .before .before .before .args .run in
-    let one = c .before .before .before .before .before .before .before .put-column in
-    let two = c .before .before .before .before .put-column2 in
+    let u = used-put (c .before) in
+    let g = got-put u in
+    let s = start g in
+    let r = s .args .run in
+    let one = g .put-column in
+    let two = u .put-column2 in
     let three = c .before .put-column3 in
-    let got : length (r .got) ≡ 64 = search needs in
-    let used : length (r .used) ≡ 64 = search needs in
-    let closing : length (r .closing) ≡ 64 = search needs in
-    state-written r (r .clock ∷ replicate 192 0) (one .last .0) (two .last .0) (three .last .0) refl refl got used closing (one .ensures) (two .ensures) (three .ensures)
+    state-written r (r .clock ∷ replicate 192 0) (one .last .0) (two .last .0) (three .last .0) refl refl
+    (got-full s) (used-full s) (closing-full s) (one .ensures) (two .ensures) (three .ensures)
 
 pub state-words-spec : {M : Type 1} → statement M
 state-words-spec =

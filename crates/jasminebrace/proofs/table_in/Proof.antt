@@ -27,7 +27,13 @@ column-requires-4 c κs = search needs
 
 returns : tie.Need-returns
 unfolding tableIn
-returns c = rw (c .before .before .before .before .before .before .column .ensures, c .before .before .before .before .column2 .ensures, c .before .before .column3 .ensures, c .column4 .ensures)
+returns c =
+    rw (
+      c .before .before .before .before .before .before .column .ensures,
+      c .before .before .before .before .column2 .ensures,
+      c .before .before .column3 .ensures,
+      c .column4 .ensures,
+    )
 
 pub table-in-spec : {M : Type 1} → statement M
 table-in-spec =

@@ -7,6 +7,32 @@ use Rattle.jasminebrace.specs.Copies.{table-written}
 use Rattle.jasminebrace.proofs.words_of.Statement.{statement}
 use Rattle.jasminebrace.proofs.words_of.Tie as tie
 
+-- the places of the code, each from a later one: the release column is put, then work, then deadline
+abbrev start : tie.After-put-column → tie.Start
+start c = c .before .before .before .before .before .before
+
+abbrev release-put : tie.After-put-column2 → tie.After-put-column
+release-put c = c .before .before .before
+
+abbrev work-put : tie.After-put-column3 → tie.After-put-column2
+work-put c = c .before .before .before
+
+abbrev deadline-put : tie.After-put-column4 → tie.After-put-column3
+deadline-put c = c .before .before .before
+
+-- each column has sixty-four entries
+release-full : (s : tie.Start) → length (s .args .t .release) ≡ 64
+release-full s = search needs
+
+work-full : (s : tie.Start) → length (s .args .t .work) ≡ 64
+work-full s = search needs
+
+deadline-full : (s : tie.Start) → length (s .args .t .deadline) ≡ 64
+deadline-full s = search needs
+
+level-full : (s : tie.Start) → length (s .args .t .level) ≡ 64
+level-full s = search needs
+
 array-write-words : tie.Need-array-write-words
 array-write-words c = search needs
 
@@ -42,17 +68,18 @@ put-column-requires-4 c κs = search needs
 
 returns : tie.Need-returns
 returns c =
-    let t = c .before .before .before .before .before .before .before .before .before .before .before .before .before .before .before .before .args .t in
-    let one = c .before .before .before .before .before .before .before .before .before .before .put-column in
-    let two = c .before .before .before .before .before .before .before .put-column2 in
-    let three = c .before .before .before .before .put-column3 in
+    let d = deadline-put (c .before) in
+    let w = work-put d in
+    let r = release-put w in
+    let s = start r in
+    let t = s .args .t in
+    let one = r .put-column in
+    let two = w .put-column2 in
+    let three = d .put-column3 in
     let four = c .before .put-column4 in
-    let release : length (t .release) ≡ 64 = search needs in
-    let work : length (t .work) ≡ 64 = search needs in
-    let deadline : length (t .deadline) ≡ 64 = search needs in
-    let level : length (t .level) ≡ 64 = search needs in
     let words = t .n ∷ t .normal ∷ t .degraded ∷ replicate 256 0 in
-    table-written t words (one .last .0) (two .last .0) (three .last .0) (four .last .0) refl refl release work deadline level (one .ensures) (two .ensures) (three .ensures) (four .ensures)
+    table-written t words (one .last .0) (two .last .0) (three .last .0) (four .last .0) refl refl
+    (release-full s) (work-full s) (deadline-full s) (level-full s) (one .ensures) (two .ensures) (three .ensures) (four .ensures)
 
 pub words-of-spec : {M : Type 1} → statement M
 words-of-spec =

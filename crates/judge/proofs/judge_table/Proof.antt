@@ -16,7 +16,11 @@ enum-known-check c = search needs
 enum-told : tie.Need-enum-told
 enum-told c = search needs
 
-passes : (c : tie.After-enum-told) → checkBoth (c .before .before .before .args .t) (c .before .before .before .args .order) ≡ Passed
+-- the start, from where the checks are known to pass
+abbrev start : tie.After-enum-told → tie.Start
+start c = c .before .before .before
+
+passes : (c : tie.After-enum-told) → checkBoth (start c .args .t) (start c .args .order) ≡ Passed
 passes c = sym (c .before .before .check-both .ensures) ∙ c .enum-told .given .1
 
 verdict-requires : tie.Need-verdict-requires
@@ -25,11 +29,12 @@ verdict-requires c κs = passes c
 returns : tie.Need-returns
 returns c =
     let s = c .before .before .before .before in
-    promised (s .args .t) (s .args .order) _ (sym (judge-refused (s .args .t) (s .args .order) _ (sym (c .before .before .before .check-both .ensures) ∙ c .before .check .given .1)))
+    promised (s .args .t) (s .args .order) _
+    (sym (judge-refused (s .args .t) (s .args .order) _ (sym (c .before .before .before .check-both .ensures) ∙ c .before .check .given .1)))
 
 returns-2 : tie.Need-returns-2
 returns-2 c =
-    let s = c .before .before .before .before in
+    let s = start (c .before) in
     promised (s .args .t) (s .args .order) (c .verdict .result) (c .verdict .ensures ∙ sym (judge-passed (s .args .t) (s .args .order) (passes (c .before))))
 
 pub judge-table-spec : {M : Type 1} → statement M

@@ -2,10 +2,14 @@
 use borrow.Author.Needs.{needs}
 use mathlib.Core.Path.{sym, _∙_}
 use Rattle.theory.specs.Facts.{facts}
-use Rattle.worst.specs.Finds.{columns}
+use Rattle.sweep.specs.Finds.{columns}
 use Rattle.judge.specs.Down.{swept-is, low-speed, high-speed}
 use Rattle.judge.proofs.swept.Statement.{statement}
 use Rattle.judge.proofs.swept.Tie as tie
+
+-- the start, from where the level is read
+abbrev start : tie.After-entry2 → tie.Start
+start c = c .before .before .before .before .before .before
 
 entry-requires : tie.Need-entry-requires
 entry-requires c κs = search needs
@@ -15,14 +19,14 @@ entry-requires-2 c κs = search needs
 
 finish-requires : tie.Need-finish-requires
 finish-requires c κs =
-    let s = c .before .before .before .before .before .before .before .before in
+    let s = start (c .before .before) in
     let a = s .args in
     let p = s .pre .0 in
     columns (a .t) (p .accepted) (a .t .normal) (a .queue .now) (a .normal .now) (facts (a .t) (p .accepted) .runs) (p .queued) (p .atNormal)
 
 finish-requires-2 : tie.Need-finish-requires-2
 finish-requires-2 c κs =
-    let s = c .before .before .before .before .before .before .before .before in
+    let s = start (c .before .before) in
     let a = s .args in
     let p = s .pre .0 in
     columns (a .t) (p .accepted) (a .t .degraded) (a .queue .now) (a .degraded .now) (facts (a .t) (p .accepted) .crawls) (p .queued) (p .atDegraded)
@@ -31,7 +35,7 @@ returns : tie.Need-returns
 returns c =
     let e = c .before .before .before in
     let from = e .before .before in
-    let s = from .before .before .before .before in
+    let s = start e in
     let a = s .args in
     let p = s .pre .0 in
     swept-is (a .t) (p .accepted) (a .t .normal) (a .queue .now) (a .normal .now) (p .queued) (p .atNormal)
@@ -42,7 +46,7 @@ returns-2 : tie.Need-returns-2
 returns-2 c =
     let e = c .before .before .before in
     let from = e .before .before in
-    let s = from .before .before .before .before in
+    let s = start e in
     let a = s .args in
     let p = s .pre .0 in
     swept-is (a .t) (p .accepted) (a .t .degraded) (a .queue .now) (a .degraded .now) (p .queued) (p .atDegraded)

@@ -32,23 +32,26 @@ tightest-requires c κs =
 
 -- the row found, and its slack read back from its bits
 module _ (c : tie.After-struct-told) where
+  abbrev finished : tie.After-worst-finishes
+  finished = c .before .before .before
+
   abbrev t : Table
-  t = c .before .before .before .before .args .t
+  t = finished .before .args .t
 
   abbrev o : List ℕ
-  o = c .before .before .before .before .args .order
+  o = finished .before .args .order
 
   abbrev found : ℤ
   found = toZ w32 (ofZ w32 (c .before .tightest .result .slack))
 
   is-tightest : c .before .tightest .result .row ≡ tightest t o
   is-tightest =
-      let w = c .before .before .before in
+      let w = finished in
       c .before .tightest .ensures .0 ∙ least-is t o (checked t o (w .before .pre)) (w .worst-finishes .result) (w .worst-finishes .ensures)
 
   is-least : found ≡ slack t o (tightest t o)
   is-least =
-      let w = c .before .before .before in
+      let w = finished in
       toZ-ofZ {w = w32} {z = c .before .tightest .result .slack} (record { sfits = c .struct-told .given .1 .0 .1 })
       ∙ c .before .tightest .ensures .1 ∙ ap (slackIn (t .deadline) (w .worst-finishes .result)) is-tightest
       ∙ least-slack t o (checked t o (w .before .pre)) (w .worst-finishes .result) (w .worst-finishes .ensures)

@@ -18,9 +18,6 @@ array-share-prefix-sheet c = search needs
 slice-aggregate-program : tie.Need-slice-aggregate-program
 slice-aggregate-program c = search needs
 
-slice-aggregate-program-2 : tie.Need-slice-aggregate-program-2
-slice-aggregate-program-2 c = search needs
-
 program-requires : tie.Need-program-requires
 program-requires c κs = search needs
 
@@ -28,7 +25,7 @@ array-share-prefix-out : tie.Need-array-share-prefix-out
 array-share-prefix-out c = search needs
 
 slice-aggregate-write-all : tie.Need-slice-aggregate-write-all
-slice-aggregate-write-all c = let p = c .before .before in sym (length-take-le (p .program .result) (p .program .last .1 .0) (omega arith))
+slice-aggregate-write-all c = let p = c .before in sym (length-take-le (p .program .result) (p .program .last .1 .0) (omega arith))
 
 write-all-requires : tie.Need-write-all-requires
 write-all-requires c κs = search needs
@@ -44,7 +41,6 @@ main-spec =
     read-full-requires
     array-share-prefix-sheet
     slice-aggregate-program
-    slice-aggregate-program-2
     program-requires
     array-share-prefix-out
     slice-aggregate-write-all

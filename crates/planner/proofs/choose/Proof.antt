@@ -5,8 +5,8 @@ use borrow.Author.Needs.{needs}
 use mathlib.Core.Path.{_≡_, refl, sym, ap, _∙_}
 use lib.Count.{ones}
 use Rattle.theory.specs.Facts.{facts}
-use Rattle.worst.specs.Masks.{bit, cleared-ones}
-use Rattle.worst.specs.Padded.{zeros}
+use Rattle.sweep.specs.Masks.{bit, cleared-ones}
+use Rattle.sweep.specs.Padded.{zeros}
 use Rattle.planner.specs.Placing.{Placing, placing-start, placing-done, placing-stuck, placing-turn, taker-range, taker-bit}
 use Rattle.planner.proofs.choose.Statement.{statement}
 use Rattle.planner.proofs.choose.Tie as tie
@@ -16,6 +16,10 @@ Inv-loop t w order₀ left₀ place₀ order left place = (place ≤ 64) × Plac
 
 abbrev μ-loop : tie.MeasureT-loop
 μ-loop t w order₀ left₀ place₀ order left place = ones left
+
+-- the start, from the loop's head
+abbrev start : tie.At-loop Inv-loop μ-loop → tie.Start Inv-loop μ-loop
+start l = l .before .before .before .before
 
 prepare-requires : tie.Need-prepare-requires Inv-loop μ-loop
 prepare-requires c κs = search needs
@@ -29,18 +33,19 @@ how-many-requires c κs = search needs
 loop-holds : tie.Need-loop-holds Inv-loop μ-loop
 loop-holds c =
     let s = c .before .before .before in
-    let p = placing-start (s .args .t) (s .pre) (zeros 64) (c .before .first-rows .result) (c .how-many .result) refl (c .before .first-rows .ensures) (c .how-many .ensures) in
+    let p = placing-start (s .args .t) (s .pre) (zeros 64) (c .before .first-rows .result) (c .how-many .result) refl (c .before .first-rows .ensures)
+    (c .how-many .ensures) in
     (omega (arith, p .few, facts _ (s .pre) .few), p)
 
 taker-requires : tie.Need-taker-requires Inv-loop μ-loop
 taker-requires c κs =
     let l = c .before in
-    record { accepted = l .before .before .before .before .pre; prepared = l .before .before .before .prepare .ensures; holds = l .loop .inv .1 .holds }
+    record { accepted = start l .pre; prepared = l .before .before .before .prepare .ensures; holds = l .loop .inv .1 .holds }
 
 returns : tie.Need-returns Inv-loop μ-loop
 returns c =
     let l = c .before .before .before in
-    let s = l .before .before .before .before in
+    let s = start l in
     placing-stuck (s .args .t) (s .pre) (l .loop .order) (l .loop .left) (l .loop .place) (l .loop .inv .1) (c .before .before .loop-test .taken)
     (sym (c .before .taker .ensures) ∙ c .if1 .taken)
 
@@ -50,7 +55,7 @@ module _ (c : tie.Else1 Inv-loop μ-loop) where
   head = c .before .before .before
 
   abbrev entry : tie.Start Inv-loop μ-loop
-  entry = head .before .before .before .before
+  entry = start head
 
   range : (1 ≤ c .before .taker .result) × (c .before .taker .result ≤ 64)
   range =
@@ -95,7 +100,7 @@ loop-again c =
 returns-2 : tie.Need-returns-2 Inv-loop μ-loop
 returns-2 c =
     let l = c .before in
-    let s = l .before .before .before .before in
+    let s = start l in
     placing-done (s .args .t) (s .pre) (l .loop .order) (l .loop .left) (l .loop .place) (l .loop .inv .1) (omega arith)
 
 pub choose-spec : {M : Type 1} → statement M

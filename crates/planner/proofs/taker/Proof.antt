@@ -7,7 +7,8 @@ use mathlib.Core.Logic.{⊎-elim}
 use Rattle.rules.specs.Choice.{taker}
 use Rattle.theory.specs.Facts.{facts}
 use Rattle.planner.specs.Trying.{leftOf}
-use Rattle.planner.specs.Taking.{searched, sequence-rows, normal-columns, degraded-columns, search-start, search-done, search-skip, search-go, search-stop}
+use Rattle.planner.specs.Taking.{searched, sequence-rows, normal-columns, degraded-columns, search-start, search-done, search-skip, search-go}
+use Rattle.planner.specs.Taking.{search-stop}
 use Rattle.planner.proofs.taker.Statement.{statement}
 use Rattle.planner.proofs.taker.Tie as tie
 
@@ -26,6 +27,13 @@ cast-row c = search needs
 element-copy-out-row : tie.Need-element-copy-out-row Inv-loop μ-loop
 element-copy-out-row c = search needs
 
+-- the places of a turn, each from a later one: the turn begins, its row is left, the trial is about to be made
+abbrev turn-of : tie.After-has Inv-loop μ-loop → tie.In-loop Inv-loop μ-loop
+turn-of c = c .before .before
+
+abbrev row-left : tie.After-meets-deadline-arg6 Inv-loop μ-loop → tie.Then1 Inv-loop μ-loop
+row-left c = c .before .before .before .before .before .before .before .before
+
 -- in a turn the next entry is one of the sequence's
 inside : (c : tie.In-loop Inv-loop μ-loop) → c .before .loop .tried < c .before .before .args .t1 .n
 inside c = omega arith
@@ -35,24 +43,26 @@ has-requires c κs =
     let s = c .before .before .before in
     sequence-rows (s .args .t1) (s .args .t2) (s .args .left) (s .pre) (c .before .before .loop .tried) (inside (c .before))
 
-passes-requires : tie.Need-passes-requires Inv-loop μ-loop
-passes-requires c κs =
-    let l = c .before .before .before .before .before .before .before .before .before .before .before .before in
+meets-deadline-requires : tie.Need-meets-deadline-requires Inv-loop μ-loop
+meets-deadline-requires c κs =
+    let turn = turn-of (row-left c .before) in
+    let l = turn .before in
     let s = l .before in
     let t = s .args .t1 in
     let w = s .args .t2 in
     let left = s .args .left in
-    let r = sequence-rows t w left (s .pre) (l .loop .tried) (inside (c .before .before .before .before .before .before .before .before .before .before .before)) in
+    let r = sequence-rows t w left (s .pre) (l .loop .tried) (inside turn) in
     (r .0, r .1, normal-columns t w left (s .pre), degraded-columns t w left (s .pre))
 
 returns : tie.Need-returns Inv-loop μ-loop
 returns c =
-    let l = c .before .before .before .before .before .before .before .before .before .before .before .before .before .before in
+    let r = row-left (c .before .before) in
+    let turn = turn-of (r .before) in
+    let l = turn .before in
     let s = l .before in
-    let h = c .before .before .before .before .before .before .before .before .before .before .before in
-    sym (search-stop (s .args .t1) (s .args .t2) (s .args .left) (s .pre) (l .loop .tried) (inside (h .before .before))
-    (sym (h .has .ensures) ∙ c .before .before .before .before .before .before .before .before .before .before .if1 .taken)
-    (sym (c .before .passes .ensures) ∙ c .if2 .taken))
+    sym (search-stop (s .args .t1) (s .args .t2) (s .args .left) (s .pre) (l .loop .tried) (inside turn)
+    (sym (r .before .has .ensures) ∙ r .if1 .taken)
+    (sym (c .before .meets-deadline .ensures) ∙ c .if2 .taken))
     ∙ l .loop .inv .2
 
 add-tried : tie.Need-add-tried Inv-loop μ-loop
@@ -63,12 +73,13 @@ loop-less c = search needs
 
 loop-again : tie.Need-loop-again Inv-loop μ-loop
 loop-again c =
-    let l = c .before .before .before .before in
+    let now = turn-of (c .before) in
+    let l = now .before in
     let s = l .before in
     let t = s .args .t1 in
     let w = s .args .t2 in
     let left = s .args .left in
-    let turn = inside (c .before .before .before) in
+    let turn = inside now in
     let has = c .before .has .ensures in (
       omega arith,
       l .loop .inv .1,
@@ -95,7 +106,7 @@ taker-spec =
     cast-row
     element-copy-out-row
     has-requires
-    passes-requires
+    meets-deadline-requires
     returns
     add-tried
     loop-less

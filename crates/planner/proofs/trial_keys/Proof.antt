@@ -18,6 +18,10 @@ Inv-loop t out₀ k₀ out k = (k ≤ t .n) × (t .n ≤ 64) × (out ≡ padded 
 abbrev μ-loop : tie.MeasureT-loop
 μ-loop t out₀ k₀ out k = t .n - k
 
+-- the turn that a row's release and deadline were read in
+abbrev turn-of : tie.After-trial-key-arg2 Inv-loop μ-loop → tie.In-loop Inv-loop μ-loop
+turn-of c = c .before .before
+
 loop-holds : tie.Need-loop-holds Inv-loop μ-loop
 unfolding padded
 loop-holds c = (omega arith, facts _ (c .pre) .few, refl)
@@ -39,9 +43,9 @@ element-copy-out-trial-key-2 c = search needs
 
 trial-key-requires : tie.Need-trial-key-requires Inv-loop μ-loop
 trial-key-requires c κs =
-    let s = c .before .before .before .before in
-    let l = c .before .before .before .loop in
-    soon-at (s .args .t1) (s .pre) (l .k) (c .before .before .loop-test .taken)
+    let turn = turn-of c in
+    let s = turn .before .before in
+    soon-at (s .args .t1) (s .pre) (turn .before .loop .k) (turn .loop-test .taken)
 
 mul-out : tie.Need-mul-out Inv-loop μ-loop
 mul-out c = search needs
@@ -57,10 +61,11 @@ loop-less c = search needs
 
 loop-again : tie.Need-loop-again Inv-loop μ-loop
 loop-again c =
-    let s = c .before .before .before .before .before in
-    let l = c .before .before .before .before .loop in
+    let turn = turn-of (c .before) in
+    let s = turn .before .before in
+    let l = turn .before .loop in
     let t = s .args .t1 in
-    let taken = c .before .before .before .loop-test .taken in (
+    let taken = turn .loop-test .taken in (
       omega arith,
       l .inv .1,
       keys-more t (l .k) (c .trial-key .result) (l .out) (omega arith) (l .inv .2) (c .trial-key .ensures)

@@ -30,7 +30,11 @@ returns c = rw (sym (c .before .before .before .check-both .ensures) ∙ c .befo
 returns-2 : tie.Need-returns-2
 unfolding freshOf
 returns-2 c =
-    rw (sym (c .before .before .before .before .before .check-both .ensures) ∙ c .before .before .before .check .given .1, c .start2 .ensures, c .before .zero-table .ensures)
+    rw (
+      sym (c .before .before .before .before .before .check-both .ensures) ∙ c .before .before .before .check .given .1,
+      c .start2 .ensures,
+      c .before .zero-table .ensures,
+    )
 
 pub fresh-spec : {M : Type 1} → statement M
 fresh-spec =

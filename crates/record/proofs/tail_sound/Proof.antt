@@ -6,6 +6,10 @@ use Rattle.record.specs.Records.{tailSound}
 use Rattle.record.proofs.tail_sound.Statement.{statement}
 use Rattle.record.proofs.tail_sound.Tie as tie
 
+-- the place past the first column, from where the second is checked
+abbrev first-passed : tie.After-zero-after2 → tie.Else1
+first-passed c = c .before .before .before
+
 zero-after-requires : tie.Need-zero-after-requires
 zero-after-requires c κs = search needs
 
@@ -19,7 +23,7 @@ zero-after-requires-2 c κs = search needs
 returns-2 : tie.Need-returns-2
 unfolding tailSound
 returns-2 c =
-    let b = c .before .before .before .before in
+    let b = first-passed (c .before) in
     simp (sym (b .before .zero-after .ensures) ∙ not-false _ (b .if1 .left), sym (c .before .zero-after2 .ensures) ∙ not-true _ (c .if2 .taken))
 
 zero-after-requires-3 : tie.Need-zero-after-requires-3
@@ -29,8 +33,9 @@ returns-3 : tie.Need-returns-3
 unfolding tailSound
 returns-3 c =
     let d = c .before .before .before in
-    let b = d .before .before .before .before in
-    simp (sym (b .before .zero-after .ensures) ∙ not-false _ (b .if1 .left), sym (d .before .zero-after2 .ensures) ∙ not-false _ (d .if2 .left)) (c .zero-after3 .ensures)
+    let b = first-passed (d .before) in
+    simp (sym (b .before .zero-after .ensures) ∙ not-false _ (b .if1 .left), sym (d .before .zero-after2 .ensures) ∙ not-false _ (d .if2 .left))
+    (c .zero-after3 .ensures)
 
 pub tail-sound-spec : {M : Type 1} → statement M
 tail-sound-spec =

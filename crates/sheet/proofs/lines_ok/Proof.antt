@@ -15,6 +15,10 @@ Inv-loop bytes n i₀ i = (i ≤ n) × (linesOk bytes i ≡ true)
 abbrev μ-loop : tie.MeasureT-loop
 μ-loop bytes n i₀ i = n - i
 
+-- the start, from a turn
+abbrev start : tie.In-loop Inv-loop μ-loop → tie.Start Inv-loop μ-loop
+start t = t .before .before .before
+
 loop-holds : tie.Need-loop-holds Inv-loop μ-loop
 loop-holds c = (search needs, refl)
 
@@ -29,8 +33,9 @@ line-ok-requires c κs = search needs
 
 returns : tie.Need-returns Inv-loop μ-loop
 returns c =
-    let s = c .before .before .before .before .before in
-    let l = c .before .before .before .loop in
+    let t = c .before .before in
+    let s = start t in
+    let l = t .before .loop in
     let e = sym (c .before .line-ok .ensures) ∙ not-true _ (c .if1 .taken) in
     sym (lines-stop (s .args .bytes .now) (l .i) (s .args .n) (c .before .before .loop-test .taken) e)
 
@@ -42,8 +47,9 @@ loop-less c = search needs
 
 loop-again : tie.Need-loop-again Inv-loop μ-loop
 loop-again c =
-    let s = c .before .before .before .before .before in
-    let l = c .before .before .before .loop in
+    let t = c .before .before in
+    let s = start t in
+    let l = t .before .loop in
     let e = sym (c .before .line-ok .ensures) ∙ not-false _ (c .if1 .left) in
     (omega arith, lines-go (s .args .bytes .now) (l .i) (l .inv .1) e)
 

@@ -15,6 +15,16 @@ use borrow.Author.Needs.{needs}
 use Rattle.sheet.proofs.read.Statement.{statement}
 use Rattle.sheet.proofs.read.Tie as tie
 
+-- the places of the code past each check that passed, from the places past later ones
+abbrev after-length : tie.After-number → tie.Else1
+after-length c = c .before .before .before
+
+abbrev after-count : tie.After-lines-ok → tie.Else3
+after-count c = c .before .before
+
+abbrev read-count : tie.After-lines-ok → tie.After-number
+read-count c = after-count c .before .before
+
 -- the sheet, past each check that passed
 abbrev sheet1 : tie.Else1 → List ℕ
 sheet1 c = c .before .before .args .bytes .now
@@ -54,7 +64,7 @@ sized c = c .if4 .left ∙ ap (λ (n : ℕ). 25 + 33 * n) (stated (c .before .be
 
 lined : (c : tie.Else5) → linesOk (sheet5 c) (numberAt (sheet5 c) 0 1) ≡ true
 lined c =
-    ap (linesOk (sheet5 c)) (sym (stated (c .before .before .before .before .before))) ∙ sym (c .before .lines-ok .ensures) ∙ not-false _ (c .if5 .left)
+    ap (linesOk (sheet5 c)) (sym (stated (read-count (c .before)))) ∙ sym (c .before .lines-ok .ensures) ∙ not-false _ (c .if5 .left)
 
 refused-requires : tie.Need-refused-requires
 refused-requires c κs = search needs
@@ -85,8 +95,9 @@ refused-requires-3 c κs = search needs
 returns-3 : tie.Need-returns-3
 unfolding readOf checkSheet
 returns-3 c =
-    let none = ap countOk (sym (stated (c .before .before .before))) ∙ sym (c .before .before .count-ok .ensures) ∙ not-true _ (c .before .if3 .taken) in
-    rw (long (c .before .before .before .before .before .before), headed (c .before .before .before .before), none) (c .refused3 .ensures)
+    let n = c .before .before .before in
+    let none = ap countOk (sym (stated n)) ∙ sym (c .before .before .count-ok .ensures) ∙ not-true _ (c .before .if3 .taken) in
+    rw (long (after-length n), headed (n .before), none) (c .refused3 .ensures)
 
 cast-rows : tie.Need-cast-rows
 cast-rows c = search needs
@@ -103,8 +114,9 @@ refused-requires-4 c κs = search needs
 returns-4 : tie.Need-returns-4
 unfolding readOf checkSheet
 returns-4 c =
-    let other = ne-eqb _ _ (λ e. c .before .if4 .taken (e ∙ ap (λ (n : ℕ). 25 + 33 * n) (sym (stated (c .before .before .before .before))))) in
-    rw (long (c .before .before .before .before .before .before .before), headed (c .before .before .before .before .before), counted (c .before .before), other) (c .refused4 .ensures)
+    let n = c .before .before .before .before in
+    let other = ne-eqb _ _ (λ e. c .before .if4 .taken (e ∙ ap (λ (n : ℕ). 25 + 33 * n) (sym (stated n)))) in
+    rw (long (after-length n), headed (n .before), counted (c .before .before), other) (c .refused4 .ensures)
 
 lines-ok-requires : tie.Need-lines-ok-requires
 lines-ok-requires c κs = (few (c .before), c .if4 .left)
@@ -115,14 +127,20 @@ refused-requires-5 c κs = search needs
 returns-5 : tie.Need-returns-5
 unfolding readOf checkSheet
 returns-5 c =
-    let bad = ap (linesOk (sheet4 (c .before .before .before))) (sym (stated (c .before .before .before .before .before .before))) ∙ sym (c .before .before .lines-ok .ensures) ∙ not-true _ (c .before .if5 .taken) in
-    rw (long (c .before .before .before .before .before .before .before .before .before), headed (c .before .before .before .before .before .before .before), counted (c .before .before .before .before), eq-eqb _ _ (sized (c .before .before .before)), bad) (c .refused5 .ensures)
+    let l = c .before .before in
+    let n = read-count l in
+    let bad = ap (linesOk (sheet4 (l .before))) (sym (stated n)) ∙ sym (l .lines-ok .ensures) ∙ not-true _ (c .before .if5 .taken) in
+    rw (long (after-length n), headed (n .before), counted (after-count l), eq-eqb _ _ (sized (l .before)), bad) (c .refused5 .ensures)
 
 table-in-requires : tie.Need-table-in-requires
 table-in-requires c κs = (
-  record { few = few (c .before .before .before); long = c .before .before .if4 .left; lines = sym (c .before .lines-ok .ensures) ∙ not-false _ (c .if5 .left) },
-  headed (c .before .before .before .before .before .before),
-  stated (c .before .before .before .before .before),
+  record {
+    few = few (after-count (c .before));
+    long = c .before .before .if4 .left;
+    lines = sym (c .before .lines-ok .ensures) ∙ not-false _ (c .if5 .left);
+  },
+  headed (read-count (c .before) .before),
+  stated (read-count (c .before)),
 )
 
 check-table-requires : tie.Need-check-table-requires
@@ -134,12 +152,15 @@ answer-requires c κs = search needs
 returns-6 : tie.Need-returns-6
 unfolding readOf checkSheet
 returns-6 c =
+    let lines = c .before .before .before in
+    let l = lines .before in
+    let n = read-count l in
     rw (
-      long (c .before .before .before .before .before .before .before .before .before .before .before),
-      headed (c .before .before .before .before .before .before .before .before .before),
-      counted (c .before .before .before .before .before .before),
-      eq-eqb _ _ (sized (c .before .before .before .before .before)),
-      lined (c .before .before .before),
+      long (after-length n),
+      headed (n .before),
+      counted (after-count l),
+      eq-eqb _ _ (sized (l .before)),
+      lined lines,
       ← c .before .before .table-in .ensures,
       ← c .before .check-table .ensures,
     )

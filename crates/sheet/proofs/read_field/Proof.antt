@@ -17,6 +17,13 @@ Inv-loop bytes start value₀ i₀ value i = (i ≤ 8) × (value ≤ 90000000 * 
 abbrev μ-loop : tie.MeasureT-loop
 μ-loop bytes start value₀ i₀ value i = 8 - i
 
+-- the turn that a byte was looked at in, and the start
+abbrev turn-of : tie.After-stands Inv-loop μ-loop → tie.In-loop Inv-loop μ-loop
+turn-of c = c .before .before
+
+abbrev start : tie.In-loop Inv-loop μ-loop → tie.Start Inv-loop μ-loop
+start t = t .before .before .before
+
 loop-holds : tie.Need-loop-holds Inv-loop μ-loop
 loop-holds c = (search needs, search needs, byte-start (c .before .args .bytes .now) (c .before .args .start) (c .before .pre))
 
@@ -37,10 +44,11 @@ stands-requires c κs = search needs
 
 returns : tie.Need-returns Inv-loop μ-loop
 returns c =
-    let s = c .before .before .before .before .before .before in
-    let l = c .before .before .before .before .loop in
+    let t = turn-of (c .before) in
+    let s = start t in
+    let l = t .before .loop in
     let e = sym (c .before .stands .ensures) ∙ not-true _ (c .if1 .taken) in
-    sym (byte-stop (s .args .bytes .now) (s .args .start) (l .i) (l .value) (s .pre) (c .before .before .before .loop-test .taken) e) ∙ l .inv .2
+    sym (byte-stop (s .args .bytes .now) (s .args .start) (l .i) (l .value) (s .pre) (t .loop-test .taken) e) ∙ l .inv .2
 
 mul-value : tie.Need-mul-value Inv-loop μ-loop
 mul-value c = search needs
@@ -52,10 +60,11 @@ digit-requires : tie.Need-digit-requires Inv-loop μ-loop
 digit-requires c κs = search needs
 
 -- what the byte adds
-added : (c : tie.After-digit Inv-loop μ-loop) → getD weights (c .before .before .before .before .before .loop .i) 0 * c .digit .result ≤ 90000000
+added : (c : tie.After-digit Inv-loop μ-loop) → getD weights (turn-of (c .before .before) .before .loop .i) 0 * c .digit .result ≤ 90000000
 added c =
-    let s = c .before .before .before .before .before .before .before in
-    let l = c .before .before .before .before .before .loop in
+    let t = turn-of (c .before .before) in
+    let s = start t in
+    let l = t .before .loop in
     rw (c .digit .ensures .0) (adds-le (l .i) (getD (s .args .bytes .now) (s .args .start + l .i) 0))
 
 mul-value-2 : tie.Need-mul-value-2 Inv-loop μ-loop
@@ -72,13 +81,14 @@ loop-less c = search needs
 
 loop-again : tie.Need-loop-again Inv-loop μ-loop
 loop-again c =
-    let s = c .before .before .before .before .before .before .before in
-    let l = c .before .before .before .before .before .loop in
+    let t = turn-of (c .before .before) in
+    let s = start t in
+    let l = t .before .loop in
     let e = sym (c .before .before .stands .ensures) ∙ not-false _ (c .before .if1 .left) in (
       omega arith,
       omega (arith, added c),
       rw (c .digit .ensures .0)
-          (sym (byte-go (s .args .bytes .now) (s .args .start) (l .i) (l .value) (s .pre) (c .before .before .before .before .loop-test .taken) e) ∙ l .inv .2),
+          (sym (byte-go (s .args .bytes .now) (s .args .start) (l .i) (l .value) (s .pre) (t .loop-test .taken) e) ∙ l .inv .2),
     )
 
 returns-2 : tie.Need-returns-2 Inv-loop μ-loop

@@ -10,7 +10,8 @@ number-requires : tie.Need-number-requires
 number-requires c κs = (omega (arith, c .before .pre .0 .long), line-field (c .before .args .bytes .now) 0 1 3 (c .before .pre .1) (omega arith))
 
 number-requires-2 : tie.Need-number-requires-2
-number-requires-2 c κs = (omega (arith, c .before .before .pre .0 .long), line-field (c .before .before .args .bytes .now) 0 2 3 (c .before .before .pre .1) (omega arith))
+number-requires-2 c κs =
+    (omega (arith, c .before .before .pre .0 .long), line-field (c .before .before .args .bytes .now) 0 2 3 (c .before .before .pre .1) (omega arith))
 
 column-requires : tie.Need-column-requires
 column-requires c κs = search needs

@@ -1,15 +1,20 @@
 -- The reader's check says which text is due.
 use Prim.Native.Nat.{ℕ}
 use borrow.Author.Needs.{needs}
+use native.Mathlib.Omega.{arith}
 use mathlib.Core.List.{[], _∷_}
-use mathlib.Core.Path.{ap, _∙_}
-use lib.ListN.{take}
+use mathlib.Core.Path.{_≡_, ap, _∙_}
+use lib.ListN.{length, take}
 use Rattle.rules.specs.declared.Check.the-variants.{Passed, Refused}
 use Rattle.rules.specs.Program.{line}
 use Rattle.text.specs.Wrote.{wrote-as}
 use Rattle.text.specs.Answers.{reading-accepted, reading-text, answered}
 use Rattle.text.proofs.program.Statement.{statement}
 use Rattle.text.proofs.program.Tie as tie
+
+-- the place where the sheet is read, from where it is known to be accepted
+abbrev accepted-sheet : tie.After-enum-told → tie.After-read-kept
+accepted-sheet c = c .before .before .before
 
 read-kept-requires : tie.Need-read-kept-requires
 read-kept-requires c κs = search needs
@@ -20,9 +25,10 @@ enum-told c = search needs
 put-plan-requires : tie.Need-put-plan-requires
 put-plan-requires c κs =
     let e = c .before in
-    let r = e .before .before .before in
-    let s = r .before .before .before in
-    (reading-accepted (take 2138 (s .args .input .now)) (r .read-kept .result) (r .read-kept .ensures) (e .enum-told .given .1), s .pre)
+    let r = accepted-sheet e in
+    let s = r .before .before in
+    let l : length (s .args .out .now) ≡ 1617 = search needs in
+    (reading-accepted (take 2138 (s .args .input .now)) (r .read-kept .result) (r .read-kept .ensures) (e .enum-told .given .1), omega arith)
 
 enum-known-check : tie.Need-enum-known-check
 enum-known-check c = search needs
@@ -33,33 +39,25 @@ refusal-number-requires c κs = search needs
 put-pair-requires : tie.Need-put-pair-requires
 put-pair-requires c κs = search needs
 
-same-length : tie.Need-same-length
-same-length c = search needs
-
 returns : tie.Need-returns
 returns c =
-    let g = c .before .before in
-    let e = g .before .before in
-    let r = e .before .before .before in
-    let s = r .before .before .before in
+    let e = c .before .before in
+    let r = accepted-sheet e in
+    let s = r .before .before in
     answered (s .args .input .now) _ _ _
-    (wrote-as (reading-text (s .args .input .now) (r .read-kept .result) Passed (r .read-kept .ensures) (e .enum-told .given .1)) (g .put-plan .ensures))
-
-same-length-2 : tie.Need-same-length-2
-same-length-2 c = search needs
+    (wrote-as (reading-text (s .args .input .now) (r .read-kept .result) Passed (r .read-kept .ensures) (e .enum-told .given .1)) (c .put-plan .ensures))
 
 returns-2 : tie.Need-returns-2
 returns-2 c =
-    let g = c .before .before in
-    let h = g .before in
+    let h = c .before in
     let e = h .before .before .before in
     let r = e .before .before .before in
-    let s = r .before .before .before in
+    let s = r .before .before in
     answered (s .args .input .now) _ _ _
     (wrote-as
     (ap (λ (n : ℕ). line (n ∷ 0 ∷ [])) (h .refusal-number .ensures)
     ∙ reading-text (s .args .input .now) (r .read-kept .result) (Refused (e .check .given .0 .0)) (r .read-kept .ensures) (e .check .given .1))
-    (g .put-pair .ensures))
+    (c .put-pair .ensures))
 
 pub program-spec : {M : Type 1} → statement M
 program-spec =
@@ -71,7 +69,5 @@ program-spec =
     enum-known-check
     refusal-number-requires
     put-pair-requires
-    same-length
     returns
-    same-length-2
     returns-2)

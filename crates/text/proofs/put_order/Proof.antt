@@ -7,6 +7,10 @@ use Rattle.text.specs.Slacks.{few, both-pass}
 use Rattle.text.proofs.put_order.Statement.{statement}
 use Rattle.text.proofs.put_order.Tie as tie
 
+-- the place where the first line is put, from where the places are about to be
+abbrev first-put : tie.After-put-places-arg → tie.After-put-pair
+first-put c = c .before .before .before
+
 worst-finishes-requires : tie.Need-worst-finishes-requires
 worst-finishes-requires c κs = let s = c .before in both-pass (s .args .t) (s .args .order) (s .pre .0)
 
@@ -16,7 +20,7 @@ put-pair-requires c κs = search needs
 put-places-requires : tie.Need-put-places-requires
 unfolding written
 put-places-requires c κs =
-    let f = c .before .before .before .before .before in
+    let f = first-put c .before .before in
     let s = f .before .before in
     (record { right = s .pre .0; worst = f .worst-finishes .ensures }, omega (arith, few (s .args .t) (s .args .order) (s .pre .0)))
 
@@ -26,7 +30,7 @@ same-length c = search needs
 returns : tie.Need-returns
 returns c =
     let g = c .before .before in
-    wrote-then (g .before .before .before .before .put-pair .ensures) (g .put-places .ensures)
+    wrote-then (first-put (g .before) .put-pair .ensures) (g .put-places .ensures)
 
 pub put-order-spec : {M : Type 1} → statement M
 put-order-spec =

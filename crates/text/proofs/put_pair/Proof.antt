@@ -6,14 +6,26 @@ use Rattle.text.specs.Lines.{field-long}
 use Rattle.text.proofs.put_pair.Statement.{statement}
 use Rattle.text.proofs.put_pair.Tie as tie
 
+-- the places of the code, each from a later one: the first field is put, the second is
+abbrev start : tie.After-put-field → tie.Start
+start c = c .before .before .before
+
+abbrev first-put : tie.After-put-field-arg2 → tie.After-put-field
+first-put c = c .before .before .before
+
+abbrev second-put : tie.After-put-byte-arg → tie.After-put-field2
+second-put c = c .before .before .before
+
 put-field-requires : tie.Need-put-field-requires
 put-field-requires c κs = search needs
 
 put-field-requires-2 : tie.Need-put-field-requires-2
-put-field-requires-2 c κs = omega (arith, field-long (c .before .before .before .before .before .before .args .first))
+put-field-requires-2 c κs = omega (arith, field-long (start (first-put c) .args .first))
 
 put-byte-requires : tie.Need-put-byte-requires
-put-byte-requires c κs = let s = c .before .before .before .before .before .before .before .before .before .before in omega (arith, field-long (s .args .first), field-long (s .args .second))
+put-byte-requires c κs =
+    let s = start (first-put (second-put c .before)) in
+    omega (arith, field-long (s .args .first), field-long (s .args .second))
 
 same-length : tie.Need-same-length
 same-length c = search needs
@@ -21,8 +33,8 @@ same-length c = search needs
 returns : tie.Need-returns
 returns c =
     let e = c .before .before in
-    let g = e .before .before .before .before in
-    let f = g .before .before .before .before in
+    let g = second-put (e .before) in
+    let f = first-put (g .before) in
     wrote-then (f .put-field .ensures) (wrote-then (g .put-field2 .ensures) (e .put-byte .ensures))
 
 pub put-pair-spec : {M : Type 1} → statement M

@@ -11,6 +11,16 @@ use Rattle.text.specs.Answers.{planning-text}
 use Rattle.text.proofs.put_plan.Statement.{statement}
 use Rattle.text.proofs.put_plan.Tie as tie
 
+-- the place where the plan is made, from each of its three answers
+abbrev ordered-plan : tie.After-enum-told → tie.After-plan
+ordered-plan c = c .before .before .before
+
+abbrev stuck-plan : tie.After-answer → tie.After-plan
+stuck-plan c = c .before .before .before
+
+abbrev refused-plan : tie.After-answer2 → tie.After-plan
+refused-plan c = c .before .before .before
+
 plan-requires : tie.Need-plan-requires
 plan-requires c κs = search needs
 
@@ -20,7 +30,7 @@ enum-told c = search needs
 put-order-requires : tie.Need-put-order-requires
 put-order-requires c κs =
     let e = c .before in
-    let p = e .before .before .before in
+    let p = ordered-plan e in
     let s = p .before .before in
     (ordered-right (s .args .t) (p .plan .result) (s .pre .0) (p .plan .ensures) (e .enum-told .given .1), s .pre .1)
 
@@ -49,7 +59,7 @@ returns : tie.Need-returns
 returns c =
     let g = c .before .before in
     let e = g .before .before in
-    let p = e .before .before .before in
+    let p = ordered-plan e in
     wrote-as (planning-text (p .before .before .args .t) (p .plan .result) Ordered (p .plan .ensures .answer) (e .enum-told .given .1)) (g .put-order .ensures)
 
 same-length-2 : tie.Need-same-length-2
@@ -60,7 +70,7 @@ returns-2 c =
     let g = c .before .before in
     let h = g .before in
     let a = h .before .before .before in
-    let p = a .before .before .before in
+    let p = stuck-plan a in
     wrote-as
     (ap (λ (n : ℕ). line (7 ∷ n ∷ [])) (h .how-many .ensures)
     ∙ planning-text (p .before .before .args .t) (p .plan .result) (NoOrder (a .answer .given .0 .0)) (p .plan .ensures .answer) (a .answer .given .1))
@@ -74,7 +84,7 @@ returns-3 c =
     let g = c .before .before in
     let h = g .before in
     let a = h .before .before .before in
-    let p = a .before .before .before in
+    let p = refused-plan a in
     wrote-as
     (ap (λ (n : ℕ). line (n ∷ 0 ∷ [])) (h .refusal-number .ensures)
     ∙ planning-text (p .before .before .args .t) (p .plan .result) (Refused (a .answer2 .given .0 .0)) (p .plan .ensures .answer) (a .answer2 .given .1))

@@ -6,11 +6,15 @@ use Rattle.text.specs.Lines.{field-long}
 use Rattle.text.proofs.put_triple.Statement.{statement}
 use Rattle.text.proofs.put_triple.Tie as tie
 
+-- the place where the first field is put, from where the pair is about to be
+abbrev first-put : tie.After-put-pair-arg → tie.After-put-field
+first-put c = c .before .before .before
+
 put-field-requires : tie.Need-put-field-requires
 put-field-requires c κs = search needs
 
 put-pair-requires : tie.Need-put-pair-requires
-put-pair-requires c κs = omega (arith, field-long (c .before .before .before .before .before .before .args .first))
+put-pair-requires c κs = omega (arith, field-long (first-put c .before .before .before .args .first))
 
 same-length : tie.Need-same-length
 same-length c = search needs
@@ -18,7 +22,7 @@ same-length c = search needs
 returns : tie.Need-returns
 returns c =
     let g = c .before .before in
-    wrote-then (g .before .before .before .before .put-field .ensures) (g .put-pair .ensures)
+    wrote-then (first-put (g .before) .put-field .ensures) (g .put-pair .ensures)
 
 pub put-triple-spec : {M : Type 1} → statement M
 put-triple-spec =

@@ -9,6 +9,10 @@ use Rattle.record.specs.Sound.{order-placed}
 use Rattle.record.proofs.Run.coming.Statement.{statement}
 use Rattle.record.proofs.Run.coming.Tie as tie
 
+-- the place past both refusals, from where the row is chosen
+abbrev not-refused : tie.After-chosen-row-arg3 → tie.Else2
+not-refused c = c .before .before .before .before
+
 is-sound-requires : tie.Need-is-sound-requires
 is-sound-requires c κs = search needs
 
@@ -24,13 +28,13 @@ returns-2 c =
 
 chosen-row-requires : tie.Need-chosen-row-requires
 chosen-row-requires c κs =
-    let b = c .before .before .before .before .before in
+    let b = not-refused c .before in
     order-placed _ (sym (b .before .is-sound .ensures) ∙ not-false _ (b .if1 .left))
 
 returns-3 : tie.Need-returns-3
 unfolding comingSlot chosenRow chosen isReady
 returns-3 c =
-    let d = c .before .before .before .before .before in
+    let d = not-refused (c .before) in
     let b = d .before in
     simp (sym (b .before .is-sound .ensures) ∙ not-false _ (b .if1 .left), lt-ltb _ _ (d .if2 .left)) (ap Worked (c .chosen-row .ensures))
 

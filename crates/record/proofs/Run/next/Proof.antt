@@ -12,6 +12,16 @@ use Rattle.record.specs.Stepping.{next-idle, next-served}
 use Rattle.record.proofs.Run.next.Statement.{statement}
 use Rattle.record.proofs.Run.next.Tie as tie
 
+-- the places of the branch that serves a row, each from a later one: the row is known, its work is read, its level is read
+abbrev row-known : tie.After-entry → tie.Else1
+row-known c = c .before .before .before
+
+abbrev work-read : tie.After-entry2 → tie.After-entry
+work-read c = c .before .before .before
+
+abbrev level-read : tie.After-closing-slot → tie.After-entry2
+level-read c = c .before .before .before .before
+
 chosen-row-requires : tie.Need-chosen-row-requires
 chosen-row-requires c κs = let s = c .before .before .before .before in order-placed (s .args .t1) (s .pre .0)
 
@@ -45,29 +55,29 @@ entry-requires : tie.Need-entry-requires
 entry-requires c κs = let f = row-facts (c .before .before) in omega arith
 
 entry-requires-2 : tie.Need-entry-requires-2
-entry-requires-2 c κs = let f = row-facts (c .before .before .before .before .before) in omega arith
+entry-requires-2 c κs = let f = row-facts (row-known (c .before .before)) in omega arith
 
 mul-grown : tie.Need-mul-grown
 mul-grown c = search needs
 
 element-copy-out-grown : tie.Need-element-copy-out-grown
-element-copy-out-grown c = let f = row-facts (c .before .before .before .before .before .before) in omega arith
+element-copy-out-grown c = let f = row-facts (row-known (work-read c)) in omega arith
 
 grown-requires : tie.Need-grown-requires
 grown-requires c κs =
-    let b = c .before .before .before .before in
-    let f = row-facts (b .before .before .before) in
+    let b = work-read (c .before) in
+    let f = row-facts (row-known b) in
     omega (arith, b .entry .ensures)
 
 mul-used : tie.Need-mul-used
 mul-used c = search needs
 
 element-copy-out-used : tie.Need-element-copy-out-used
-element-copy-out-used c = let f = row-facts (c .before .before .before .before .before .before .before .before) in omega arith
+element-copy-out-used c = let f = row-facts (row-known (work-read (c .before .before))) in omega arith
 
 add-used : tie.Need-add-used
 add-used c =
-    let a = c .before .before .before .before .before .before .before .before .before in
+    let a = row-known (work-read (c .before .before .before)) in
     let f = row-facts a in
     omega (arith, start (a .before) .pre .1)
 
@@ -76,7 +86,7 @@ closing-slot-requires c κs = search needs
 
 -- the place after which the row's entries are stored, and the row's index there
 abbrev chosen-at : tie.After-closing-slot → tie.Else1
-chosen-at c = c .before .before .before .before .before .before .before .before .before .before
+chosen-at c = row-known (work-read (level-read c))
 
 inside : (c : tie.After-closing-slot) → chosen-at c .before .chosen-row .result - 1 < 64
 inside c = let f = row-facts (chosen-at c) in omega arith
@@ -103,7 +113,12 @@ returns-2 : tie.Need-returns-2
 returns-2 c =
     let a = chosen-at c in
     let x = start (a .before) .args in
-    rw (c .closing-slot .ensures, c .before .before .grown .ensures, c .before .before .before .before .entry2 .ensures, c .before .before .before .before .before .before .before .entry .ensures)
+    rw (
+      c .closing-slot .ensures,
+      c .before .before .grown .ensures,
+      c .before .before .before .before .entry2 .ensures,
+      c .before .before .before .before .before .before .before .entry .ensures,
+    )
     (sym (next-served (x .t1) (x .supply) (a .before .chosen-row .result) (is-chosen (a .before)) (a .if1 .left)))
 
 pub next-spec : {M : Type 1} → statement M

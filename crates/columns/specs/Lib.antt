@@ -1,0 +1,4 @@
+pub mod AllRows
+pub mod Figures
+pub mod Places
+pub mod Entries

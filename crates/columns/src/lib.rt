@@ -1,0 +1,159 @@
+// What check 9 asks of plain columns (rules 8.6, 8.7) and what a slot does to them (section 2 of the rules), one entry for each row, below
+// the type of the run record. Row i is at index i - 1. Releases, clocks, slots used and closing slots are in slots; work and
+// supplies are in work units, speeds in work units per slot.
+ghost use mathlib.Core.Path.{_≡_};
+ghost use mathlib.Core.Bool.{cond, _&&_};
+ghost use Prim.Native.Nat.{_+_, _≤_, _<_, min};
+ghost use lib.Dec.{eqb, leb};
+ghost use lib.ListN.{getD};
+ghost use Rattle.rules.specs.Lists.{rowsTo, all, first};
+ghost use Rattle.columns.specs.Figures.{over, soundAt, rowSoundAt, readyAt};
+ghost use Rattle.columns.specs.Places.{Placed};
+
+// Whether a row of this work (work units) and level, at speed N (work units per slot), is over: done, having got its work (rule 2.6), or
+// LO with its allowance used up, in slots (rules 1.9, 2.7).
+fn is_over(work: u32, level: u32, normal: u32, got: u32, used: u32) -> bool
+    ensures { λ b. ⌜ b ≡ over work level normal got used ⌝ }
+{
+    if got == work {
+        return true;
+    }
+    if level == 0 {
+        checks::need(work, normal) <= used
+    } else {
+        false
+    }
+}
+
+// The closing slot of a row that ran up to the clock: the clock if it is over now, 0 while it is open (rule 2.10).
+pub fn closing_slot(work: u32, level: u32, normal: u32, got: u32, used: u32, clock: u32) -> u32
+    ensures { λ k. ⌜ k ≡ cond (over work level normal got used) clock 0 ⌝ }
+{
+    if is_over(work, level, normal, got, used) {
+        clock
+    } else {
+        0
+    }
+}
+
+// Whether the figures of one row are sound at the clock (rules 8.6, 8.7).
+fn row_sound(
+    work: u32,
+    level: u32,
+    normal: u32,
+    clock: u32,
+    got: u32,
+    used: u32,
+    closing: u32,
+) -> bool
+    ensures { λ b. ⌜ b ≡ soundAt work level normal clock got used closing ⌝ }
+{
+    if work < got {
+        return false;
+    }
+    if clock < used {
+        return false;
+    }
+    if clock < closing {
+        return false;
+    }
+    let over = is_over(work, level, normal, got, used);
+    if closing == 0 { !over } else { over }
+}
+
+// Whether the figures of the first n rows are sound at the clock (rules 8.6, 8.7).
+pub fn rows_sound<'a>(
+    n: u32,
+    normal: u32,
+    clock: u32,
+    work: &'a [u32; 64],
+    level: &'a [u32; 64],
+    got: &'a [u32; 64],
+    used: &'a [u32; 64],
+    closing: &'a [u32; 64],
+) -> bool
+    requires { ⌜ n ≤ 64 ⌝ }
+    ensures { λ b. ⌜ b ≡ all (rowSoundAt normal clock (now (work .entry)) (now (level .entry)) (now (got .entry)) (now (used .entry))
+        (now (closing .entry))) (rowsTo n) ⌝ }
+{
+    let mut i: u32 = 0;
+    while i < n {
+        let k = i as usize;
+        if !row_sound(
+            work[k],
+            level[k],
+            normal,
+            clock,
+            got[k],
+            used[k],
+            closing[k],
+        ) {
+            return false;
+        }
+        i = i + 1;
+    }
+    true
+}
+
+// Whether a row with this release and closing slot is ready: released at the clock, and open (rule 2.2).
+fn is_ready(release: u32, closing: u32, clock: u32) -> bool
+    ensures { λ b. ⌜ b ≡ (leb release clock && eqb closing 0) ⌝ }
+{
+    if release <= clock {
+        closing == 0
+    } else {
+        false
+    }
+}
+
+// The row at place k of the order, counted from 0.
+fn place(order: &[u8; 64], k: usize) -> u8
+    requires { ⌜ k < 64 ⌝ }
+    ensures { λ row. ⌜ row ≡ getD (now (order .entry)) k 0 ⌝ }
+{
+    order[k]
+}
+
+// The row that the slot at the clock runs: the highest in the order that is ready, 0 if none is (rule 2.3). The first n places
+// hold rows from 1 to n, n is at most 64, and zeros stand after them.
+pub fn chosen_row<'a>(
+    n: u32,
+    clock: u32,
+    order: &'a [u8; 64],
+    release: &'a [u32; 64],
+    closing: &'a [u32; 64],
+) -> u8
+    requires { ⌜ Placed n (now order) ⌝ }
+    ensures { λ row. ⌜ row ≡ first (readyAt n clock (now (release .entry)) (now (closing .entry))) (now (order .entry)) ⌝ }
+{
+    let mut k: u32 = 0;
+    while k < n {
+        let row = place(order, k as usize);
+        let i = row as usize - 1;
+        if is_ready(release[i], closing[i], clock) {
+            return row;
+        }
+        k = k + 1;
+    }
+    0
+}
+
+// The column's entry at index i.
+pub fn entry(column: &[u32; 64], i: usize) -> u32
+    requires { ⌜ i < 64 ⌝ }
+    ensures { λ x. ⌜ x ≡ getD (now (column .entry)) i 0 ⌝ }
+{
+    column[i]
+}
+
+// The work units that a row has after a slot of this supply: to its work at most (rule 2.5).
+pub fn grown(got: u32, supply: u32, work: u32) -> u32
+    requires { ⌜ got ≤ work ⌝ }
+    ensures { λ g. ⌜ g ≡ min work (got + supply) ⌝ }
+{
+    if supply < work - got {
+        got + supply
+    } else {
+        work
+    }
+}

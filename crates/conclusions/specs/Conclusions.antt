@@ -1,0 +1,275 @@
+-- What each caller may rely on, in plain terms and down to the words that the exported functions are lent. One section for each caller.
+-- A table's words are n, N, G and then release, work, deadline and level of row 1 to 64; a state's words are the clock and then three figures
+-- of row 1 to 64: its work got, its slots used, its closing slot. Times are in slots, work and supplies in work units, speeds in work units per slot.
+use Prim.Native.Nat.{ℕ, _+_, _-_, _*_, _≤_, _<_, min}
+use mathlib.Core.Bool.{true, false}
+use mathlib.Core.Logic.{_⊎_}
+use mathlib.Core.Path.{_≡_}
+use mathlib.Core.List.{List, [], _∷_}
+use lib.IntN.{ℤ, pos, _-ℤ_}
+use lib.ListN.{length, getD, take, drop, replicate}
+use lib.Signed.{ltZ}
+use Rattle.rules.specs.declared.Table.{Table}
+use Rattle.rules.specs.Calls.{Call, one, forward, Said, tellAll, supplyAt}
+use Rattle.rules.specs.Choice.{choice, padded, word}
+use Rattle.rules.specs.Lists.{count}
+use Rattle.rules.specs.Meaning.{Serves}
+use Rattle.rules.specs.Need.{need}
+use Rattle.rules.specs.Orders.{isOrder}
+use Rattle.rules.specs.Program.{programText}
+use Rattle.rules.specs.Rows.{at}
+use Rattle.rules.specs.Sheets.{isLine, numberAt}
+use Rattle.rules.specs.Slots.{fresh, after}
+use Rattle.rules.specs.Tables.{Accepted}
+use Rattle.rules.specs.Worst.{horizon, worstSpeed}
+use Rattle.record.specs.Answers.{slotSaid, forwardSaid}
+use Rattle.record.specs.Records.{isSound, freshRun, oneSlot, forwardOver}
+use Rattle.jasminebrace.specs.Words.{tableIn, runIn, stateWords}
+use Rattle.conclusions.specs.declared.Begun.{Begun}
+use Rattle.conclusions.specs.declared.Drawing.{Drawing}
+use Rattle.conclusions.specs.declared.Forwards.{Forwards}
+use Rattle.conclusions.specs.declared.Opinion.{Opinion}
+use Rattle.conclusions.specs.declared.Slots.{Slots}
+
+-- ---- The table author: a sheet that is taken states its table (rules 6.5 to 6.8), and a refusal means what it says (rules 10.1 to 10.5).
+
+-- the j-th figure of row i's line (rule 6.6)
+abbrev pub figureAt : List ℕ → ℕ → ℕ → ℕ
+figureAt sheet i j = numberAt sheet (25 + 33 * (i - 1)) j
+
+-- a row's release, work, deadline and level are within their limits (rule 5.3)
+pub record RowWithin (a c d level : ℕ) : Type 0 where
+  pub some : 1 ≤ c
+  pub most : c ≤ 1000000
+  pub latest : d ≤ 1000000
+  pub before : a < d
+  pub low-or-high : level ≤ 1
+
+-- row i's figures are those of the four fields of its line (rule 6.6), and within their limits (rule 5.3)
+pub record RowTaken (sheet table : List ℕ) (i : ℕ) : Type 0 where
+  pub release : getD table (2 + i) 0 ≡ figureAt sheet i 1
+  pub work : getD table (66 + i) 0 ≡ figureAt sheet i 2
+  pub deadline : getD table (130 + i) 0 ≡ figureAt sheet i 3
+  pub level : getD table (194 + i) 0 ≡ figureAt sheet i 4
+  pub formed : isLine sheet (25 + 33 * (i - 1)) 4 ≡ true
+  pub within : RowWithin (getD table (2 + i) 0) (getD table (66 + i) 0) (getD table (130 + i) 0) (getD table (194 + i) 0)
+
+-- row i's figures in the sheet are within their limits (rule 5.3)
+abbrev pub RowFits : List ℕ → ℕ → Type 0
+RowFits sheet i = RowWithin (figureAt sheet i 1) (figureAt sheet i 2) (figureAt sheet i 3) (figureAt sheet i 4)
+
+-- the sheet has the length of its row count (rule 6.7), its first line (rule 6.5) is well formed, and the table is within its limits (rules 5.1 to 5.3)
+pub record Taken (sheet table : List ℕ) : Type 0 where
+  pub some : 1 ≤ getD table 0 0
+  pub few : getD table 0 0 ≤ 64
+  pub length : length sheet ≡ 25 + 33 * getD table 0 0
+  pub formed : isLine sheet 0 3 ≡ true
+  pub count : getD table 0 0 ≡ numberAt sheet 0 1
+  pub normal : getD table 1 0 ≡ numberAt sheet 0 2
+  pub degraded : getD table 2 0 ≡ numberAt sheet 0 3
+  pub runs : 1 ≤ getD table 2 0
+  pub slower : getD table 2 0 ≤ getD table 1 0
+  pub most : getD table 1 0 ≤ 1000
+  pub row : (i : ℕ) → 1 ≤ i → i ≤ getD table 0 0 → RowTaken sheet table i
+  -- the table is accepted as it stands in the words, with nothing after its last row
+  pub accepted : Accepted (tableIn table)
+
+-- with 0 the sheet is taken, with any other number the table is that of zeros (rule 6.8)
+pub record TableAuthor (sheet : List ℕ) (number : ℕ) (table : List ℕ) : Type 0 where
+  pub taken : number ≡ 0 → Taken sheet table
+  pub refused : (number ≡ 0 → ⊥) → table ≡ replicate 259 0
+  pub known : number ≤ 5
+  -- with 1 the length is wrong, with 3 the row count, with 4 a speed (rules 10.1, 10.3, 10.4)
+  pub one : number ≡ 1 → length sheet ≡ 25 + 33 * numberAt sheet 0 1 → 25 ≤ length sheet → ⊥
+  pub three : number ≡ 3 → 1 ≤ numberAt sheet 0 1 → numberAt sheet 0 1 ≤ 64 → ⊥
+  pub four : number ≡ 4 → 1 ≤ numberAt sheet 0 3 → numberAt sheet 0 3 ≤ numberAt sheet 0 2 → numberAt sheet 0 2 ≤ 1000 → ⊥
+  -- with 2 some line is not well formed (rule 10.2)
+  pub two : number ≡ 2 → isLine sheet 0 3 ≡ true → ((i : ℕ) → 1 ≤ i → i ≤ numberAt sheet 0 1 → isLine sheet (25 + 33 * (i - 1)) 4 ≡ true) → ⊥
+  -- with 5 some row is beyond its limits (rule 10.5)
+  pub five : number ≡ 5 → ((i : ℕ) → 1 ≤ i → i ≤ numberAt sheet 0 1 → RowFits sheet i) → ⊥
+
+-- What the planning program writes for an input stands at the start of the text, so many bytes, and zeros stand after it (rules 12.1 to 12.5).
+pub record Text (input : List ℕ) (size : ℕ) (text : List ℕ) : Type 0 where
+  pub long : size ≡ length (programText input)
+  pub begins : take size text ≡ programText input
+  pub ends : drop size text ≡ replicate (1617 - size) 0
+
+-- ---- The planner: the order serves under every course of speed, and 7 is said only if none does (rules 4.10, 9.9).
+
+pub record Planner (t : Table) (number : ℕ) (order : List ℕ) (left : ℕ) : Type 0 where
+  -- of an accepted table the answer is 0 or 7, and 0 exactly if some order serves (rule 4.10)
+  pub either : Accepted t → (number ≡ 0) ⊎ (number ≡ 7)
+  pub exists : Accepted t → (o : List ℕ) → isOrder t o ≡ true → Serves t o → number ≡ 0
+  pub accepted : (number ≡ 0) ⊎ (number ≡ 7) → Accepted t
+  -- with 0 the order is the one that the choice makes, passes check 6 and serves, and no row is left (rule 10.0)
+  pub made : number ≡ 0 → (order ≡ padded (choice t .placed)) × (isOrder t order ≡ true) × Serves t order × (left ≡ 0)
+  -- each row stands in it once, and zeros stand after them (rule 5.7)
+  pub each-once : number ≡ 0 → (i : ℕ) → 1 ≤ i → i ≤ t .n → count i order ≡ 1
+  pub zeros-after : number ≡ 0 → (k : ℕ) → t .n ≤ k → getD order k 0 ≡ 0
+  -- with 7 no order serves, the order is zeros, and the word is that of the rows which the choice leaves (rules 4.6, 10.7)
+  pub none : number ≡ 7
+      → ((o : List ℕ) → isOrder t o ≡ true → Serves t o → ⊥) × (order ≡ replicate 64 0) × (left ≡ word (choice t .left)) × (choice t .left ≡ [] → ⊥)
+  -- with any other number all is zero (rules 10.3 to 10.5)
+  pub refused : (number ≡ 0 → ⊥) → (number ≡ 7 → ⊥) → (order ≡ replicate 64 0) × (left ≡ 0)
+
+-- ---- The firmware writer: the row is known before the supply (rules 2.4, 8.15), and a slot changes just what it says (rules 8.9 to 8.14).
+
+-- A fresh record (rule 8.2): 0 exactly if the table is accepted and the order is one of its orders, and then the table's words and the order
+-- as they were handed in; a refusal leaves zeros in both. The state is zeros either way.
+pub record FreshRecord (table order : List ℕ) (said : Begun) : Type 0 where
+  pub passed : said .number ≡ 0 → Accepted (tableIn table) × (isOrder (tableIn table) order ≡ true)
+  pub passes : Accepted (tableIn table) → isOrder (tableIn table) order ≡ true → said .number ≡ 0
+  pub held : said .number ≡ 0 → (said .table ≡ table) × (said .order ≡ order)
+  pub refused : (said .number ≡ 0 → ⊥) → (said .table ≡ replicate 259 0) × (said .order ≡ replicate 64 0)
+  pub zeros : said .state ≡ replicate 193 0
+
+-- row i is released at the clock and open (rule 2.2)
+abbrev pub ReadyIn : List ℕ → List ℕ → ℕ → Type 0
+ReadyIn table state i = (1 ≤ i) × (i ≤ getD table 0 0) × (getD table (2 + i) 0 ≤ getD state 0 0) × (getD state (128 + i) 0 ≡ 0)
+
+-- row j has the same work got, the same slots used and the same closing slot in both states
+abbrev pub SameRow : List ℕ → List ℕ → ℕ → Type 0
+SameRow next state j =
+    (getD next j 0 ≡ getD state j 0) × (getD next (64 + j) 0 ≡ getD state (64 + j) 0) × (getD next (128 + j) 0 ≡ getD state (128 + j) 0)
+
+-- row i runs, because it is ready and no row of a higher place is (rule 2.3); its three figures follow rules 2.5 to 2.11, and no other row's change
+pub record RowRuns (table order state : List ℕ) (supply i : ℕ) (next : List ℕ) : Type 0 where
+  pub ready : ReadyIn table state i
+  pub place : ℕ
+  pub stands : getD order place 0 ≡ i
+  pub highest : (p : ℕ) → p < place → ReadyIn table state (getD order p 0) → ⊥
+  pub got : getD next i 0 ≡ min (getD table (66 + i) 0) (getD state i 0 + supply)
+  pub used : getD next (64 + i) 0 ≡ getD state (64 + i) 0 + 1
+  pub done : getD next i 0 ≡ getD table (66 + i) 0 → getD next (128 + i) 0 ≡ getD state 0 0 + 1
+  pub dropped : getD table (194 + i) 0 ≡ 0 → need (getD table (66 + i) 0) (getD table 1 0) ≤ getD next (64 + i) 0
+      → getD next (128 + i) 0 ≡ getD state 0 0 + 1
+  pub still-open : (getD next i 0 ≡ getD table (66 + i) 0 → ⊥)
+      → (getD table (194 + i) 0 ≡ 0 → getD next (64 + i) 0 < need (getD table (66 + i) 0) (getD table 1 0))
+      → getD next (128 + i) 0 ≡ 0
+  pub others : (j : ℕ) → 1 ≤ j → j ≤ 64 → (j ≡ i → ⊥) → SameRow next state j
+
+pub record FirmwareWriter (table order state : List ℕ) (supply : ℕ) (said : Slots) : Type 0 where
+  -- the coming slot was told as it came, whatever the supply (rule 8.15)
+  pub same-number : said .coming ≡ said .number
+  pub same-row : said .«coming_row» ≡ said .row
+  -- a refusal is 8 or 9, names no row and leaves the state (rules 8.13, 8.14)
+  pub refused : (said .number ≡ 0 → ⊥) → ((said .number ≡ 8) ⊎ (said .number ≡ 9)) × (said .row ≡ 0) × (said .next ≡ state)
+  pub eight : said .number ≡ 8 → getD state 0 0 ≡ 2000000
+  -- 9 is said of an unsound record, and of no other (check 9, rules 8.3 to 8.8)
+  pub nine : said .number ≡ 9 → isSound (runIn table order state) ≡ false
+  pub sound-early : isSound (runIn table order state) ≡ true → getD state 0 0 < 2000000 → said .number ≡ 0
+  pub sound-last : isSound (runIn table order state) ≡ true → getD state 0 0 ≡ 2000000 → said .number ≡ 8
+  pub early : said .number ≡ 0 → getD state 0 0 < 2000000
+  pub clock : said .number ≡ 0 → getD (said .next) 0 0 ≡ getD state 0 0 + 1
+  -- an idle slot: no row is ready, and only the clock moves (rules 2.3, 2.12)
+  pub idle : said .number ≡ 0 → said .row ≡ 0 → ((i : ℕ) → ReadyIn table state i → ⊥) × ((k : ℕ) → 1 ≤ k → getD (said .next) k 0 ≡ getD state k 0)
+  pub runs : said .number ≡ 0 → (said .row ≡ 0 → ⊥) → RowRuns table order state supply (said .row) (said .next)
+
+-- the state's words after one slot with a supply, as `FirmwareWriter` has them, and after one slot for each supply in turn (rules 8.9, 8.10)
+abbrev pub slotWords : List ℕ → List ℕ → ℕ → List ℕ → List ℕ
+slotWords table order supply state = stateWords (oneSlot (runIn table order state) supply .run)
+
+abbrev pub slotsWords : List ℕ → List ℕ → List ℕ → List ℕ → List ℕ
+slotsWords table order [] state = state
+slotsWords table order (v ∷ vs) state = slotsWords table order vs (slotWords table order v state)
+
+-- a record worked forward: so many slots one after another, and it says how many (rules 8.10, 8.12 to 8.14)
+pub record Forwarding (table order state supplies : List ℕ) (said : Forwards) : Type 0 where
+  pub known : (said .number ≡ 0) ⊎ (said .number ≡ 8) ⊎ (said .number ≡ 9)
+  pub steps : said .next ≡ slotsWords table order (take (said .worked) supplies) state
+  pub all-worked : said .number ≡ 0 → said .worked ≡ length supplies
+  pub over : said .number ≡ 8 → (said .worked < length supplies) × (getD (said .next) 0 0 ≡ 2000000)
+  pub damaged : said .number ≡ 9 → (said .worked ≡ 0) × (said .next ≡ state) × (isSound (runIn table order state) ≡ false)
+  -- the slots worked are the clock's gain, and they are all that the clock has room for (rules 8.10, 8.13)
+  pub tally : getD (said .next) 0 0 ≡ getD state 0 0 + said .worked
+  pub room : isSound (runIn table order state) ≡ true → getD state 0 0 + length supplies ≤ 2000000 → said .number ≡ 0
+  pub no-room : isSound (runIn table order state) ≡ true → 2000000 < getD state 0 0 + length supplies → said .number ≡ 8
+
+-- ---- The pen engineer: deadlines are kept through every list of calls that the firmware makes (rules 9.5 to 9.15).
+
+-- What one call of the archive says and leaves over the words: `jb_slot` with a supply (rule 8.9), or `jb_forward` with a list of
+-- them (rule 8.10).
+pub record CallTold : Type 0 where
+  pub said : Said
+  pub state : List ℕ
+
+abbrev pub callWords : List ℕ → List ℕ → Call → List ℕ → CallTold
+callWords table order (one v) state =
+    record { said = slotSaid (oneSlot (runIn table order state) v .answer); state = stateWords (oneSlot (runIn table order state) v .run) }
+callWords table order (forward vs) state =
+    record { said = forwardSaid (forwardOver (runIn table order state) vs .answer); state = stateWords (forwardOver (runIn table order state) vs .run) }
+
+-- what all calls of a list say, each on the state that the last one left, and the state at the end (rule 9.5)
+pub record ListTold : Type 0 where
+  pub said : List Said
+  pub state : List ℕ
+
+unfoldable pub listWords : List ℕ → List ℕ → List Call → List ℕ → ListTold
+listWords table order [] state = record { said = []; state = state }
+listWords table order (c ∷ cs) state =
+    let t = callWords table order c state in
+    let rest = listWords table order cs (t .state) in
+    record { said = t .said ∷ rest .said; state = rest .state }
+
+-- each slot before row i's deadline by which some row is released supplied at least s work units (rules 9.14, 9.15)
+abbrev pub SuppliedIn : List ℕ → List Call → ℕ → ℕ → Type 0
+SuppliedIn table cs i s = (u j : ℕ) → 1 ≤ j → j ≤ getD table 0 0 → getD table (2 + j) 0 ≤ u → u < getD table (130 + i) 0 → s ≤ supplyAt cs u
+
+-- row i has got its work, and its closing slot is at least 1 and at most its deadline, in the words of a state (rule 3.1)
+pub record KeptWords (table state : List ℕ) (i : ℕ) : Type 0 where
+  pub got : getD state i 0 ≡ getD table (66 + i) 0
+  pub from : 1 ≤ getD state (128 + i) 0
+  pub upTo : getD state (128 + i) 0 ≤ getD table (130 + i) 0
+
+-- the words of the fresh record's state (rule 8.2)
+abbrev pub startOf : List ℕ → List ℕ → List ℕ
+startOf table order = stateWords (freshRun (tableIn table) order)
+
+-- From the start on, the answers are those of the run on paper, and each row whose deadline the clock has reached has kept it: a HI row if its
+-- slots supplied at least G, a LO row if they supplied at least N (rules 9.10, 9.12).
+pub record PenEngineer (table order start : List ℕ) (cs : List Call) : Type 0 where
+  pub said : listWords table order cs start .said ≡ tellAll (tableIn table) order cs fresh .said
+  pub clock : getD (listWords table order cs start .state) 0 0 ≡ tellAll (tableIn table) order cs fresh .state .clock
+  pub high : (i : ℕ) → 1 ≤ i → i ≤ getD table 0 0 → (getD table (194 + i) 0 ≡ 0 → ⊥) → getD table (130 + i) 0 ≤ getD (listWords table order cs start .state) 0 0
+      → SuppliedIn table cs i (getD table 2 0) → KeptWords table (listWords table order cs start .state) i
+  pub low : (i : ℕ) → 1 ≤ i → i ≤ getD table 0 0 → getD table (194 + i) 0 ≡ 0 → getD table (130 + i) 0 ≤ getD (listWords table order cs start .state) 0 0
+      → SuppliedIn table cs i (getD table 1 0) → KeptWords table (listWords table order cs start .state) i
+
+-- a number and a value as an answer (rules 9.7, 9.8)
+abbrev pub told : ℕ → ℕ → Said
+told number value = record { number = number; value = value }
+
+-- A sheet's table is planned, a fresh record is made of it, and it is worked forward over the supplies: the start is the fresh record's, and
+-- what is left at the end is what the one call of the list leaves (rules 8.2, 8.10, 9.9).
+pub record Drawn (table supplies : List ℕ) (said : Drawing) : Type 0 where
+  pub fresh : said .planned ≡ 0 → said .fresh ≡ 0
+  pub answer : said .planned ≡ 0
+      → listWords table (said .order) (forward supplies ∷ []) (startOf table (said .order)) .said ≡ told (said .forward) (said .worked) ∷ []
+  pub kept : said .planned ≡ 0 → PenEngineer table (said .order) (startOf table (said .order)) (forward supplies ∷ [])
+  pub left : said .planned ≡ 0 → said .state ≡ listWords table (said .order) (forward supplies ∷ []) (startOf table (said .order)) .state
+
+-- ---- The sales desk: the verdict is exact (rule 7.2), and the figures beside it are those of the worst runs (rules 3.5 to 3.7, 7.3, 7.5).
+
+-- row i's finish, in the worst run at exactly N (LO) or G (HI), however long it lasts: it has got its work and closed then (rules 3.5, 3.6)
+pub record WorstRun (t : Table) (o : List ℕ) (i finish : ℕ) : Type 0 where
+  pub some : 1 ≤ finish
+  pub closing : (k : ℕ) → horizon t (worstSpeed t i) ≤ k → at (after t o (λ _. worstSpeed t i) k .closing) i ≡ finish
+  pub got : (k : ℕ) → horizon t (worstSpeed t i) ≤ k → at (after t o (λ _. worstSpeed t i) k .got) i ≡ at (t .work) i
+
+pub record SalesDesk (t : Table) (o : List ℕ) (said : Opinion) (least : ℤ) (finishes : List ℕ) : Type 0 where
+  pub same-number : said .finishes ≡ said .number
+  -- the checks passed exactly if the table is accepted and the order is one of its orders (rule 11.4); else all is zero (rules 7.4, 7.5)
+  pub passed : said .number ≡ 0 → Accepted t × (isOrder t o ≡ true)
+  pub passes : Accepted t → isOrder t o ≡ true → said .number ≡ 0
+  pub refused : (said .number ≡ 0 → ⊥) → (said .yes ≡ 0) × (said .row ≡ 0) × (least ≡ pos 0) × (finishes ≡ replicate 64 0)
+  -- yes exactly if the order serves under every course of speed (rule 7.2)
+  pub yes-serves : said .yes ≡ 1 → Serves t o
+  pub serves-yes : said .number ≡ 0 → Serves t o → said .yes ≡ 1
+  pub yes-or-no : (said .yes ≡ 0) ⊎ (said .yes ≡ 1)
+  -- every finish is that of the row's worst run (rule 7.5); the slack is the named row's, and no row has less (rule 7.3)
+  pub finish : said .number ≡ 0 → (i : ℕ) → 1 ≤ i → i ≤ t .n → WorstRun t o i (at finishes i)
+  pub row : said .number ≡ 0 → (1 ≤ said .row) × (said .row ≤ t .n)
+  pub slack : said .number ≡ 0 → least ≡ pos (at (t .deadline) (said .row)) -ℤ pos (at finishes (said .row))
+  -- of several rows with the least slack it is the lowest
+  pub lowest : said .number ≡ 0 → (i : ℕ) → 1 ≤ i → i < said .row → ltZ least (pos (at (t .deadline) i) -ℤ pos (at finishes i)) ≡ true
+  pub no-less : said .number ≡ 0 → (i : ℕ) → 1 ≤ i → i ≤ t .n → ltZ (pos (at (t .deadline) i) -ℤ pos (at finishes i)) least ≡ false

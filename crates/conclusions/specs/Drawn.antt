@@ -1,0 +1,190 @@
+-- A list of calls over the words is the list of calls on records that the claim speaks of, and so the pen engineer's conclusion follows from it.
+use Prim.Native.Nat.{ℕ, _+_, _≤_, _<_}
+use mathlib.Core.Bool.{true}
+use mathlib.Core.Logic.{inl}
+use mathlib.Core.List.{List, [], _∷_}
+use mathlib.Core.Path.{_≡_, refl, sym, ap, _∙_}
+use native.Mathlib.Omega.{arith}
+use lib.Dec.{ltb}
+use lib.ListN.{length, getD}
+use Rattle.rules.specs.declared.Table.{Table}
+use Rattle.rules.specs.Calls.{lastClock, Call, one, forward, supplyAt}
+use Rattle.rules.specs.Meaning.{Serves}
+use Rattle.rules.specs.Orders.{isOrder}
+use Rattle.rules.specs.Rows.{at}
+use Rattle.rules.specs.Tables.{Accepted}
+use Rattle.theory.specs.Facts.{facts}
+use Rattle.theory.specs.Tests.{by-bool}
+use Rattle.rules.specs.declared.Check.the-variants.{Passed}
+use Rattle.rules.specs.Choice.{planOf}
+use Rattle.rules.specs.Numbers.{checkNumber, plannedNumber}
+use Rattle.record.specs.Answers.{forwardSaid}
+use Rattle.record.specs.declared.Run.{Run}
+use Rattle.record.specs.Fresh.{fresh-sized}
+use Rattle.record.specs.Kept.{Sized, sized-kept}
+use Rattle.record.specs.Records.{freshRun, freshOf, isSound, nextRun, oneSlot, workOn, forwardOver}
+use Rattle.guarantee.specs.Claim.{RunRight, Claim}
+use Rattle.guarantee.specs.Concluded.{Supplied, Done, Deadlines, concluded}
+use Rattle.guarantee.specs.Playing.{AllMade, make, makeAll}
+use Rattle.guarantee.specs.Proved.{demand-3}
+use Rattle.jasminebrace.specs.Inverse.{words-of-table-in}
+use Rattle.jasminebrace.specs.Words.{tableIn, wordsOf, runIn, stateWords}
+use Rattle.conclusions.specs.declared.Drawing.{Drawing}
+use Rattle.conclusions.specs.Conclusions.{CallTold, callWords, ListTold, listWords, SuppliedIn, KeptWords, startOf, PenEngineer, told, Drawn}
+use Rattle.conclusions.specs.Entries.{TableWords, table-words, StateWords, state-words}
+use Rattle.conclusions.specs.Firmware.{held}
+use Rattle.conclusions.specs.Forwarded.{clock-word}
+use Rattle.conclusions.specs.Planned.{planned}
+
+-- a record of the same table and order, with full columns
+pub record Alike (t : Table) (o : List ℕ) (q : Run) : Type 0 where
+  pub table : q .table ≡ t
+  pub order : q .order ≡ o
+  pub sized : Sized q
+
+module _ (t : Table) (o : List ℕ) where
+  alike-next : (q : Run) (v : ℕ) → Alike t o q → Alike t o (nextRun q v)
+  unfolding nextRun
+  alike-next q v a = record { table = a .table; order = a .order; sized = sized-kept q v (a .sized) }
+
+  alike-work : (k : ℕ) (vs : List ℕ) (q : Run) → Alike t o q → Alike t o (workOn k vs q .run)
+  unfolding workOn
+  alike-work k [] q a = a
+  alike-work k (v ∷ vs) q a = by-bool (ltb (q .clock) lastClock) (λ e. rw e (alike-work (k + 1) vs (nextRun q v) (alike-next q v a))) (λ e. rw e a)
+
+  alike-made : (c : Call) (q : Run) → Alike t o q → Alike t o (make c q .run)
+  unfolding oneSlot forwardOver
+  alike-made (one v) q a =
+      by-bool (isSound q)
+      (λ s. by-bool (ltb (q .clock) lastClock) (λ e. rw (s, e) (alike-next q v a)) (λ e. rw (s, e) a))
+      (λ s. rw s a)
+  alike-made (forward vs) q a = by-bool (isSound q) (λ s. rw s (alike-work 0 vs q a)) (λ s. rw s a)
+
+  alike-all : (cs : List Call) (q : Run) → Alike t o q → Alike t o (makeAll cs q .run)
+  unfolding makeAll
+  alike-all [] q a = a
+  alike-all (c ∷ cs) q a = alike-all cs (make c q .run) (alike-made c q a)
+
+module _ (table order : List ℕ) (tables : length table ≡ 259) where
+  abbrev t : Table
+  t = tableIn table
+
+  is-held : (q : Run) → Alike t order q → runIn table order (stateWords q) ≡ q
+  is-held q a = held table order tables q (a .table) (a .order) (a .sized)
+
+  -- a call over the words of a record is the call on the record
+  call-words : (c : Call) (q : Run) → Alike t order q
+      → callWords table order c (stateWords q) ≡ record { said = make c q .said; state = stateWords (make c q .run) }
+  call-words (one v) q a = rw (is-held q a)
+  call-words (forward vs) q a = rw (is-held q a)
+
+  -- and so is a list of them
+  pub list-words : (cs : List Call) (q : Run) → Alike t order q
+      → listWords table order cs (stateWords q) ≡ record { said = makeAll cs q .said; state = stateWords (makeAll cs q .run) }
+  unfolding listWords makeAll
+  list-words [] q a = refl
+  list-words (c ∷ cs) q a = simp (call-words c q a, list-words cs (make c q .run) (alike-made t order c q a))
+
+  alike-fresh : Alike t order (freshRun t order)
+  alike-fresh = record { table = refl; order = refl; sized = fresh-sized t order }
+
+  module _ (accepted : Accepted t) (passes : isOrder t order ≡ true) (serves : Serves t order) (cs : List Call) where
+    abbrev start : List ℕ
+    start = stateWords (freshRun t order)
+
+    abbrev end : Run
+    end = makeAll cs (freshRun t order) .run
+
+    listed : listWords table order cs start ≡ record { said = makeAll cs (freshRun t order) .said; state = stateWords end }
+    listed = list-words cs (freshRun t order) alike-fresh
+
+    claim : Claim t cs
+    claim = demand-3 t accepted cs
+
+    right : RunRight t order cs (makeAll cs (freshRun t order))
+    right = rw (claim .started order passes) at (claim .right order passes)
+
+    deadlines : Deadlines t order cs (makeAll cs (freshRun t order))
+    deadlines = rw (claim .started order passes) at (concluded demand-3 t accepted cs .deadlines order passes)
+
+    -- the record at the end is the one that its words hold
+    end-words : (i : ℕ) → 1 ≤ i → i ≤ 64 → StateWords (stateWords end) end i
+    end-words i l h = rw (is-held end (alike-all t order cs (freshRun t order) alike-fresh)) at (state-words table order (stateWords end) i l h)
+
+    few : (i : ℕ) → i ≤ t .n → i ≤ 64
+    few i h = omega (arith, facts t accepted .few)
+
+    supplied : (i s : ℕ) → 1 ≤ i → i ≤ t .n → SuppliedIn table cs i s → Supplied t cs i s
+    unfolding tableIn
+    supplied i s l h w u j lj hj a d = w u j lj hj (rw (table-words table j lj (few j hj) .release) a) (rw (table-words table i l (few i h) .deadline) d)
+
+    kept-words : (i : ℕ) → 1 ≤ i → i ≤ t .n → Done t (makeAll cs (freshRun t order)) i → KeptWords table (stateWords end) i
+    kept-words i l h k =
+        let w = table-words table i l (few i h) in
+        let e = end-words i l (few i h) in
+        record { got = e .got ∙ k .got ∙ sym (w .work); from = rw (e .closing) (k .from); upTo = rw (e .closing, w .deadline) (k .upTo) }
+
+    reached : (i : ℕ) → 1 ≤ i → i ≤ t .n → getD table (130 + i) 0 ≤ getD (listWords table order cs start .state) 0 0 → at (t .deadline) i ≤ end .clock
+    reached i l h d = omega (arith, rw listed at d, clock-word end, table-words table i l (few i h) .deadline)
+
+    pub penned : PenEngineer table order start cs
+    unfolding tableIn
+    penned =
+        record {
+          said = ap (λ (x : ListTold). x .said) listed ∙ right .said;
+          clock = rw listed (clock-word end ∙ right .clock);
+          high = λ i l h n d w. rw listed
+              (kept-words i l h (deadlines .high serves i l h (λ z. n (table-words table i l (few i h) .level ∙ z)) (reached i l h d) (supplied i _ l h w)));
+          low = λ i l h n d w. rw listed
+              (kept-words i l h (deadlines .low serves i l h (sym (table-words table i l (few i h) .level) ∙ n) (reached i l h d) (supplied i _ l h w)));
+        }
+
+-- ---- planned, started afresh and worked forward through the exported functions
+
+-- what the three calls said and left: the plan, the words of the fresh record, and those after it was worked forward
+pub record Drew (table supplies runTable runOrder runState : List ℕ) (said : Drawing) : Type 0 where
+  pub planned : said .planned ≡ plannedNumber (planOf (tableIn table) .answer)
+  pub order : said .order ≡ planOf (tableIn table) .order
+  pub fresh : said .fresh ≡ checkNumber (freshOf (tableIn table) (said .order) .check)
+  pub run-table : runTable ≡ wordsOf (freshOf (tableIn table) (said .order) .run .table)
+  pub run-order : runOrder ≡ freshOf (tableIn table) (said .order) .run .order
+  pub start : runState ≡ stateWords (freshOf (tableIn table) (said .order) .run)
+  pub forward : said .forward ≡ forwardSaid (forwardOver (runIn runTable runOrder runState) supplies .answer) .number
+  pub worked : said .worked ≡ forwardSaid (forwardOver (runIn runTable runOrder runState) supplies .answer) .value
+  pub state : said .state ≡ stateWords (forwardOver (runIn runTable runOrder runState) supplies .run)
+
+module _ (table supplies runTable runOrder runState : List ℕ) (tables : length table ≡ 259) (said : Drawing)
+    (d : Drew table supplies runTable runOrder runState said) where
+  module _ (n : said .planned ≡ 0) where
+    made : plannedNumber (planOf (tableIn table) .answer) ≡ 0
+    made = sym (d .planned) ∙ n
+
+    accepted : Accepted (tableIn table)
+    accepted = planned (tableIn table) .accepted (inl made)
+
+    passes : isOrder (tableIn table) (said .order) ≡ true
+    passes = rw (d .order) (planned (tableIn table) .made made .1)
+
+    serves : Serves (tableIn table) (said .order)
+    serves = rw (d .order) (planned (tableIn table) .made made .2)
+
+    begun-is : freshOf (tableIn table) (said .order) ≡ record { check = Passed; run = freshRun (tableIn table) (said .order) }
+    begun-is = demand-3 (tableIn table) accepted [] .started (said .order) passes
+
+    left-is : said .state ≡ listWords table (said .order) (forward supplies ∷ []) (startOf table (said .order)) .state
+    unfolding listWords
+    left-is = d .state ∙ rw (d .run-table, d .run-order, d .start, begun-is, words-of-table-in table tables)
+
+    answer-is : listWords table (said .order) (forward supplies ∷ []) (startOf table (said .order)) .said ≡ told (said .forward) (said .worked) ∷ []
+    unfolding listWords
+    answer-is = rw (d .forward, d .worked, d .run-table, d .run-order, d .start, begun-is, words-of-table-in table tables)
+
+  pub drawn : Drawn table supplies said
+  unfolding checkNumber
+  drawn =
+      record {
+        fresh = λ n. d .fresh ∙ rw (begun-is n);
+        answer = answer-is;
+        kept = λ n. penned table (said .order) tables (accepted n) (passes n) (serves n) (forward supplies ∷ []);
+        left = left-is;
+      }

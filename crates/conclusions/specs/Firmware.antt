@@ -1,0 +1,354 @@
+-- The firmware writer's conclusion, from the definition of one slot on a record and the words that hold one.
+use Prim.Native.Nat.{ℕ, zero, suc, _+_, _-_, _≤_, _<_, min}
+use mathlib.Core.Bool.{Bool, true, false, cond, _&&_, _||_}
+use mathlib.Core.Logic.{_⊎_, inl, inr}
+use mathlib.Core.List.{List, [], _∷_, _++_}
+use mathlib.Core.Path.{_≡_, refl, sym, ap, _∙_}
+use native.Mathlib.Omega.{arith}
+use borrow.Author.Tests.{ltb-true, ltb-false, le-leb, lt-leb, eq-eqb, ne-eqb}
+use lib.Dec.{ltb, leb, eqb}
+use lib.ListN.{length, getD, take, drop, length-take, length-drop, take-append-drop}
+use Rattle.rules.specs.declared.Table.{Table}
+use Rattle.rules.specs.Calls.{lastClock}
+use Rattle.rules.specs.Lists.{first, count}
+use Rattle.rules.specs.Need.{need}
+use Rattle.rules.specs.Numbers.{refusalNumber}
+use Rattle.rules.specs.Rows.{at}
+use Rattle.rules.specs.Slots.{isReady, chosen}
+use Rattle.theory.specs.Cells.{Ready, ready-is, chosen-ready, chosen-above}
+use Rattle.theory.specs.Counts.{In}
+use Rattle.theory.specs.Facts.{Row, both-order, in-rows, is-row, count-zero}
+use Rattle.theory.specs.Places.{order-rows}
+use Rattle.theory.specs.Tests.{by-bool, by-eqb, by-leb, not-both}
+use Rattle.columns.specs.Entries.{put-same, put-other}
+use Rattle.columns.specs.Figures.{over}
+use Rattle.record.specs.declared.Run.{Run}
+use Rattle.record.specs.Answers.{slotSaid}
+use Rattle.record.specs.Checked.{limits}
+use Rattle.record.specs.Coming.{answer-coming}
+use Rattle.record.specs.Kept.{Sized, sized-kept}
+use Rattle.record.specs.Records.{stateOf, isSound, chosenRow, nextRun, comingSlot, oneSlot}
+use Rattle.record.specs.Sound.{sound-so, runs}
+use Rattle.record.specs.Stepping.{gotNext, closingNext, rested, served, next-idle, next-served}
+use Rattle.forward.specs.Forwarding.{next-clock}
+use Rattle.jasminebrace.specs.Words.{columnAt, tableIn, wordsOf, runIn, stateWords}
+use Rattle.jasminebrace.specs.Inverse.{FullTable, FullRun, words-of-table-in, state-words-of-run-in, run-in-words}
+use Rattle.conclusions.specs.declared.Slots.{Slots}
+use Rattle.conclusions.specs.Conclusions.{ReadyIn, SameRow, RowRuns, FirmwareWriter}
+use Rattle.conclusions.specs.Entries.{TableWords, table-words, StateWords, state-words}
+
+-- ---- the first that passes stands at a place, and none before it passes
+pub record FirstAt (p : ℕ → Bool) (xs : List ℕ) (i : ℕ) : Type 0 where
+  pub place : ℕ
+  pub stands : getD xs place 0 ≡ i
+  pub before : (k : ℕ) → k < place → p (getD xs k 0) ≡ false
+
+first-at : (p : ℕ → Bool) (xs : List ℕ) → (first p xs ≡ 0 → ⊥) → FirstAt p xs (first p xs)
+first-at p [] h = absurd (h refl)
+first-at p (x ∷ xs) h =
+    by-bool (p x)
+    (λ e. rw e (record { place = 0; stands = refl; before = λ k l. absurd (omega arith) }))
+    (λ e. rw e (later e (first-at p xs (rw e at h))))
+  where
+    later : p x ≡ false → FirstAt p xs (first p xs) → FirstAt p (x ∷ xs) (first p xs)
+    later e f = record { place = suc (f .place); stands = f .stands; before = earlier }
+      where
+        earlier : (k : ℕ) → k < suc (f .place) → p (getD (x ∷ xs) k 0) ≡ false
+        earlier zero l = e
+        earlier (suc k) l = f .before k (omega arith)
+
+-- ---- when a row is over, one way after another
+module _ (work level normal got used : ℕ) where
+  over-done : got ≡ work → over work level normal got used ≡ true
+  unfolding over
+  over-done e = rw (eq-eqb got work e)
+
+  over-dropped : level ≡ 0 → need work normal ≤ used → over work level normal got used ≡ true
+  unfolding over
+  over-dropped z h = by-bool (eqb got work) (λ e. rw e) (λ e. rw (e, eq-eqb level 0 z, le-leb (need work normal) used h))
+
+  over-open : (got ≡ work → ⊥) → (level ≡ 0 → used < need work normal) → over work level normal got used ≡ false
+  unfolding over
+  over-open n h =
+      by-eqb level 0
+      (λ e z. rw (ne-eqb got work n, e, lt-leb (need work normal) used (h z)))
+      (λ e z. rw (ne-eqb got work n, e))
+
+-- ---- the words lent: 259 of a table and 193 of a state
+column-full : (words : List ℕ) (from : ℕ) → from + 64 ≤ length words → length (columnAt from words) ≡ 64
+column-full words from h = omega (arith, length-take 64 (drop from words), length-drop from words)
+
+module _ (table order : List ℕ) (tables : length table ≡ 259) where
+  full-table : FullTable (tableIn table)
+  unfolding tableIn
+  full-table =
+      record {
+        release = column-full table 3 (omega arith);
+        work = column-full table 67 (omega arith);
+        deadline = column-full table 131 (omega arith);
+        level = column-full table 195 (omega arith);
+      }
+
+  -- a record of the same table and order with full columns is the one that its words hold
+  pub held : (q : Run) → q .table ≡ tableIn table → q .order ≡ order → Sized q → runIn table order (stateWords q) ≡ q
+  held q t o z =
+      let full : FullTable (q .table) = rw t full-table in
+      let e = run-in-words q (record { table = full; got = z .got; used = z .used; closing = z .closing }) in
+      let w : table ≡ wordsOf (q .table) = sym (words-of-table-in table tables) ∙ ap wordsOf (sym t) in
+      ap (λ (x : List ℕ). runIn x order (stateWords q)) w ∙ ap (λ (x : List ℕ). runIn (wordsOf (q .table)) x (stateWords q)) (sym o) ∙ e
+
+module _ (table order state : List ℕ) (tables : length table ≡ 259) (states : length state ≡ 193) where
+  abbrev r : Run
+  r = runIn table order state
+
+  pub sized : Sized r
+  unfolding runIn
+  sized = record { got = column-full state 1 (omega arith); used = column-full state 65 (omega arith); closing = column-full state 129 (omega arith) }
+
+  -- ---- which row is ready, over the words and over the record
+  words-ready : (i : ℕ) → ReadyIn table state i → i ≤ 64 → isReady (r .table) (stateOf r) i ≡ true
+  unfolding isReady runIn tableIn
+  words-ready i h few =
+      let w = table-words table i (h .0) few in
+      let s = state-words table order state i (h .0) few in
+      rw (is-row (tableIn table) i (record { from = h .0; upTo = h .1 }), le-leb _ _ (ready-release w), eq-eqb _ 0 (ready-closing s))
+    where
+      ready-release : TableWords table (tableIn table) i → at (tableIn table .release) i ≤ getD state 0 0
+      ready-release w = omega (arith, w .release, h .2)
+
+      ready-closing : StateWords state r i → at (r .closing) i ≡ 0
+      ready-closing s = sym (s .closing) ∙ h .3
+
+  ready-words : (i : ℕ) → i ≤ 64 → isReady (r .table) (stateOf r) i ≡ true → ReadyIn table state i
+  unfolding runIn tableIn
+  ready-words i few e =
+      let f = ready-is (r .table) (stateOf r) i e in
+      let w = table-words table i (f .row .from) few in
+      let s = state-words table order state i (f .row .from) few in
+      (f .row .from, f .row .upTo, omega (arith, w .release, f .released), s .closing ∙ f .still)
+
+  row-of : (i : ℕ) → ReadyIn table state i → Row (r .table) i
+  unfolding runIn tableIn
+  row-of i h = record { from = h .0; upTo = h .1 }
+
+  -- ---- a slot that is worked
+  module _ (v : ℕ) (sound : isSound r ≡ true) where
+    abbrev next : List ℕ
+    next = stateWords (nextRun r v)
+
+    few : r .table .n ≤ 64
+    few = limits (r .table) (r .order) (sound-so r sound .checked) .few
+
+    -- the record that the words after the slot hold
+    pub next-held : runIn table order next ≡ nextRun r v
+    unfolding nextRun runIn
+    next-held = held table order tables (nextRun r v) refl refl (sized-kept r v sized)
+
+    after-words : (i : ℕ) → 1 ≤ i → i ≤ 64 → StateWords next (nextRun r v) i
+    after-words i l h = rw next-held at (state-words table order next i l h)
+
+    -- an idle slot: were a row ready, the slot would go to one of the first n places, which hold no 0
+    none-ready : chosenRow r ≡ 0 → (i : ℕ) → ReadyIn table state i → ⊥
+    unfolding chosenRow
+    none-ready z i h =
+        let t = r .table in
+        let o = r .order in
+        let n = t .n in
+        let row : Row t i = row-of i h in
+        let rows = order-rows t o (both-order t o (sound-so r sound .checked)) in
+        let above : In (chosen t (take n o ++ drop n o) (stateOf r)) (take n o) =
+        chosen-above t (stateOf r) (take n o) (drop n o) i (omega (arith, rows i, in-rows t i row)) (words-ready i h (omega (arith, few, row .upTo))) in
+        let zero-above : In 0 (take n o) = rw (take-append-drop n o, z) at above in
+        omega (arith, rows 0, count-zero n, zero-above)
+
+    -- after the clock the words of the next record stand as they stood
+    later : (k : ℕ) → getD (stateWords (rested r)) (suc k) 0 ≡ getD (stateWords r) (suc k) 0
+    unfolding stateWords
+    later k = refl
+
+    idle-words : chosenRow r ≡ 0 → (k : ℕ) → 1 ≤ k → getD next k 0 ≡ getD state k 0
+    idle-words z zero l = absurd (omega arith)
+    idle-words z (suc k) l =
+        let e : stateWords (nextRun r v) ≡ stateWords (rested r) = ap stateWords (next-idle r v (chosenRow r) refl z) in
+        let s = state-words-of-run-in table order state states in
+        ap (λ (x : List ℕ). getD x (suc k) 0) e ∙ later k ∙ ap (λ (x : List ℕ). getD x (suc k) 0) s
+
+    moved : getD next 0 0 ≡ getD state 0 0 + 1
+    unfolding stateWords runIn
+    moved = next-clock r v
+
+    -- a slot in which row i runs
+    module _ (i : ℕ) (e : i ≡ chosenRow r) (some : i ≡ 0 → ⊥) where
+      ready : Ready (r .table) (stateOf r) i
+      unfolding chosenRow
+      ready = chosen-ready (r .table) (r .order) (stateOf r) i (omega (arith, some-one)) (sym e)
+        where
+          some-one : 1 ≤ i
+          some-one = by-eqb i 0 (λ _ q. absurd (some q)) (λ _ q. omega arith)
+
+      low : 1 ≤ i
+      low = ready .row .from
+
+      high : i ≤ 64
+      high = omega (arith, few, ready .row .upTo)
+
+      tw : TableWords table (r .table) i
+      unfolding runIn
+      tw = table-words table i low high
+
+      sw : StateWords state r i
+      sw = state-words table order state i low high
+
+      served-is : nextRun r v ≡ served r v i
+      served-is = next-served r v i e some
+
+      got-is : getD next i 0 ≡ gotNext r v i
+      got-is =
+          after-words i low high .got
+          ∙ ap (λ (q : Run). at (q .got) i) served-is
+          ∙ put-same (r .got) i (gotNext r v i) low (omega (arith, high, sized .got))
+
+      used-is : getD next (64 + i) 0 ≡ at (r .used) i + 1
+      used-is =
+          after-words i low high .used
+          ∙ ap (λ (q : Run). at (q .used) i) served-is
+          ∙ put-same (r .used) i (at (r .used) i + 1) low (omega (arith, high, sized .used))
+
+      closing-is : getD next (128 + i) 0 ≡ closingNext r v i
+      closing-is =
+          after-words i low high .closing
+          ∙ ap (λ (q : Run). at (q .closing) i) served-is
+          ∙ put-same (r .closing) i (closingNext r v i) low (omega (arith, high, sized .closing))
+
+      abbrev is-over : Bool
+      is-over = over (at (r .table .work) i) (at (r .table .level) i) (r .table .normal) (gotNext r v i) (at (r .used) i + 1)
+
+      -- the closing slot, by whether the row is over
+      closed : is-over ≡ true → getD next (128 + i) 0 ≡ r .clock + 1
+      closed o = closing-is ∙ rw o
+
+      not-closed : is-over ≡ false → getD next (128 + i) 0 ≡ 0
+      not-closed o = closing-is ∙ rw o
+
+      other : (j : ℕ) → 1 ≤ j → j ≤ 64 → (j ≡ i → ⊥) → SameRow next state j
+      other j l h n =
+          let a = after-words j l h in
+          let b = state-words table order state j l h in (
+            a .got ∙ ap (λ (q : Run). at (q .got) j) served-is ∙ put-other (r .got) i j (gotNext r v i) low l n ∙ sym (b .got),
+            a .used ∙ ap (λ (q : Run). at (q .used) j) served-is ∙ put-other (r .used) i j (at (r .used) i + 1) low l n ∙ sym (b .used),
+            a .closing ∙ ap (λ (q : Run). at (q .closing) j) served-is ∙ put-other (r .closing) i j (closingNext r v i) low l n ∙ sym (b .closing),
+          )
+
+      first-place : FirstAt (isReady (r .table) (stateOf r)) order i
+      unfolding chosenRow chosen runIn
+      first-place = rw e (first-at (isReady (r .table) (stateOf r)) order (λ z. some (e ∙ z)))
+
+      highest : (p : ℕ) → p < first-place .place → ReadyIn table state (getD order p 0) → ⊥
+      highest p h f =
+          let row = row-of (getD order p 0) f in
+          not-both (isReady (r .table) (stateOf r) (getD order p 0)) (words-ready (getD order p 0) f (omega (arith, few, row .upTo))) (first-place .before p h)
+
+      least-need : need (getD table (66 + i) 0) (getD table 1 0) ≤ getD next (64 + i) 0 → need (at (r .table .work) i) (r .table .normal) ≤ at (r .used) i + 1
+      unfolding runIn tableIn
+      least-need h = rw (tw .work, used-is) at h
+
+      below-need : getD next (64 + i) 0 < need (getD table (66 + i) 0) (getD table 1 0) → at (r .used) i + 1 < need (at (r .table .work) i) (r .table .normal)
+      unfolding runIn tableIn
+      below-need h = rw (tw .work, used-is) at h
+
+      row-runs : RowRuns table order state v i next
+      unfolding runIn tableIn
+      row-runs =
+          record {
+            ready = (low, ready .row .upTo, omega (arith, tw .release, ready .released), sw .closing ∙ ready .still);
+            place = first-place .place;
+            stands = first-place .stands;
+            highest = highest;
+            got = rw (tw .work, sw .got) got-is;
+            used = rw (sw .used) used-is;
+            done = λ q. closed (over-done _ _ _ _ _ (sym got-is ∙ q ∙ tw .work));
+            dropped = λ z h. closed (over-dropped _ _ _ _ _ (sym (tw .level) ∙ z) (least-need h));
+            still-open = λ n h. not-closed (over-open _ _ _ _ _ (λ q. n (got-is ∙ q ∙ sym (tw .work))) (λ z. below-need (h (tw .level ∙ z))));
+            others = other;
+          }
+
+  -- ---- the clock's word
+  clock-below : ltb (r .clock) lastClock ≡ true → getD state 0 0 < 2000000
+  unfolding runIn
+  clock-below e = ltb-true (r .clock) lastClock e
+
+  clock-last : isSound r ≡ true → ltb (r .clock) lastClock ≡ false → getD state 0 0 ≡ 2000000
+  unfolding runIn
+  clock-last sound e = omega (arith, sound-so r sound .clock, ltb-false (r .clock) lastClock e)
+
+  -- ---- the coming slot and the slot, by the two checks
+  module _ (v : ℕ) where
+    abbrev said : Slots
+    said =
+        record {
+          coming = slotSaid (comingSlot r) .number;
+          «coming_row» = slotSaid (comingSlot r) .value;
+          number = slotSaid (oneSlot r v .answer) .number;
+          row = slotSaid (oneSlot r v .answer) .value;
+          next = stateWords (oneSlot r v .run);
+        }
+
+    worked : isSound r ≡ true → ltb (r .clock) lastClock ≡ true → FirmwareWriter table order state v said
+    unfolding oneSlot comingSlot slotSaid
+    worked sound early =
+        rw (sound, early)
+        (record {
+          same-number = refl;
+          same-row = refl;
+          refused = λ n. absurd (n refl);
+          eight = λ e. absurd (omega arith);
+          nine = λ e. absurd (omega arith);
+          sound-early = λ _ _. refl;
+          sound-last = λ _ h. absurd (omega (arith, clock-below early));
+          early = λ _. clock-below early;
+          clock = λ _. moved v sound;
+          idle = λ _ z. (none-ready v sound z, idle-words v sound z);
+          runs = λ _ n. row-runs v sound (chosenRow r) refl n;
+        })
+
+    over-last : isSound r ≡ true → ltb (r .clock) lastClock ≡ false → FirmwareWriter table order state v said
+    unfolding oneSlot comingSlot slotSaid refusalNumber
+    over-last sound late =
+        rw (sound, late)
+        (record {
+          same-number = refl;
+          same-row = refl;
+          refused = λ n. (inl refl, refl, state-words-of-run-in table order state states);
+          eight = λ _. clock-last sound late;
+          nine = λ e. absurd (omega arith);
+          sound-early = λ _ h. absurd (omega (arith, clock-last sound late));
+          sound-last = λ _ _. refl;
+          early = λ e. absurd (omega arith);
+          clock = λ e. absurd (omega arith);
+          idle = λ e z. absurd (omega arith);
+          runs = λ e n. absurd (omega arith);
+        })
+
+    unsound : isSound r ≡ false → FirmwareWriter table order state v said
+    unfolding oneSlot comingSlot slotSaid refusalNumber
+    unsound damaged =
+        rw damaged
+        (record {
+          same-number = refl;
+          same-row = refl;
+          refused = λ n. (inr refl, refl, state-words-of-run-in table order state states);
+          eight = λ e. absurd (omega arith);
+          nine = λ _. damaged;
+          sound-early = λ s _. absurd (not-both (isSound r) s damaged);
+          sound-last = λ s _. absurd (not-both (isSound r) s damaged);
+          early = λ e. absurd (omega arith);
+          clock = λ e. absurd (omega arith);
+          idle = λ e z. absurd (omega arith);
+          runs = λ e n. absurd (omega arith);
+        })
+
+    pub slotted : FirmwareWriter table order state v said
+    slotted =
+        by-bool (isSound r)
+        (λ sound. by-bool (ltb (r .clock) lastClock) (worked sound) (over-last sound))
+        unsound

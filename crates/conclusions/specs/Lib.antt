@@ -1,0 +1,10 @@
+pub mod Conclusions
+pub mod Entries
+pub mod Planned
+pub mod Author
+pub mod Firmware
+pub mod Forwarded
+pub mod Drawn
+pub mod Judged
+pub mod Written
+pub mod Begins

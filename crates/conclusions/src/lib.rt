@@ -1,0 +1,178 @@
+// What each caller may rely on, shown of the exported functions themselves: each function here does what one caller does, through the
+// C boundary alone, and its contract is that caller's conclusion in plain terms (specs/Conclusions). None of it is shipped.
+ghost use mathlib.Core.Path.{_≡_};
+ghost use Rattle.jasminebrace.specs.Words.{tableIn};
+ghost use Rattle.conclusions.specs.Conclusions.{TableAuthor, Text, Planner, FreshRecord, FirmwareWriter, Forwarding, Drawn, SalesDesk};
+
+// What a fresh record was said to be: its number, and the words of its table, its order and its state.
+pub struct Begun {
+    pub number: u32,
+    pub table: [u32; 259],
+    pub order: [u8; 64],
+    pub state: [u32; 193],
+}
+
+// What the coming slot was said to be, what the slot itself said, numbers and rows, and the state's words after it.
+pub struct Slots {
+    pub coming: u32,
+    pub coming_row: u32,
+    pub number: u32,
+    pub row: u32,
+    pub next: [u32; 193],
+}
+
+// What a record worked forward said, its number and the slots worked, and the state's words after them.
+pub struct Forwards {
+    pub number: u32,
+    pub worked: u32,
+    pub next: [u32; 193],
+}
+
+// What planning, the fresh record and working it forward said, the order, and the state's words at the end.
+pub struct Drawing {
+    pub planned: u32,
+    pub fresh: u32,
+    pub forward: u32,
+    pub worked: u32,
+    pub order: [u8; 64],
+    pub state: [u32; 193],
+}
+
+// What the judge said: its number, yes as 1 or 0 and the row of least slack; and the number that the worst finishes were answered with.
+pub struct Opinion {
+    pub number: u32,
+    pub yes: u32,
+    pub row: u32,
+    pub finishes: u32,
+}
+
+// A table author hands in a sheet.
+pub fn table_author(sheet: &[u8], table: &mut [u32; 259]) -> u32
+    ensures { λ r. ⌜ TableAuthor (now (sheet .entry)) r (now (table .exit)) ⌝ }
+{
+    jasminebrace::jb_read(sheet, table)
+}
+
+// A table author asks for what the planning program writes.
+pub fn program_text(input: &[u8], text: &mut [u8; 1617]) -> u32
+    ensures { λ r. ⌜ Text (now (input .entry)) r (now (text .exit)) ⌝ }
+{
+    jasminebrace::jb_program(input, text)
+}
+
+// A planner asks for an order.
+pub fn planner(table: &[u32; 259], order: &mut [u8; 64], left: &mut u64) -> u32
+    ensures { λ r. ⌜ Planner (tableIn (now (table .entry))) r (now (order .exit)) (now (left .exit)) ⌝ }
+{
+    jasminebrace::jb_plan(table, order, left)
+}
+
+// A firmware writer makes a fresh record of a table and an order.
+pub fn firmware_fresh(table: [u32; 259], order: [u8; 64]) -> Begun
+    ensures { λ r. ⌜ FreshRecord table order r ⌝ }
+{
+    let mut run_table = [0u32; 259];
+    let mut run_order = [0u8; 64];
+    let mut state = [0u32; 193];
+    let number = jasminebrace::jb_fresh(&table, &order, &mut run_table, &mut run_order, &mut state);
+    Begun {
+        number,
+        table: run_table,
+        order: run_order,
+        state,
+    }
+}
+
+// A firmware writer asks for the coming row, starts it, and reports the slot's supply in work units afterwards.
+pub fn firmware_writer(table: [u32; 259], order: [u8; 64], state: [u32; 193], supply: u32) -> Slots
+    ensures { λ r. ⌜ FirmwareWriter table order state supply r ⌝ }
+{
+    let mut coming_row: u32 = 0;
+    let coming = jasminebrace::jb_coming(&table, &order, &state, &mut coming_row);
+    let mut row: u32 = 0;
+    let mut next = state;
+    let number = jasminebrace::jb_slot(&table, &order, &mut next, supply, &mut row);
+    Slots {
+        coming,
+        coming_row,
+        number,
+        row,
+        next,
+    }
+}
+
+// A firmware writer works a record forward over many supplies in work units.
+pub fn firmware_forward(
+    table: [u32; 259],
+    order: [u8; 64],
+    state: [u32; 193],
+    supplies: &[u32],
+) -> Forwards
+    ensures { λ r. ⌜ Forwarding table order state (now (supplies .entry)) r ⌝ }
+{
+    let mut worked: u32 = 0;
+    let mut next = state;
+    let number = jasminebrace::jb_forward(&table, &order, &mut next, supplies, &mut worked);
+    Forwards {
+        number,
+        worked,
+        next,
+    }
+}
+
+// A pen engineer has a table planned, starts it afresh and works it forward over supplies in work units.
+pub fn pen_engineer(table: [u32; 259], supplies: &[u32]) -> Drawing
+    ensures { λ r. ⌜ Drawn table (now (supplies .entry)) r ⌝ }
+{
+    let mut order = [0u8; 64];
+    let mut left: u64 = 0;
+    let planned = jasminebrace::jb_plan(&table, &mut order, &mut left);
+    let mut run_table = [0u32; 259];
+    let mut run_order = [0u8; 64];
+    let mut state = [0u32; 193];
+    let fresh = jasminebrace::jb_fresh(&table, &order, &mut run_table, &mut run_order, &mut state);
+    let mut worked: u32 = 0;
+    let forward = jasminebrace::jb_forward(
+        &run_table,
+        &run_order,
+        &mut state,
+        supplies,
+        &mut worked,
+    );
+    Drawing {
+        planned,
+        fresh,
+        forward,
+        worked,
+        order,
+        state,
+    }
+}
+
+// The sales desk has an order judged, with the least slack in slots, and looks at every row's worst finish.
+pub fn sales_desk(
+    table: &[u32; 259],
+    order: &[u8; 64],
+    slack: &mut i32,
+    finishes: &mut [u32; 64],
+) -> Opinion
+    ensures { λ r. ⌜ SalesDesk (tableIn (now (table .entry))) (now (order .entry)) r (now (slack .exit)) (now (finishes .exit)) ⌝ }
+{
+    let mut yes: u32 = 0;
+    let mut row: u32 = 0;
+    let number = jasminebrace::jb_judge(table, order, &mut yes, &mut row, slack);
+    let timed = jasminebrace::jb_finishes(table, order, finishes);
+    Opinion {
+        number,
+        yes,
+        row,
+        finishes: timed,
+    }
+}
+
+// Whoever links the archive asks which interface it has.
+pub fn interface() -> u32
+    ensures { λ r. ⌜ r ≡ 1 ⌝ }
+{
+    jasminebrace::jb_version()
+}

@@ -1,0 +1,6 @@
+-- The number of the C interface. It is raised whenever a size, a layout or the meaning of a number in c/jasminebrace.h changes;
+-- JB_VERSION there is the same number.
+use Prim.Native.Nat.{ℕ}
+
+abbrev pub version : ℕ
+version = 1
