@@ -27,29 +27,13 @@ typedef struct {
     uint32_t normal;      /* the normal speed N, for a run without a list */
 } supplies;
 
-static const char *words_for(uint32_t number) {
-    switch (number) {
-    case JB_OK: return "an order was made";
-    case JB_LENGTH: return "the sheet's length is wrong";
-    case JB_MALFORMED: return "a field or line end of the sheet is malformed";
-    case JB_ROW_COUNT: return "the row count is outside 1 to 64";
-    case JB_SPEEDS: return "a speed is outside its limits";
-    case JB_ROW_LIMITS: return "a row is outside its limits";
-    case JB_NOT_AN_ORDER: return "the order does not hold each row once";
-    case JB_NO_ORDER: return "no correct order exists";
-    case JB_CLOCK_OVER: return "the clock is 2,000,000 and rows are still open";
-    case JB_UNSOUND: return "the run record is unsound";
-    default: return "this number is unknown";
-    }
-}
-
 static int refused(uint32_t number) {
-    printf("number %" PRIu32 ": %s\n", number, words_for(number));
+    printf("number %" PRIu32 ": %s\n", number, jb_words(number));
     return REFUSED;
 }
 
 static int no_order(uint64_t left) {
-    printf("number %d: %s, rows left:", JB_NO_ORDER, words_for(JB_NO_ORDER));
+    printf("number %d: %s, rows left:", JB_NO_ORDER, jb_words(JB_NO_ORDER));
     for (unsigned row = 1; row <= JB_ROWS; row++) {
         if (left >> (row - 1) & 1) {
             printf(" %u", row);
@@ -60,24 +44,16 @@ static int no_order(uint64_t left) {
 }
 
 static void print_order(const uint8_t order[JB_ROWS]) {
-    printf("number %d: %s\norder:", JB_OK, words_for(JB_OK));
+    printf("number %d: %s\norder:", JB_OK, jb_words(JB_OK));
     for (size_t place = 0; place < JB_ROWS && order[place] != 0; place++) {
         printf(" %u", (unsigned)order[place]);
     }
     printf("\n");
 }
 
-static bool is_open(const jb_run *run, uint32_t row) {
-    return run->closing[row - 1] == 0;
-}
-
-static bool is_done(const jb_run *run, uint32_t row) {
-    return run->got[row - 1] == run->table.work[row - 1];
-}
-
 static bool any_open(const jb_run *run) {
-    for (uint32_t row = 1; row <= run->table.n; row++) {
-        if (is_open(run, row)) {
+    for (uint32_t row = 1; row <= run->table.n && row <= JB_ROWS; row++) {
+        if (jb_is_open(run, row)) {
             return true;
         }
     }
@@ -85,7 +61,7 @@ static bool any_open(const jb_run *run) {
 }
 
 static const char *closing_word(const jb_run *run, uint32_t row) {
-    return is_done(run, row) ? "done" : "dropped";
+    return jb_is_done(run, row) ? "done" : "dropped";
 }
 
 /* The supply of a slot, in work units. */
@@ -109,8 +85,8 @@ static void print_slot_end(const jb_run *run, uint32_t row, uint32_t supply) {
     printf(", supply %" PRIu32 " work units", supply);
     if (row != 0) {
         printf(", got %" PRIu32 " of %" PRIu32 " work units", run->got[row - 1], run->table.work[row - 1]);
-        if (!is_open(run, row)) {
-            printf(", %s at %" PRIu32, closing_word(run, row), run->closing[row - 1]);
+        if (!jb_is_open(run, row)) {
+            printf(", %s at clock %" PRIu32, closing_word(run, row), run->closing[row - 1]);
         }
     }
     printf("\n");
@@ -134,15 +110,15 @@ static uint32_t run_slot(jb_run *run, const supplies *from) {
 }
 
 static const char *deadline_word(const jb_run *run, uint32_t row) {
-    if (!is_done(run, row)) {
+    if (!jb_is_done(run, row)) {
         return "not kept";
     }
-    return run->closing[row - 1] <= run->table.deadline[row - 1] ? "kept" : "late";
+    return jb_is_late(run, row) ? "late" : "kept";
 }
 
 static void print_summary(const jb_run *run) {
-    for (uint32_t row = 1; row <= run->table.n; row++) {
-        printf("row %" PRIu32 ": %s at %" PRIu32 ", deadline %" PRIu32 ", %s\n", row, closing_word(run, row),
+    for (uint32_t row = 1; row <= run->table.n && row <= JB_ROWS; row++) {
+        printf("row %" PRIu32 ": %s at clock %" PRIu32 ", deadline %" PRIu32 " slots, %s\n", row, closing_word(run, row),
                run->closing[row - 1], run->table.deadline[row - 1], deadline_word(run, row));
     }
 }
@@ -184,7 +160,7 @@ static int plan_and_run(const uint8_t *sheet, size_t length, const uint32_t *sup
     return run_until_closed(&run, &from);
 }
 
-/* Fills sheet with at most one byte more than the longest sheet, which is enough to refuse a longer one. */
+/* Fills sheet with one byte above the longest sheet at most, which is enough to refuse a longer one. */
 static bool read_file(const char *name, uint8_t sheet[JB_PROGRAM_INPUT], size_t *length) {
     FILE *file = strcmp(name, "-") == 0 ? stdin : fopen(name, "rb");
     if (file == NULL) {
@@ -227,6 +203,9 @@ int main(int argc, char **argv) {
     size_t length;
     size_t count = argc > 2 ? (size_t)argc - 2 : 0;
     const char *name = argc > 1 ? argv[1] : "-";
+    if (!jb_fits()) {
+        return not_usable("another interface than this program's has", "libjasminebrace.a");
+    }
     uint32_t *supplied = (uint32_t *)calloc(count + 1, sizeof *supplied);
     if (supplied == NULL) {
         return not_usable("no memory for the supplies of", name);

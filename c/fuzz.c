@@ -463,6 +463,71 @@ static void try_forward(void) {
     }
 }
 
+/* The planner's number for a table of n such rows. */
+static uint32_t number_of(uint32_t n, uint32_t normal, uint32_t degraded, jb_row row) {
+    jb_table table;
+    uint8_t order[JB_ROWS];
+    uint64_t left;
+    memset(&table, 0, sizeof table);
+    table.n = n;
+    table.normal = normal;
+    table.degraded = degraded;
+    for (uint32_t index = 0; index < n && index < JB_ROWS; index++) {
+        table.release[index] = row.release;
+        table.work[index] = row.work;
+        table.deadline[index] = row.deadline;
+        table.level[index] = row.level;
+    }
+    return jb_plan_table(&table, order, &left);
+}
+
+/* The header's limits are the library's: a figure at its limit is taken, and one past it is refused. */
+static void try_limits(void) {
+    const uint32_t last = JB_LAST_DEADLINE;
+    expect(number_of(1, 1, 1, (jb_row){0, 1, last, JB_LO}) == JB_OK, "one row, speeds of 1, the latest deadline");
+    expect(number_of(1, 1, 1, (jb_row){0, 1, last + 1, JB_LO}) == JB_ROW_LIMITS, "a later deadline");
+    expect(number_of(1, 1, 1, (jb_row){last - 1, 1, last, JB_HI}) == JB_OK, "the latest release");
+    expect(number_of(1, 1, 1, (jb_row){last, 1, last, JB_HI}) == JB_ROW_LIMITS, "a release at the deadline");
+    expect(number_of(1, 1, 1, (jb_row){0, 1, 1, JB_HI + 1}) == JB_ROW_LIMITS, "a level above HI");
+    expect(number_of(1, 1, 1, (jb_row){0, JB_MOST_WORK, last, JB_HI}) == JB_OK, "the largest work");
+    expect(number_of(1, 2, 2, (jb_row){0, JB_MOST_WORK + 1, last, JB_HI}) == JB_ROW_LIMITS, "a larger work");
+    expect(number_of(1, 1, 1, (jb_row){0, 0, last, JB_HI}) == JB_ROW_LIMITS, "no work");
+    expect(number_of(1, JB_MOST_SPEED, JB_MOST_SPEED, (jb_row){0, 1, 1, JB_LO}) == JB_OK, "the largest speeds");
+    expect(number_of(1, JB_MOST_SPEED + 1, 1, (jb_row){0, 1, 1, JB_LO}) == JB_SPEEDS, "a larger speed");
+    expect(number_of(1, 1, 2, (jb_row){0, 1, 1, JB_LO}) == JB_SPEEDS, "G above N");
+    expect(number_of(1, 1, 0, (jb_row){0, 1, 1, JB_LO}) == JB_SPEEDS, "no G");
+    expect(number_of(JB_ROWS, 1, 1, (jb_row){0, 1, JB_ROWS, JB_LO}) == JB_OK, "the most rows");
+    expect(number_of(JB_ROWS + 1, 1, 1, (jb_row){0, 1, JB_ROWS, JB_LO}) == JB_ROW_COUNT, "one row more");
+    expect(number_of(0, 1, 1, (jb_row){0, 1, 1, JB_LO}) == JB_ROW_COUNT, "no row");
+    /* At G 1 and N 2 a LO row of four work units is dropped after two slots and a HI row takes all four. */
+    expect(number_of(1, 2, 1, (jb_row){0, 4, 2, JB_LO}) == JB_OK, "LO is tried at N");
+    expect(number_of(1, 2, 1, (jb_row){0, 4, 2, JB_HI}) == JB_NO_ORDER, "HI is tried at G");
+}
+
+/* The numbers that try_limits does not meet, and verdicts on a list of the most rows whose last is the tightest. */
+static void try_numbers(void) {
+    static const uint8_t sheet[] = "       1       1       x\n";
+    jb_table table;
+    expect(jb_read_table(sheet, 24, &table) == JB_LENGTH, "24 bytes");
+    expect(jb_read_table(sheet, 25, &table) == JB_MALFORMED, "a letter in a field");
+    jb_row rows[JB_ROWS];
+    uint8_t order[JB_ROWS];
+    uint32_t yes, row;
+    int32_t slack;
+    for (uint32_t index = 0; index < JB_ROWS; index++) {
+        rows[index] = (jb_row){0, 1, 2 * JB_ROWS, JB_HI};
+        order[index] = (uint8_t)(index + 1);
+    }
+    for (int32_t spare = -2; spare <= 2; spare++) {
+        rows[JB_ROWS - 1].deadline = (uint32_t)(JB_ROWS + spare);
+        expect(jb_judge_list(rows, JB_ROWS, 1, 1, order, &yes, &row, &slack) == JB_OK, "a list of the most rows");
+        expect(yes == (spare >= 0) && row == JB_ROWS && slack == spare, "the last row has the least slack");
+    }
+    order[0] = 0;
+    expect(jb_judge_list(rows, JB_ROWS, 1, 1, order, &yes, &row, &slack) == JB_NOT_AN_ORDER, "a row is missing");
+    expect(yes == 0 && row == 0 && slack == 0, "all zero on a refusal");
+}
+
 static void make_buffers(void) {
     input_at = new_buffer(LONGEST_INPUT);
     table_at = new_buffer(sizeof(jb_table));
@@ -495,6 +560,8 @@ int main(int argc, char **argv) {
     unsigned long rounds = argc > 1 ? strtoul(argv[1], NULL, 10) : DEFAULT_ROUNDS;
     seed = argc > 2 ? strtoull(argv[2], NULL, 10) : 1;
     make_buffers();
+    try_limits();
+    try_numbers();
     for (unsigned long round = 0; round < rounds; round++) {
         try_read();
         fill_lent();

@@ -1,17 +1,64 @@
 /*
- * Jasminebrace: priority orders for a processor that cannot see its own speed.
- * C11 and C++11 or later. Link libjasminebrace.a; nothing else is needed.
+ * Jasminebrace: priority orders for a processor whose speed varies unseen.
+ * C11 and C++11 or later, hosted or freestanding.
  *
- * Words and units. A job is a row; rows count from 1. Slot t is the time from
- * t to t + 1. Clocks, releases, deadlines, needs, finishes, slacks and closing
- * slots are in slots. Work is in work units. Speeds and supplies are in work
- * units per slot. A row's need is its work divided by the speed, rounded up.
+ * Link libjasminebrace.a, which `rt staticlib jasminebrace` writes. It is for
+ * x86-64 and the System V calling convention, as Linux has it, and for no other
+ * processor or convention. It has no writable globals, allocates nothing and
+ * calls nothing but these functions of the C library, which a freestanding
+ * program provides itself:
+ *     memcpy memset
+ *
+ * Words and units. A job is a row; the topmost row is row 1. Slot t begins at
+ * clock t and ends at clock t + 1. Clocks, releases, deadlines, needs, finishes,
+ * slacks and closing slots are in slots. Work is in work units. Speeds and
+ * supplies are in work units per slot. A row's need is its work divided by the
+ * speed, rounded up.
  *
  * Memory. Every pointer points to memory of the size that its parameter names,
- * aligned for its type, and is not null, not even where a length is 0. Memory
- * that a call writes does not overlap other memory handed to the same call.
- * Results are written whole with every answer, refusals included, so that their
- * memory need not be cleared before. What is lent as const is never written.
+ * aligned for its type. It is not null, but for one case: the functions of the
+ * last part take a null list where its length is 0; the archive's own do not.
+ * Memory that a call writes does not overlap other memory handed to the same
+ * call. What is lent as const is never written. Results are written whole with
+ * every answer, so that their memory need not be cleared before; what stands in
+ * them after a refusal is said at each function.
+ *
+ * Threads and interrupts. A call touches what it is handed and its own stack,
+ * and nothing else. Calls on different memory may run at the same time, and so
+ * may calls that are lent the same memory as const. A record is written by one
+ * call at a time; nothing here locks it.
+ *
+ * Stack, in bytes, without what the caller lends. It is measured, over tables of
+ * 1 and 64 rows, and not proved: the most that each call took, and some bytes
+ * more (512 stands for less); docs/BENCHMARKS.md says how:
+ *     jb_read          5,632
+ *     jb_plan          8,448
+ *     jb_judge         5,888
+ *     jb_judge_rows    7,680
+ *     jb_finishes      4,608
+ *     jb_fresh         4,096
+ *     jb_coming        9,216
+ *     jb_slot          9,984
+ *     jb_forward      11,008
+ *     jb_program      12,800
+ *     jb_version         512
+ * The functions of the last part add the few words of their own frame.
+ *
+ * Bare boards. The archive's code uses xmm registers by SSE and SSE2
+ * instructions, and no x87, MMX or AVX. SSE must be enabled before the first
+ * call: CR0.EM and CR0.TS clear, CR4.OSFXSR set. A handler that interrupts a
+ * call saves and restores the xmm registers if it, or what it calls, uses them.
+ * A handler that calls these functions saves and restores whatever the
+ * convention lets a call change: all xmm registers too. Each call needs a stack
+ * aligned to 16 bytes and a clear direction flag, as the convention asks: a
+ * handler sees to both before it calls. The archive's code keeps nothing below
+ * the stack pointer: it does not use the red zone of 128 bytes. The convention
+ * allows it to your memcpy and memset and to your own code: if they use it, a
+ * handler that interrupts them needs a stack of its own; if they do not (gcc
+ * -mno-red-zone), it may run on theirs.
+ * The stack figures were measured with Linux's memcpy and memset and hold no
+ * frames of interrupts: add yours. tools/firmware_test.sh looks through the
+ * archive's code for what is said here of registers and the red zone.
  *
  * Use the functions over jb_table and jb_run in the last part. The functions
  * before them are what the archive exports, on bare arrays.
@@ -19,16 +66,28 @@
 #ifndef JASMINEBRACE_H
 #define JASMINEBRACE_H
 
-#include <assert.h>
 #include <stddef.h>
 #include <stdint.h>
+
+/*
+ * The number of the interface that this header describes: sizes, layouts and
+ * what the numbers mean. It is raised whenever one of them changes. jb_fits()
+ * says whether the archive that was linked is of the same number.
+ */
+#define JB_VERSION 1u
+
+#ifdef __cplusplus
+#define JB_STATIC_ASSERT(condition, words) static_assert(condition, words)
+#else
+#define JB_STATIC_ASSERT(condition, words) _Static_assert(condition, words)
+#endif
 
 #ifdef __cplusplus
 extern "C" {
 #endif
 
 /* Sizes and limits. */
-enum {
+enum jb_limit {
     JB_ROWS = 64,              /* most rows in a table; entries in every column */
     JB_MOST_SPEED = 1000,      /* largest N, in work units per slot */
     JB_MOST_WORK = 1000000,    /* largest work of a row, in work units */
@@ -36,31 +95,76 @@ enum {
     JB_LAST_CLOCK = 2000000,   /* the clock at which no slot is worked any more, in slots */
     JB_TABLE_WORDS = 259,      /* 32-bit words in a table */
     JB_STATE_WORDS = 193,      /* 32-bit words in the state of a run */
+    JB_FIELD = 8,              /* bytes in a field of a sheet */
+    JB_FIRST_LINE = 25,        /* bytes in a sheet's first line: n, N, G and byte 10 */
+    JB_ROW_LINE = 33,          /* bytes in the line of a row: release, work, deadline, level
+                                  and byte 10 */
     JB_LONGEST_SHEET = 2137,   /* bytes in a sheet of 64 rows: 25 + 33 for each row */
     JB_PROGRAM_INPUT = 2138,   /* bytes of its input that the planning program looks at */
     JB_PROGRAM_TEXT = 1617     /* most bytes that the planning program writes */
 };
 
 /* Levels of a row. */
-enum {
-    JB_LO = 0, /* dropped when it has used its need at N without being done */
+enum jb_level {
+    JB_LO = 0, /* dropped once its need at N is used up and work is still missing */
     JB_HI = 1  /* never dropped */
 };
 
-/* The number that every function but jb_program returns: what it means, and what to do about it. */
-enum {
+/*
+ * The number that a call returns. jb_words and jb_remedy say what each means and
+ * what to do about it. jb_program, jb_program_text and jb_version return no such
+ * number, and jb_judge_rows returns a word in which it is packed.
+ */
+enum jb_number {
     JB_OK = 0,           /* success */
-    JB_LENGTH = 1,       /* the sheet has under 25 bytes, or not 25 + 33 for each row: send the sheet whole, with nothing after it */
-    JB_MALFORMED = 2,    /* a field is no right-justified decimal number in 8 bytes, or a line end is not byte 10: write the sheet anew */
-    JB_ROW_COUNT = 3,    /* the row count is not 1 to 64: split the table, or give it a row */
-    JB_SPEEDS = 4,       /* N is not 1 to 1,000 or G is not 1 to N, in work units per slot: correct the speeds */
-    JB_ROW_LIMITS = 5,   /* a row has work not 1 to 1,000,000, a deadline over 1,000,000, a release not below its deadline or a level
-                            not 0 or 1, or a row after the last is not zero: correct that row */
-    JB_NOT_AN_ORDER = 6, /* the order does not hold each row once and zeros after: take the order that jb_plan_table gave for this table */
-    JB_NO_ORDER = 7,     /* no correct order exists: give the rows left later deadlines, less work or a faster processor */
-    JB_CLOCK_OVER = 8,   /* the clock is 2,000,000 and a supply remains: begin a new run with a fresh record */
-    JB_UNSOUND = 9       /* the record cannot come from a run, so its memory was damaged: drop it and begin with a fresh record */
+    JB_LENGTH = 1,       /* the sheet's length is wrong */
+    JB_MALFORMED = 2,    /* a field or a line end of the sheet is malformed */
+    JB_ROW_COUNT = 3,    /* the row count is beyond its limits */
+    JB_SPEEDS = 4,       /* a speed is beyond its limits */
+    JB_ROW_LIMITS = 5,   /* a row is beyond its limits, or figures stand after the last */
+    JB_NOT_AN_ORDER = 6, /* the order is no order of the table */
+    JB_NO_ORDER = 7,     /* no correct order exists */
+    JB_CLOCK_OVER = 8,   /* the clock is at its end, and no further slot is worked */
+    JB_UNSOUND = 9       /* the run record cannot come from a run */
 };
+
+/* What a number means, in words. The text lasts as long as the program. */
+static inline const char *jb_words(uint32_t number) {
+    switch (number) {
+    case JB_OK: return "success";
+    case JB_LENGTH: return "the sheet has under 25 bytes, or not 25 + 33 for each row";
+    case JB_MALFORMED: return "a field or a line end of the sheet is malformed";
+    case JB_ROW_COUNT: return "the row count is not 1 to 64";
+    case JB_SPEEDS: return "N is not 1 to 1,000, or G is not 1 to N (work units per slot)";
+    case JB_ROW_LIMITS:
+        return "a row has work not 1 to 1,000,000 work units, a deadline over 1,000,000 slots, a release not below its "
+               "deadline or a level not 0 or 1, or a row after the last is not zero";
+    case JB_NOT_AN_ORDER: return "the order does not name every row once and then only zeros";
+    case JB_NO_ORDER: return "no correct order exists";
+    case JB_CLOCK_OVER: return "the clock is 2,000,000 slots, and no further slot is worked";
+    case JB_UNSOUND: return "the run record cannot come from a run";
+    default: return "this number is never returned";
+    }
+}
+
+/* What to do about a number, in words. The text lasts as long as the program. */
+static inline const char *jb_remedy(uint32_t number) {
+    switch (number) {
+    case JB_OK: return "nothing needs to be done";
+    case JB_LENGTH: return "send the sheet whole, with nothing after it";
+    case JB_MALFORMED:
+        return "write each field as a decimal number right-justified in 8 bytes, with spaces before it and no leading "
+               "zero, and each line end as byte 10";
+    case JB_ROW_COUNT: return "split the table, or give it a row";
+    case JB_SPEEDS: return "correct the speeds";
+    case JB_ROW_LIMITS: return "correct the row";
+    case JB_NOT_AN_ORDER: return "give each row of the table once, highest place first";
+    case JB_NO_ORDER: return "give the rows left later deadlines or less work, or the processor more speed";
+    case JB_CLOCK_OVER: return "begin a new run with a fresh record";
+    case JB_UNSOUND: return "the record's memory was damaged: drop it and begin with a fresh record";
+    default: return "compare the header with the archive by jb_fits()";
+    }
+}
 
 /* A row by itself, for a list of rows. */
 typedef struct {
@@ -84,41 +188,52 @@ typedef struct {
 /* A run record: a table, an order of it, and how far its run has come. */
 typedef struct {
     jb_table table;
-    uint8_t order[JB_ROWS];    /* row numbers, highest place first, zeros after the last */
-    uint32_t clock;            /* slots worked, 0 to 2,000,000: the coming slot */
+    uint8_t order[JB_ROWS];    /* row numbers from the highest place down, then zeros */
+    uint32_t clock;            /* slots worked, 0 to 2,000,000 slots: the coming slot */
     uint32_t got[JB_ROWS];     /* work got by each row, in work units */
     uint32_t used[JB_ROWS];    /* slots used by each row */
     uint32_t closing[JB_ROWS]; /* closing slot of each row, 0 while it is open */
 } jb_run;
 
-static_assert(sizeof(jb_row) == 16, "a row is four words without gaps");
-static_assert(sizeof(jb_table) == 1036, "a table is 259 words without gaps");
-static_assert(sizeof(jb_table) == 4 * JB_TABLE_WORDS, "a table is 259 words without gaps");
-static_assert(offsetof(jb_table, n) == 0, "the row count is word 0 of a table");
-static_assert(offsetof(jb_table, normal) == 4, "N is word 1 of a table");
-static_assert(offsetof(jb_table, degraded) == 8, "G is word 2 of a table");
-static_assert(offsetof(jb_table, release) == 12, "the releases begin at word 3 of a table");
-static_assert(offsetof(jb_table, work) == 268, "the works begin at word 67 of a table");
-static_assert(offsetof(jb_table, deadline) == 524, "the deadlines begin at word 131 of a table");
-static_assert(offsetof(jb_table, level) == 780, "the levels begin at word 195 of a table");
-static_assert(sizeof(jb_run) == 1872, "a run record is 1,872 bytes without gaps");
-static_assert(offsetof(jb_run, table) == 0, "a run record begins with its table");
-static_assert(offsetof(jb_run, order) == 1036, "the order follows the table");
-static_assert(offsetof(jb_run, clock) == 1100, "the state follows the order");
-static_assert(offsetof(jb_run, got) == 1104, "the works got begin at word 1 of the state");
-static_assert(offsetof(jb_run, used) == 1360, "the slots used begin at word 65 of the state");
-static_assert(offsetof(jb_run, closing) == 1616, "the closing slots begin at word 129 of the state");
-static_assert(sizeof(jb_run) - offsetof(jb_run, clock) == 4 * JB_STATE_WORDS, "a state is 193 words without gaps");
+JB_STATIC_ASSERT(sizeof(jb_row) == 16, "a row is four words without gaps");
+JB_STATIC_ASSERT(sizeof(jb_table) == 1036, "a table is 259 words without gaps");
+JB_STATIC_ASSERT(sizeof(jb_table) == 4 * JB_TABLE_WORDS, "a table is 259 words without gaps");
+JB_STATIC_ASSERT(offsetof(jb_table, n) == 0, "the row count is word 0 of a table");
+JB_STATIC_ASSERT(offsetof(jb_table, normal) == 4, "N is word 1 of a table");
+JB_STATIC_ASSERT(offsetof(jb_table, degraded) == 8, "G is word 2 of a table");
+JB_STATIC_ASSERT(offsetof(jb_table, release) == 12, "the releases begin at word 3 of a table");
+JB_STATIC_ASSERT(offsetof(jb_table, work) == 268, "the works begin at word 67 of a table");
+JB_STATIC_ASSERT(offsetof(jb_table, deadline) == 524, "the deadlines begin at word 131 of a table");
+JB_STATIC_ASSERT(offsetof(jb_table, level) == 780, "the levels begin at word 195 of a table");
+JB_STATIC_ASSERT(sizeof(jb_run) == 1872, "a run record is 1,872 bytes without gaps");
+JB_STATIC_ASSERT(offsetof(jb_run, table) == 0, "a run record begins with its table");
+JB_STATIC_ASSERT(offsetof(jb_run, order) == 1036, "the order follows the table");
+JB_STATIC_ASSERT(offsetof(jb_run, clock) == 1100, "the state follows the order");
+JB_STATIC_ASSERT(offsetof(jb_run, got) == 1104, "the works got begin at word 1 of the state");
+JB_STATIC_ASSERT(offsetof(jb_run, used) == 1360, "the slots used begin at word 65 of the state");
+JB_STATIC_ASSERT(offsetof(jb_run, closing) == 1616, "the closing slots begin at word 129 of the state");
+JB_STATIC_ASSERT(sizeof(jb_run) - offsetof(jb_run, clock) == 4 * JB_STATE_WORDS, "a state is 193 words without gaps");
+JB_STATIC_ASSERT(JB_LONGEST_SHEET == JB_FIRST_LINE + JB_ROWS * JB_ROW_LINE, "the longest sheet has 64 rows");
+JB_STATIC_ASSERT(JB_PROGRAM_INPUT == JB_LONGEST_SHEET + 1, "the program looks at one byte above the longest sheet");
+JB_STATIC_ASSERT(JB_PROGRAM_TEXT == 17 + 25 * JB_ROWS, "a text is a first line of 17 bytes and 25 bytes for each place");
+
+#undef JB_STATIC_ASSERT
 
 /*
  * The functions of the archive, on bare arrays. table is the 259 words of a
  * jb_table, state the 193 words of a jb_run from its clock on. What each does
- * stands at the function over jb_table and jb_run that calls it.
+ * stands at the function over jb_table and jb_run that calls it. No pointer is
+ * null here, not even where a length is 0.
  */
 uint32_t jb_read(const uint8_t *sheet, size_t length, uint32_t table[259]);
 uint32_t jb_plan(const uint32_t table[259], uint8_t order[64], uint64_t *left);
 uint32_t jb_judge(const uint32_t table[259], const uint8_t order[64], uint32_t *yes, uint32_t *row, int32_t *slack);
+
+/* Returns no number but a packed word: the number in bits 0 to 3, yes in bit 4,
+   the row in bits 5 to 15 and the slack's 32 bits, two's complement, from bit 16
+   on. jb_judge_list takes it apart. */
 uint64_t jb_judge_rows(const jb_row *rows, size_t count, uint32_t normal, uint32_t degraded, const uint8_t order[64]);
+
 uint32_t jb_finishes(const uint32_t table[259], const uint8_t order[64], uint32_t finishes[64]);
 uint32_t jb_fresh(const uint32_t table[259], const uint8_t order[64], uint32_t run_table[259], uint8_t run_order[64],
                   uint32_t run_state[193]);
@@ -126,19 +241,19 @@ uint32_t jb_coming(const uint32_t table[259], const uint8_t order[64], const uin
 uint32_t jb_slot(const uint32_t table[259], const uint8_t order[64], uint32_t state[193], uint32_t supply, uint32_t *row);
 uint32_t jb_forward(const uint32_t table[259], const uint8_t order[64], uint32_t state[193], const uint32_t *supplies,
                     size_t count, uint32_t *worked);
+uint32_t jb_program(const uint8_t *input, size_t length, uint8_t text[1617]);
+
+/* The number of the archive's interface, for jb_fits. */
+uint32_t jb_version(void);
 
 /*
- * The planning program as a function: reads a sheet, plans it and writes what
- * the program writes, in 8-byte fields with byte 10 at each line's end.
- * In:      input, length bytes; any bytes, any length. Only the first 2,138
- *          bytes are looked at.
- * Out:     the length of the text in bytes, 17 to 1,617. text holds the text
- *          and zeros after it. Its first line is 0 and the row count, or the
- *          refusal's number and how many rows are left (0 unless 7). After 0
- *          comes a line for each place: place, row and slack in slots.
- * Refused: nothing; a refusal is the text's first line.
+ * 1 if the archive that was linked is the one that this header describes, else
+ * 0. Ask once before anything else: an archive of another number may write more
+ * than it is handed. One from before these numbers does not link.
  */
-uint32_t jb_program(const uint8_t *input, size_t length, uint8_t text[1617]);
+static inline int jb_fits(void) {
+    return jb_version() == JB_VERSION;
+}
 
 /* The words of a table. */
 static inline const uint32_t *jb_table_words(const jb_table *table) {
@@ -152,12 +267,29 @@ static inline uint32_t *jb_state_words(jb_run *run) {
 
 /*
  * Reads a sheet into a table.
- * In:      sheet, length bytes; any bytes, any length.
+ * In:      sheet, length bytes; any bytes, any length; null is allowed with 0.
  * Out:     0, and table holds the sheet's table.
  * Refused: 1, 2, 3, 4 or 5; table is then all zero.
  */
 static inline uint32_t jb_read_table(const uint8_t *sheet, size_t length, jb_table *table) {
-    return jb_read(sheet, length, (uint32_t *)(void *)table);
+    const uint8_t none = 0;
+    return jb_read(length == 0 ? &none : sheet, length, (uint32_t *)(void *)table);
+}
+
+/*
+ * The planning program as a function: reads a sheet, plans it and writes what
+ * the program writes, in 8-byte fields with byte 10 at each line's end.
+ * In:      input, length bytes; any bytes, any length; null is allowed with 0. Only
+ *          the first 2,138 bytes are looked at.
+ * Out:     the length of the text in bytes, 17 to 1,617. text holds the text
+ *          and zeros after it. Its first line is 0 and the row count, or a
+ *          refusal's number and the count of rows left, which is 0 but for 7.
+ *          After 0 comes a line for each place: place, row and slack in slots.
+ * Refused: nothing; a refusal is the text's first line.
+ */
+static inline uint32_t jb_program_text(const uint8_t *input, size_t length, uint8_t text[JB_PROGRAM_TEXT]) {
+    const uint8_t none = 0;
+    return jb_program(length == 0 ? &none : input, length, text);
 }
 
 /*
@@ -165,8 +297,8 @@ static inline uint32_t jb_read_table(const uint8_t *sheet, size_t length, jb_tab
  * every row keeps its deadline whenever every slot supplies at least N work
  * units, and every HI row whenever every slot supplies at least G.
  * In:      table, any values.
- * Out:     0, and order holds row numbers, highest place first, zeros after
- *          the last; left is 0.
+ * Out:     0, and order holds row numbers from the highest place down, then
+ *          zeros; left is 0.
  * Refused: 7 if no correct order exists: order is all zero, and left holds the
  *          rows left to place, row 1 in the lowest bit.
  *          3, 4 or 5 for the table: order is all zero and left is 0.
@@ -191,16 +323,18 @@ static inline uint32_t jb_judge_order(const jb_table *table, const uint8_t order
 
 /*
  * Judges an order of rows that stand in a list, as many as there are.
- * In:      count rows, the speeds in work units per slot, and an order, any values.
+ * In:      count rows (null is allowed with 0), the speeds in work units per slot,
+ *          and an order, any values.
  * Out:     as jb_judge_order.
  * Refused: as jb_judge_order; an empty list, and one of more than 64 rows, by 3.
  */
 static inline uint32_t jb_judge_list(const jb_row *rows, size_t count, uint32_t normal, uint32_t degraded,
                                      const uint8_t order[JB_ROWS], uint32_t *yes, uint32_t *row, int32_t *slack) {
-    const uint64_t packed = jb_judge_rows(rows, count, normal, degraded, order);
+    const jb_row none = {0, 0, 0, 0};
+    const uint64_t packed = jb_judge_rows(count == 0 ? &none : rows, count, normal, degraded, order);
     const uint32_t bits = (uint32_t)(packed >> 16);
     *yes = (uint32_t)(packed >> 4 & 1);
-    *row = (uint32_t)(packed >> 5 & 255);
+    *row = (uint32_t)(packed >> 5 & 2047);
     *slack = bits <= INT32_MAX ? (int32_t)bits : -(int32_t)(UINT32_MAX - bits) - 1;
     return (uint32_t)(packed & 15);
 }
@@ -219,9 +353,11 @@ static inline uint32_t jb_worst_finishes(const jb_table *table, const uint8_t or
 
 /*
  * Makes a fresh run record: clock 0, nothing got, used or closed.
- * In:      table and order, any values. table is not run's own table.
+ * In:      table and order, any values. Neither is run's own, since run is
+ *          written: to begin a run again, hand in copies of its table and order.
  * Out:     0, and run holds the fresh record of table and order.
- * Refused: 3, 4 or 5 for the table, 6 for the order; run is then all zero.
+ * Refused: 3, 4 or 5 for the table, 6 for the order; run is then all zero, and
+ *          what stood in it is lost.
  */
 static inline uint32_t jb_fresh_run(const jb_table *table, const uint8_t order[JB_ROWS], jb_run *run) {
     return jb_fresh(jb_table_words(table), order, (uint32_t *)(void *)&run->table, run->order, jb_state_words(run));
@@ -233,7 +369,8 @@ static inline uint32_t jb_fresh_run(const jb_table *table, const uint8_t order[J
  * the same number and row whatever the supply.
  * In:      run, any values.
  * Out:     0, and row is the row that slot run->clock runs, 0 for an idle slot.
- * Refused: 9 if the record is unsound, else 8 at clock 2,000,000; row is then 0.
+ * Refused: 9 if the record is unsound, else 8 at clock 2,000,000 slots; row is
+ *          then 0.
  */
 static inline uint32_t jb_coming_row(const jb_run *run, uint32_t *row) {
     return jb_coming(jb_table_words(&run->table), run->order,
@@ -246,8 +383,8 @@ static inline uint32_t jb_coming_row(const jb_run *run, uint32_t *row) {
  *          4,294,967,295.
  * Out:     0; row is the row run, 0 for an idle slot; run is the record after
  *          the slot, its clock 1 slot later.
- * Refused: 9 if the record is unsound, else 8 at clock 2,000,000; row is then 0
- *          and run is as it was.
+ * Refused: 9 if the record is unsound, else 8 at clock 2,000,000 slots; row is
+ *          then 0 and run is as it was.
  */
 static inline uint32_t jb_work_slot(jb_run *run, uint32_t supply, uint32_t *row) {
     return jb_slot(jb_table_words(&run->table), run->order, jb_state_words(run), supply, row);
@@ -256,15 +393,52 @@ static inline uint32_t jb_work_slot(jb_run *run, uint32_t supply, uint32_t *row)
 /*
  * Works a run forward over a list of supplies, one slot for each in turn.
  * In:      run, any values; supplies, count figures in work units per slot,
- *          each 0 to 4,294,967,295.
+ *          each 0 to 4,294,967,295; null is allowed with count 0.
  * Out:     0; worked is count; run is the record after those slots. With count
  *          0 nothing changes and worked is 0.
  * Refused: 9 if the record is unsound: run is as it was and worked is 0.
- *          8 if the clock reaches 2,000,000 with a supply left: run is the
- *          record at that clock and worked the slots worked until then.
+ *          8 if the clock reaches 2,000,000 slots with a supply left: the slots
+ *          until then are worked and stay so. run is the record at that clock
+ *          and worked says how many supplies were taken.
  */
 static inline uint32_t jb_work_forward(jb_run *run, const uint32_t *supplies, size_t count, uint32_t *worked) {
-    return jb_forward(jb_table_words(&run->table), run->order, jb_state_words(run), supplies, count, worked);
+    const uint32_t none = 0;
+    return jb_forward(jb_table_words(&run->table), run->order, jb_state_words(run), count == 0 ? &none : supplies, count,
+                      worked);
+}
+
+/*
+ * Where a row of a run stands: 1 for yes, 0 for no. A row that the table has is
+ * exactly one of open, done and dropped, and may be late besides. All four
+ * answer 0 for a row that the table does not have: for row 0, for a row above
+ * run->table.n, and for any row above 64.
+ */
+static inline int jb_has_row(const jb_run *run, uint32_t row) {
+    return row >= 1 && row <= run->table.n && row <= JB_ROWS;
+}
+
+/* The row is not closed: it has neither got its work nor been dropped. */
+static inline int jb_is_open(const jb_run *run, uint32_t row) {
+    return jb_has_row(run, row) && run->closing[row - 1] == 0;
+}
+
+/* The row is closed and has got all its work, before its deadline or after it. */
+static inline int jb_is_done(const jb_run *run, uint32_t row) {
+    return jb_has_row(run, row) && run->closing[row - 1] != 0 && run->got[row - 1] == run->table.work[row - 1];
+}
+
+/* The row is closed without all its work. Only LO rows are dropped. */
+static inline int jb_is_dropped(const jb_run *run, uint32_t row) {
+    return jb_has_row(run, row) && run->closing[row - 1] != 0 && run->got[row - 1] != run->table.work[row - 1];
+}
+
+/*
+ * The row is done after its deadline, or is still open at a clock that has
+ * reached its deadline. A dropped row is not late: it is never done.
+ */
+static inline int jb_is_late(const jb_run *run, uint32_t row) {
+    return (jb_is_done(run, row) && run->closing[row - 1] > run->table.deadline[row - 1]) ||
+           (jb_is_open(run, row) && run->clock >= run->table.deadline[row - 1]);
 }
 
 #ifdef __cplusplus

@@ -1,35 +1,33 @@
-//! The two run calls on paper. They are "fed table, order and the calls with
-//! their supplies, and nothing from the record".
+//! The two run calls on paper. They never look into a record (rule 9.6).
 
 use crate::order::Order;
 use crate::run::{step, State};
 use crate::table::Table;
 
-/// The clock at which no further slot is worked, in slots ("At clock 2,000,000
-/// a supply is refused and nothing changes").
+/// The clock at which no further slot is worked, in slots (rule 8.13).
 pub const LAST_CLOCK: u32 = 2_000_000;
 
-/// "The two run calls are working one slot and the second entry." Supplies are
-/// in work units per slot, "each 0 to 4,294,967,295".
+/// A run call (rule 9.5). Supplies are in work units, any number of 32 bits
+/// (rule 8.11).
 #[derive(Clone, Debug, PartialEq, Eq)]
 pub enum Call {
-    /// Working one slot with this supply.
+    /// One slot with this supply (rule 8.9).
     OneSlot(u32),
-    /// The second entry: forward over this list of supplies.
+    /// Forward, the second entry, over these supplies (rule 8.10).
     Forward(Vec<u32>),
 }
 
 /// What a call answers: its number and the row run or the slots worked.
 #[derive(Clone, Copy, Debug, PartialEq, Eq)]
 pub enum Answer {
-    /// Working one slot answers a number and the row run, 0 for idle.
+    /// One slot answers a number and its row, 0 for idle (rule 9.7).
     OneSlot { number: u32, row: u8 },
-    /// The second entry answers a number and how many slots were worked.
+    /// Forward answers a number and its count of slots (rule 9.8).
     Forward { number: u32, worked: u32 },
 }
 
-/// "Working one slot is one step: number 0 and the row run, 0 for idle." At
-/// clock 2,000,000 "one slot gives 8 and row 0".
+/// One slot: a single step, with number 0 and its row. At the last clock it has
+/// number 8 and row 0, and the state stays (rule 9.7).
 pub fn one_slot_on_paper(
     table: &Table,
     order: &Order,
@@ -42,9 +40,8 @@ pub fn one_slot_on_paper(
     (0, step(table, order, state, supply))
 }
 
-/// "The second entry makes a step for each supply in turn: number 0 and how
-/// many steps." At clock 2,000,000 it "stops with 8 and the steps it made
-/// before".
+/// Forward: as many steps as supplies, with number 0 and that count. A supply
+/// at the last clock ends it with number 8 and the count so far (rule 9.8).
 pub fn forward_on_paper(
     table: &Table,
     order: &Order,
@@ -63,7 +60,7 @@ pub fn forward_on_paper(
 }
 
 /// The whole list of calls on paper from the fresh state: every answer in turn
-/// and the state at the end.
+/// and the state at the end (rules 9.5 and 9.6).
 pub fn play_on_paper(table: &Table, order: &Order, calls: &[Call]) -> (Vec<Answer>, State) {
     let mut state = State::FRESH;
     let mut answers = Vec::new();

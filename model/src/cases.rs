@@ -1,5 +1,5 @@
-//! The tables and answers of document 01's cases, for tests here and of the
-//! compiled library.
+//! The tables and answers of cases P1 to P4 (section 13 of the rules), for tests
+//! here and of the compiled library.
 
 use crate::order::{order_of, NO_ORDER};
 use crate::plan::Plan;
@@ -22,7 +22,7 @@ pub fn table(normal: u32, degraded: u32, rows: &[[u32; 4]]) -> Table {
     Table::of(normal, degraded, &rows)
 }
 
-/// Case P1 of document 01.
+/// Case P1 (rule 13.1).
 pub fn p1() -> Table {
     table(
         5,
@@ -31,7 +31,7 @@ pub fn p1() -> Table {
     )
 }
 
-/// Case P2 of document 01.
+/// Case P2 (rule 13.2).
 pub fn p2() -> Table {
     table(
         4,
@@ -40,12 +40,12 @@ pub fn p2() -> Table {
     )
 }
 
-/// Case P3 of document 01; P7 and P8 run it.
+/// Case P3 (rule 13.3); P7 and P8 run it.
 pub fn p3() -> Table {
     table(2, 1, &[[0, 2, 2, 0], [0, 4, 4, 1]])
 }
 
-/// Case P4 of document 01.
+/// Case P4 (rule 13.4).
 pub fn p4() -> Table {
     table(2, 1, &[[0, 20, 20, 1], [0, 18, 18, 0]])
 }
@@ -68,7 +68,7 @@ pub fn no_order(left: u64) -> Plan {
     }
 }
 
-/// What the planning program writes for P1.
+/// What the planning program writes for P1 (rule 13.10).
 pub const P1_TEXT: &str = concat!(
     "       0       4\n",
     "       1       1       0\n",

@@ -1,11 +1,11 @@
-//! The judge of orders.
+//! The judge of orders (section 7 of the rules).
 
 use crate::order::{check_table_and_order, Order};
 use crate::plan::slack;
 use crate::table::{Row, Table, ROWS};
 
-/// The judge's answer: "yes or no, the row of least slack (lower row on a tie)
-/// and that slack". A refusal (3 to 6) is all zero: no, row 0, slack 0.
+/// The judge's answer: the verdict and the tightest row with its slack (rules
+/// 7.2 and 7.3). A refusal (3 to 6) is all zero: no, row 0, slack 0 (rule 7.4).
 #[derive(Clone, Copy, Debug, PartialEq, Eq)]
 pub struct Verdict {
     pub number: u32,
@@ -15,8 +15,8 @@ pub struct Verdict {
     pub slack: i64,
 }
 
-/// "The judge borrows the rows as a list of records. The list's length is n."
-/// Speeds are in work units per slot.
+/// The judge over a list of rows, whose length is n (rule 7.1). Speeds are in
+/// work units per slot.
 pub fn judge(normal: u32, degraded: u32, rows: &[Row], order: &Order) -> Verdict {
     if rows.len() > ROWS {
         return refused(3);
@@ -24,8 +24,8 @@ pub fn judge(normal: u32, degraded: u32, rows: &[Row], order: &Order) -> Verdict
     judge_table(&Table::of(normal, degraded, rows), order)
 }
 
-/// The judge on a table: it checks 3, 4, 5, then 6, and "says yes exactly if the
-/// order is correct", which is that no slack is below zero.
+/// The judge on a table: the checks of table and order (rule 11.4), then yes if
+/// no slack is below zero, which holds of correct orders alone (rule 7.2).
 pub fn judge_table(table: &Table, order: &Order) -> Verdict {
     let refusal = check_table_and_order(table, order);
     if refusal != 0 {

@@ -1,10 +1,12 @@
-//! Reference model of the priority planner for a processor that cannot see
+//! Reference model of the priority planner, for a processor that is blind to
 //! its own speed.
 //!
-//! Everything here states a sentence of document 01, slot by slot, in the most
-//! direct way. Nothing is made fast by theory: a worst finish is found by
+//! Everything here states a rule of docs/RULES.md, slot by slot, in the most
+//! direct way, and cites its number. Nothing is made fast by theory: a worst finish is found by
 //! working every slot up to it. Compiled code is compared with this model, so
-//! a line that needs an argument to be believed does not belong here.
+//! a line that needs an argument to be believed does not belong here. The one
+//! exception is `plain`, which finds worst finishes by one sweep: the tests of the
+//! compiled library compare it with the other modules, and none of them uses it.
 //!
 //! Units: clocks, releases, deadlines, needs, finishes, slacks and closing
 //! slots are in slots; work is in work units; speeds and supplies are in work
@@ -20,14 +22,18 @@
 //! | `plan`    | worst finish, slack, the planner's choice                    |
 //! | `judge`   | the judge of orders                                          |
 //! | `sheet`   | the sheet's fields, its reader, and a writer for tests       |
+//! | `place`   | where a refused sheet is at fault                           |
 //! | `program` | the planning program from input bytes to output bytes        |
-//! | `cases`   | the tables and answers of document 01's cases                |
+//! | `cases`   | the tables and answers of cases P1 to P4                     |
 //! | `random`  | a fixed-seed generator of numbers and tables for tests       |
+//! | `plain`   | the same answers by one sweep, for large tables and measures |
 
 pub mod calls;
 pub mod cases;
 pub mod judge;
 pub mod order;
+pub mod place;
+pub mod plain;
 pub mod plan;
 pub mod program;
 pub mod random;

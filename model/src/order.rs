@@ -1,12 +1,12 @@
-//! Orders by value, and the check on them (6).
+//! Orders by value, and the check on them (rules 5.6, 5.7 and 10.6).
 
 use crate::table::{check_table, Table, ROWS};
 
-/// "An order goes in and comes back by value as sixty-four small numbers,
-/// highest place first, zeros after the last."
+/// An order: row numbers from the highest place to the lowest, then zeros, in
+/// sixty-four bytes (rule 5.6).
 pub type Order = [u8; ROWS];
 
-/// The order of zeros that comes with every refusal.
+/// The order of zeros that comes with every refusal (rule 10.7).
 pub const NO_ORDER: Order = [0; ROWS];
 
 /// The order that holds these rows, highest place first, zeros after them.
@@ -16,8 +16,8 @@ pub fn order_of(rows: &[u8]) -> Order {
     order
 }
 
-/// Check 6 for a table of n rows (1 to 64): 6 if "the order does not hold each
-/// row once, zeros after", else 0.
+/// Check 6 for a table of n rows (1 to 64): 0 if each row is among the first n
+/// numbers once and the others are 0, else 6 (rule 5.7).
 pub fn check_order(n: u32, order: &Order) -> u32 {
     let (places, after) = order.split_at(n as usize);
     let each_row_once = (1..=n).all(|row| {
@@ -35,7 +35,8 @@ pub fn check_order(n: u32, order: &Order) -> u32 {
     }
 }
 
-/// "Calls that take a table check 3, 4, 5, then 6": 0 or the first refusal.
+/// The checks of a table and then of the order: 0 or the first refusal (rule
+/// 11.4).
 pub fn check_table_and_order(table: &Table, order: &Order) -> u32 {
     match check_table(table) {
         0 => check_order(table.n, order),

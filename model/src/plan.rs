@@ -4,8 +4,8 @@ use crate::order::{order_of, Order, NO_ORDER};
 use crate::run::{step, State};
 use crate::table::{check_table, Table, HI, LO};
 
-/// The speed of a row's own worst run, in work units per slot: "exactly N (LO)
-/// or exactly G (HI) in each slot".
+/// What each slot of a row's worst run supplies, in work units: N for a LO row,
+/// G for a HI row (rule 3.5).
 pub fn worst_speed(table: &Table, row: u8) -> u32 {
     if table.row(row).level == LO {
         table.normal
@@ -14,10 +14,9 @@ pub fn worst_speed(table: &Table, row: u8) -> u32 {
     }
 }
 
-/// "A job's worst finish under an order is its finish in the run that supplies
-/// exactly N (LO) or exactly G (HI) in each slot, however long that lasts." In
-/// slots; the run goes slot by slot until the row is closed. The table is
-/// accepted and the order is one of its orders.
+/// A row's closing slot in its worst run (rule 3.6). The run is worked slot by
+/// slot until the row is closed (rule 3.5). The table is accepted and the order
+/// is one of its orders.
 pub fn worst_finish(table: &Table, order: &Order, row: u8) -> u32 {
     let supply = worst_speed(table, row);
     let index = row as usize - 1;
@@ -28,13 +27,13 @@ pub fn worst_finish(table: &Table, order: &Order, row: u8) -> u32 {
     state.closing[index]
 }
 
-/// "Its slack is d less that finish, below zero when late." In slots.
+/// Deadline minus worst finish, in slots (rule 3.7).
 pub fn slack(table: &Table, order: &Order, row: u8) -> i64 {
     i64::from(table.row(row).deadline) - i64::from(worst_finish(table, order, row))
 }
 
-/// The rows of `left` as they are tried at one place: "LO by falling deadline,
-/// then HI by falling deadline, equal deadlines by lower row first."
+/// The rows of `left` as they are tried at one place: first those at LO, then
+/// those at HI (rule 4.3).
 pub fn trial_sequence(table: &Table, left: &[u8]) -> Vec<u8> {
     let mut sequence = by_falling_deadline(table, left, LO);
     sequence.extend(by_falling_deadline(table, left, HI));
@@ -42,7 +41,7 @@ pub fn trial_sequence(table: &Table, left: &[u8]) -> Vec<u8> {
 }
 
 /// The rows of `left` at this level, latest deadline first, lower row first
-/// among equals.
+/// among equals (rule 4.3).
 fn by_falling_deadline(table: &Table, left: &[u8], level: u32) -> Vec<u8> {
     let mut waiting: Vec<u8> = left
         .iter()
@@ -77,38 +76,38 @@ pub fn trial_order(left: &[u8], placed: &[u8], row: u8) -> Order {
     order_of(&places)
 }
 
-/// A trial: does the row meet "its deadline in its own worst run, with all other
-/// remaining rows above it"? `left` holds the remaining rows with the row
-/// itself, `placed` the rows that have their places, highest first.
+/// A trial: does the row finish in time, below every other row left (rule 4.4)?
+/// `left` holds the rows left with the row itself, `placed` the rows that have
+/// their places, highest first.
 pub fn passes_lowest(table: &Table, left: &[u8], placed: &[u8], row: u8) -> bool {
     slack(table, &trial_order(left, placed, row), row) >= 0
 }
 
-/// The planner's answer: 0 with an order; 7 with "order of zeros, rows left";
-/// 3 to 5 with all zero.
+/// The planner's answer: 0 with an order (rule 10.0), 7 with the rows left and
+/// an order of zeros (rule 10.7), 3 to 5 with all zero.
 #[derive(Clone, Copy, Debug, PartialEq, Eq)]
 pub struct Plan {
     pub number: u32,
     pub order: Order,
-    /// "The rows left to place are one 64-bit word, row 1 in the lowest bit."
+    /// The rows left as a word (rule 4.8).
     pub left: u64,
 }
 
 impl Plan {
-    /// "How many are left is the number of ones in that word."
+    /// How many rows are left: the set bits of the word (rule 4.9).
     pub fn rows_left(&self) -> u32 {
         (0..64).filter(|&bit| (self.left >> bit) % 2 == 1).count() as u32
     }
 }
 
-/// The word that stands for these rows, row 1 in the lowest bit.
+/// The word that stands for these rows (rule 4.8).
 pub fn word_of(rows: &[u8]) -> u64 {
     rows.iter().map(|&row| 1u64 << (row - 1)).sum()
 }
 
-/// The planner's choice: "Places fill from the lowest up. [...] The first row
-/// that meets its deadline in its own worst run, with all other remaining rows
-/// above it, takes the place. If none does, the answer is 7 with the rows left."
+/// The planner's choice: from the lowest place on, each goes to the first row of
+/// the trial sequence that passes (rules 4.1 and 4.5). Where every row fails,
+/// the answer is 7 (rule 4.6).
 pub fn plan(table: &Table) -> Plan {
     let refusal = check_table(table);
     if refusal != 0 {

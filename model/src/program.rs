@@ -1,17 +1,16 @@
-//! The planning program from its input bytes to its output bytes.
+//! The planning program from its input bytes to its output bytes (section 12 of
+//! the rules).
 
 use crate::plan::{plan, slack, Plan};
 use crate::sheet::{read_sheet, write_line};
 use crate::table::Table;
 
-/// Bytes of input that the program keeps: "one byte more than the longest sheet
-/// (2,138)".
+/// Bytes of input that the program keeps: a sheet of 64 rows and 1 byte (rule
+/// 12.1).
 pub const KEPT: usize = 2_138;
 
-/// "The planning program reads a sheet from standard input. [...] a longer input
-/// is answered as those bytes are." "First line: 0 and n, or the refusal's
-/// number and how many rows are left (0 unless 7). After 0, one line per place:
-/// place, row, slack." Slacks are in slots.
+/// What the program writes for an input, of which it looks at the bytes kept
+/// (rules 12.2 and 12.4).
 pub fn planning_program(input: &[u8]) -> Vec<u8> {
     let kept = &input[..input.len().min(KEPT)];
     let (refusal, table) = read_sheet(kept);
@@ -25,7 +24,8 @@ pub fn planning_program(input: &[u8]) -> Vec<u8> {
     }
 }
 
-/// The lines after a success: 0 and n, then place, row and slack of each place.
+/// The lines after a success: 0 and n, then place, row and slack (in slots) of
+/// each place (rules 12.4 and 12.5).
 fn report(table: &Table, answer: &Plan) -> Vec<u8> {
     let mut output = write_line(&[0, table.n]);
     for place in 1..=table.n {

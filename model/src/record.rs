@@ -1,13 +1,13 @@
-//! The run record: any values may stand in it, check 9 says which are sound.
+//! The run record: any values may stand in it, check 9 says which are sound
+//! (rule 8.3).
 
 use crate::calls::{forward_on_paper, one_slot_on_paper, Answer, Call, LAST_CLOCK};
 use crate::order::{check_table_and_order, Order, NO_ORDER};
 use crate::run::{is_finished, State};
 use crate::table::{Table, ROWS};
 
-/// "A run record holds table, order, clock (from 0), and per row the work got,
-/// slots used and closing slot (0 while open)." Clock, used and closing are in
-/// slots, got in work units.
+/// A table, its order and the state of a run (rule 8.1). Clock, used and
+/// closing are in slots, got in work units.
 #[derive(Clone, Copy, Debug, PartialEq, Eq)]
 pub struct Record {
     pub table: Table,
@@ -18,24 +18,24 @@ pub struct Record {
     pub closing: [u32; ROWS],
 }
 
-/// Why check 9 refuses a record; the parts of its line in the table of numbers.
+/// Why check 9 refuses a record (rules 8.4 to 8.8).
 #[derive(Clone, Copy, Debug, PartialEq, Eq)]
 pub enum Unsound {
-    /// "table or order meets 3 to 6" (the number is given).
+    /// The table or the order is refused, by this number (rule 8.4).
     TableOrOrder(u32),
-    /// "clock above 2,000,000".
+    /// The clock is later than the last one (rule 8.5).
     Clock,
-    /// "a row has got over c".
+    /// A row has got more than its work (rule 8.6).
     GotOverWork,
-    /// "[a row has] used over clock".
+    /// A row has used more slots than the clock shows (rule 8.6).
     UsedOverClock,
-    /// "[a row has] closing over clock".
+    /// A row's closing slot is later than the clock (rule 8.6).
     ClosingOverClock,
-    /// "a row is open though its work is got or its LO allowance used up".
+    /// An open row is missing no work, or has no allowance left (rule 8.7).
     OpenThoughFinished,
-    /// "one is closed with neither".
+    /// A closed row is missing work and has allowance left, or is HI (rule 8.7).
     ClosedWithNeither,
-    /// "an entry after row n is not zero".
+    /// Something other than 0 stands after row n (rule 8.8).
     EntryAfterLastRow,
 }
 
@@ -43,7 +43,7 @@ pub enum Unsound {
 #[derive(Clone, Copy, Debug, PartialEq, Eq)]
 pub struct OneSlot {
     pub number: u32,
-    /// The row run, 0 when idle and with 8 and 9.
+    /// The row run, 0 when idle and with 8 and 9 (rules 8.13 and 8.14).
     pub row: u8,
     pub record: Record,
 }
@@ -58,7 +58,8 @@ pub struct Forward {
 }
 
 impl Record {
-    /// The record of zeros that comes with every refusal of a fresh record.
+    /// The record of zeros that comes with every refusal of a fresh record (rule
+    /// 8.2).
     pub const ZERO: Record = Record {
         table: Table::ZERO,
         order: NO_ORDER,
@@ -68,9 +69,8 @@ impl Record {
         closing: [0; ROWS],
     };
 
-    /// "A fresh record holds a table, an order of it, clock 0 and only zeros as
-    /// work got, slots used and closing slots." Refused with 3 to 6, and then
-    /// all zero.
+    /// The fresh record of a table and an order: a state of zeros beside them.
+    /// Refused with 3 to 6, and then all zero (rule 8.2).
     pub fn fresh(table: &Table, order: &Order) -> (u32, Record) {
         match check_table_and_order(table, order) {
             0 => (0, Record::holding(table, order, &State::FRESH)),
@@ -153,14 +153,14 @@ impl Record {
         reasons
     }
 
-    /// Check 9: a record is sound if nothing in the line of number 9 holds.
+    /// Check 9: a record is sound if there is no reason against it (rule 8.3).
     pub fn is_sound(&self) -> bool {
         self.reasons().is_empty()
     }
 
-    /// "Working one slot takes the record by value and hands the next one back,
-    /// with the row run (0 = idle)." "Working a slot checks 9, then 8." "With 8
-    /// or 9 the row run is 0" and the record is unchanged.
+    /// One slot: from a record to the one after it, and the row that ran (rule
+    /// 8.9). First 9 is checked, then 8 (rule 11.5); both have row 0 and leave
+    /// the record alone.
     pub fn one_slot(self, supply: u32) -> OneSlot {
         if !self.is_sound() {
             return OneSlot {
@@ -179,10 +179,9 @@ impl Record {
         }
     }
 
-    /// "A second entry borrows the record and works it forward over a lent list
-    /// of supplies. It says how many slots were worked." 9 leaves the record
-    /// unchanged with 0 slots; 8 leaves the "record as it was then, slots worked
-    /// so far".
+    /// Forward: one slot for each supply, and how many that were (rule 8.10).
+    /// After 9 it is the record that came, and 0 slots (rule 8.14); after 8 the
+    /// record that the slots up to there left, and their count (rule 8.13).
     pub fn forward(self, supplies: &[u32]) -> Forward {
         if !self.is_sound() {
             return Forward {
@@ -202,7 +201,7 @@ impl Record {
     }
 
     /// A whole list of calls, each on the record the last one left: every
-    /// answer in turn and the record at the end.
+    /// answer in turn and the record at the end (rule 9.5).
     pub fn play(self, calls: &[Call]) -> (Vec<Answer>, Record) {
         let mut record = self;
         let mut answers = Vec::new();

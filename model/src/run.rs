@@ -1,11 +1,10 @@
-//! The run on paper, slot by slot. The table is accepted (no check 3 to 5
-//! refuses it) and the order is one of its orders (it passes 6).
+//! The run on paper, slot by slot (section 2 of the rules). The table is
+//! accepted (rule 5.5) and the order is one of its orders (rule 5.7).
 
 use crate::order::Order;
 use crate::table::{allowance, Table, LO, ROWS};
 
-/// "Its state is a clock and, per row, work got, slots used and closing slot,
-/// all 0 at first." The entry of row i stands at index i - 1.
+/// The state of a run (rule 2.13). The entry of row i stands at index i - 1.
 #[derive(Clone, Copy, Debug, PartialEq, Eq)]
 pub struct State {
     /// The clock t, in slots: slot t is the next one to be worked.
@@ -14,12 +13,12 @@ pub struct State {
     pub got: [u32; ROWS],
     /// Slots used by each row.
     pub used: [u32; ROWS],
-    /// Closing slot of each row, 0 while it is open.
+    /// Closing slot of each row, 0 while it is open (rule 2.10).
     pub closing: [u32; ROWS],
 }
 
 impl State {
-    /// The state at first: all 0.
+    /// The state at the start: zeros (rule 2.13).
     pub const FRESH: State = State {
         clock: 0,
         got: [0; ROWS],
@@ -28,9 +27,8 @@ impl State {
     };
 }
 
-/// "Of the rows with closing slot 0 and a at most t, the one highest in the
-/// order runs." 0 if there is none. It has no supply argument: "The choice in
-/// slot t never depends on the supply of slot t."
+/// The ready row with the highest place, 0 if no row is ready (rules 2.2 and
+/// 2.3). It has no supply argument, so it cannot depend on one (rule 2.4).
 pub fn chosen(table: &Table, order: &Order, state: &State) -> u8 {
     for &row in &order[..table.n as usize] {
         let index = row as usize - 1;
@@ -41,9 +39,9 @@ pub fn chosen(table: &Table, order: &Order, state: &State) -> u8 {
     0
 }
 
-/// One step of the run on paper with this supply (work units per slot); gives
-/// the row run, 0 for an idle slot. There is no clock limit here: a worst run
-/// lasts however long it has to. The calls and the record add the limit.
+/// One step of the run on paper with this supply (work units); gives the row
+/// run, 0 for an idle slot (rules 2.3 and 2.12). There is no last clock here: a
+/// worst run has none (rule 3.5). The calls and the record add it.
 pub fn step(table: &Table, order: &Order, state: &mut State, supply: u32) -> u8 {
     let row = chosen(table, order, state);
     if row != 0 {
@@ -53,9 +51,9 @@ pub fn step(table: &Table, order: &Order, state: &mut State, supply: u32) -> u8 
     row
 }
 
-/// "Its slots used grow by 1, its work got by s, but to c at most. It closes
-/// with t+1 if it now has got c, or if it is LO and has now used its need at
-/// N."
+/// The row has used one slot more and gets the supply, never more than its work
+/// in all (rules 2.1 and 2.5). If that closes it, the closing slot is the clock
+/// after this slot (rule 2.10).
 fn run_row(table: &Table, row: u8, state: &mut State, supply: u32) {
     let index = row as usize - 1;
     let work = u64::from(table.work[index]);
@@ -67,9 +65,8 @@ fn run_row(table: &Table, row: u8, state: &mut State, supply: u32) {
     }
 }
 
-/// What closes a row: "A job is done when its work is got. A LO job that has
-/// used its need at N without being done is dropped. HI jobs are never
-/// dropped." `got` is in work units, `used` in slots.
+/// What closes a row: it is done (rule 2.6), or LO with its allowance used up
+/// (rules 2.7 and 2.8). `got` is in work units, `used` in slots.
 pub fn is_finished(table: &Table, row: u8, got: u32, used: u32) -> bool {
     let job = table.row(row);
     let done = got == job.work;
@@ -77,7 +74,7 @@ pub fn is_finished(table: &Table, row: u8, got: u32, used: u32) -> bool {
     done || allowance_used_up
 }
 
-/// The state after one step for each supply in turn, from the fresh state.
+/// The state after one step for each supply, first to last, from the fresh state.
 pub fn run(table: &Table, order: &Order, supplies: &[u32]) -> State {
     let mut state = State::FRESH;
     for &supply in supplies {
@@ -86,8 +83,7 @@ pub fn run(table: &Table, order: &Order, supplies: &[u32]) -> State {
     state
 }
 
-/// "A job kept its deadline if in this run it has got c and its closing slot is
-/// from 1 to d."
+/// The row is done, and was closed no later than its deadline (rule 3.1).
 pub fn kept_deadline(table: &Table, state: &State, row: u8) -> bool {
     let index = row as usize - 1;
     let job = table.row(row);

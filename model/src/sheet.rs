@@ -1,26 +1,25 @@
-//! The sheet: its fields, its reader, and a writer of sheets for tests.
+//! The sheet: its fields, its reader, and a writer of sheets for tests (section
+//! 6 of the rules).
 
 use crate::table::{check_table, count_is_within_limit, Row, Table};
 
-/// Bytes in a field ("Fields are 8 bytes").
+/// Bytes in a field (rule 6.1).
 pub const FIELD: usize = 8;
 
-/// Bytes in the first line: n, N, G and the line end ("25 bytes").
+/// Bytes in the first line: n, N, G and the line end (rule 6.5).
 pub const FIRST_LINE: usize = 25;
 
-/// Bytes in the line of a row: a, c, d, level and the line end ("33 bytes each").
+/// Bytes in the line of a row: a, c, d, level and the line end (rule 6.6).
 pub const ROW_LINE: usize = 33;
 
-/// "A line ends with byte 10."
+/// The last byte of every line (rule 6.4).
 pub const LINE_END: u8 = 10;
 
-/// "Reading weighs each digit by one of eight fixed powers of ten", the weight
-/// of the first byte of a field first.
+/// What a digit counts for at each byte of a field, from the left (rule 6.3).
 pub const WEIGHTS: [u32; FIELD] = [10_000_000, 1_000_000, 100_000, 10_000, 1_000, 100, 10, 1];
 
-/// The number in a field, or none if it is malformed: "a decimal number
-/// right-justified, spaces (byte 32) before it, at least one digit, no leading
-/// zero except 0 itself".
+/// The number in a field, or none if it is malformed: spaces and then digits
+/// only, at least one, and not 0 before other digits (rules 6.1 and 6.2).
 pub fn read_field(bytes: &[u8; FIELD]) -> Option<u32> {
     let first = bytes.iter().position(|&byte| byte != b' ')?;
     let digits = &bytes[first..];
@@ -50,8 +49,7 @@ fn read_line<const COUNT: usize>(line: &[u8]) -> Option<[u32; COUNT]> {
 }
 
 /// The sheet reader: the number and the table, a table of zeros with every
-/// refusal. "Sheet checks come in this order: 1 for under 25 bytes, 2 in the
-/// first line, 3, 1 for length, 2 by row, 4, 5 by row."
+/// refusal (rule 6.8), by the checks in their order (rule 11.2).
 pub fn read_sheet(bytes: &[u8]) -> (u32, Table) {
     match read_or_refuse(bytes) {
         Ok(table) => (0, table),
@@ -89,7 +87,7 @@ fn read_or_refuse(bytes: &[u8]) -> Result<Table, u32> {
     }
 }
 
-/// A number below 100,000,000 as a field: right-justified, spaces before it.
+/// A number below 100,000,000 as a field (rules 6.1 and 6.2).
 pub fn write_field(number: u32) -> [u8; FIELD] {
     let text = format!("{number:>8}");
     text.as_bytes()
@@ -107,9 +105,8 @@ pub fn write_line(numbers: &[u32]) -> Vec<u8> {
     line
 }
 
-/// A sheet with this first line and these rows, accepted or not: "The first line
-/// holds row count n, N, G (25 bytes). Then n lines hold a, c, d, level (33
-/// bytes each)."
+/// A sheet with this first line and these rows, accepted or not (rules 6.5 and
+/// 6.6).
 pub fn write_sheet(n: u32, normal: u32, degraded: u32, rows: &[Row]) -> Vec<u8> {
     let mut sheet = write_line(&[n, normal, degraded]);
     for row in rows {

@@ -1,31 +1,32 @@
-//! Rows, tables, need and allowance, and the checks on tables (3, 4 and 5).
+//! Rows, tables, need and allowance, and the checks on tables (3, 4 and 5;
+//! sections 1 and 5 of the rules).
 
-/// Entries in every column of a table: the most rows it can hold ("n 1 to 64").
+/// Entries in every column of a table: the most rows it can hold (rule 5.1).
 pub const ROWS: usize = 64;
 
-/// Largest normal speed N, in work units per slot ("N 1 to 1,000").
+/// Largest normal speed N, in work units per slot (rule 5.2).
 pub const MOST_SPEED: u32 = 1_000;
 
-/// Largest work c, in work units ("c 1 to 1,000,000").
+/// Largest work c, in work units (rule 5.3).
 pub const MOST_WORK: u32 = 1_000_000;
 
-/// Latest deadline d, in slots ("d at most 1,000,000").
+/// Latest deadline d, in slots (rule 5.3).
 pub const LATEST_DEADLINE: u32 = 1_000_000;
 
-/// Level of a LO job ("level (0 = LO, 1 = HI)").
+/// Level of a LO job (rule 1.2).
 pub const LO: u32 = 0;
 
-/// Level of a HI job ("level (0 = LO, 1 = HI)").
+/// Level of a HI job (rule 1.2).
 pub const HI: u32 = 1;
 
-/// "A job is a row: release a, work c, deadline d, level (0 = LO, 1 = HI)."
+/// A job (rule 1.1).
 #[derive(Clone, Copy, Debug, PartialEq, Eq)]
 pub struct Row {
-    /// Release a: the first slot in which the job may run.
+    /// Release a: the first slot in which the job may run (rule 1.5).
     pub release: u32,
     /// Work c, in work units.
     pub work: u32,
-    /// Deadline d, in slots: the job meets it if it finishes at or before d.
+    /// Deadline d: the latest clock, in slots, at which it is in time (rule 1.6).
     pub deadline: u32,
     /// Level: 0 is LO, 1 is HI.
     pub level: u32,
@@ -52,7 +53,7 @@ pub struct Table {
 }
 
 impl Table {
-    /// The "table of zeros" that comes with every refusal of a sheet.
+    /// The table of zeros that comes with every refusal of a sheet (rule 6.8).
     pub const ZERO: Table = Table {
         n: 0,
         normal: 0,
@@ -81,12 +82,12 @@ impl Table {
         table
     }
 
-    /// Row number `row` ("Rows count from 1").
+    /// Row number `row`, from 1 on (rule 1.3).
     pub fn row(&self, row: u8) -> Row {
         self.row_at(row as usize - 1)
     }
 
-    /// The first n rows as a list of records, as the judge borrows them.
+    /// The first n rows as the list that the judge is lent (rule 7.1).
     pub fn rows(&self) -> Vec<Row> {
         (0..self.n as usize).map(|i| self.row_at(i)).collect()
     }
@@ -101,29 +102,28 @@ impl Table {
     }
 }
 
-/// "Need at speed s is c/s rounded up, in slots." The speed is at least 1 work
-/// unit per slot.
+/// The slots that this work takes at this speed, rounded up (rule 1.8). The
+/// speed is at least 1 work unit per slot.
 pub fn need(work: u32, speed: u32) -> u32 {
     work.div_ceil(speed)
 }
 
-/// The allowance of a LO row in slots: "its need at N".
+/// The allowance of a LO row in slots: its need at N (rule 1.9).
 pub fn allowance(table: &Table, row: u8) -> u32 {
     need(table.row(row).work, table.normal)
 }
 
-/// "n 1 to 64"; check 3 refuses any other count.
+/// Check 3 refuses any other count (rule 5.1).
 pub fn count_is_within_limit(n: u32) -> bool {
     (1..=ROWS as u32).contains(&n)
 }
 
-/// "N 1 to 1,000; G 1 to N", in work units per slot; check 4 refuses the rest.
+/// In work units per slot; check 4 refuses all other speeds (rule 5.2).
 pub fn speeds_are_within_limits(normal: u32, degraded: u32) -> bool {
     (1..=MOST_SPEED).contains(&normal) && (1..=normal).contains(&degraded)
 }
 
-/// "c 1 to 1,000,000; d at most 1,000,000; a below d; level 0 or 1"; check 5
-/// refuses any other row.
+/// Check 5 refuses any other row (rule 5.3).
 pub fn row_is_within_limits(row: &Row) -> bool {
     (1..=MOST_WORK).contains(&row.work)
         && row.deadline <= LATEST_DEADLINE
@@ -131,14 +131,13 @@ pub fn row_is_within_limits(row: &Row) -> bool {
         && (row.level == LO || row.level == HI)
 }
 
-/// A row all zero, as every row after the n-th has to be.
+/// A row all zero, as every row after row n has to be (rule 5.4).
 pub fn row_is_zero(row: &Row) -> bool {
     row.release == 0 && row.work == 0 && row.deadline == 0 && row.level == 0
 }
 
 /// Checks 3, 4 and 5 in this order on a table with any values: 0 if it is
-/// accepted, else the number of the first refusal. "A table's rows after the
-/// n-th are all zero, else 5."
+/// accepted (rule 5.5), else the number of the first refusal (rule 11.3).
 pub fn check_table(table: &Table) -> u32 {
     if !count_is_within_limit(table.n) {
         return 3;

@@ -1,4 +1,4 @@
-//! The cases of document 01 and those it says are also run.
+//! The cases that must hold, starred and also run (section 13 of the rules).
 
 mod common;
 
@@ -38,7 +38,7 @@ fn p1_program_text() {
 }
 
 #[test]
-fn p2_order_of_the_paper() {
+fn p2_order_of_guo_and_baruah() {
     assert_eq!(plan(&p2()), ordered(&[3, 1, 2, 4]));
 }
 

@@ -1,5 +1,5 @@
-//! Every number a caller may get: document 01's example of it, its neighbours, and
-//! the order of the checks on a table. Number 7 is case P3.
+//! Every number of section 10 of the rules: its example there, its neighbours,
+//! and the order of the checks on a table (rule 11.4). Number 7 is case P3.
 
 mod common;
 

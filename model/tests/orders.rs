@@ -53,8 +53,8 @@ fn courses(slots: usize, least: u32, most: u32) -> Vec<Vec<u32>> {
     all
 }
 
-/// Judged by the definition: "(i) with every supply at least N, all jobs meet
-/// their deadlines, and (ii) with every supply at least G, all HI jobs do." All
+/// Judged by the definition (rules 3.2 to 3.4): every course that stays at N or
+/// above keeps all deadlines, and every one at G or above those of HI rows. All
 /// courses are tried. Supplies above the largest work bring no more than it
 /// does, and slots from the latest deadline on come too late to matter.
 fn correct_by_every_course(table: &Table, order: &Order) -> bool {

@@ -97,7 +97,7 @@ fn splitting_the_list_at_the_last_clock() {
 }
 
 #[test]
-fn the_choice_does_not_depend_on_the_supply_of_its_slot() {
+fn the_row_is_the_same_for_every_supply_of_its_slot() {
     let mut random = Random::seeded(43);
     let mut different = 0;
     for _ in 0..4_000 {
@@ -121,7 +121,7 @@ fn the_choice_does_not_depend_on_the_supply_of_its_slot() {
 }
 
 #[test]
-fn each_slot_goes_to_the_highest_released_open_row() {
+fn a_slot_runs_the_first_ready_row_of_the_order() {
     let mut random = Random::seeded(44);
     let mut passed_over = 0;
     for _ in 0..3_000 {
@@ -166,13 +166,13 @@ fn done_and_dropped() {
     assert_eq!(
         closing_of(&[9, 9]),
         (5, 1, 2),
-        "supply beyond the need is lost"
+        "what is supplied above its work goes to nobody"
     );
     assert_eq!(closing_of(&[0, 2, 2]), (4, 2, 0), "open");
     assert_eq!(
         closing_of(&[0, 2, 2, 1]),
         (5, 3, 4),
-        "the last slot of the allowance brings the last work"
+        "its last allowed slot brings what it is still missing"
     );
     assert_eq!(closing_of(&[0, 2, 2, 0]), (4, 3, 4), "dropped");
     assert_eq!(closing_of(&[0, 2, 2, 0, 9]), (4, 3, 4), "dropped for good");
@@ -185,7 +185,7 @@ fn done_and_dropped() {
     assert_eq!(
         (late.got[0], late.used[0], late.closing[0]),
         (5, 5, 6),
-        "a job past its deadline runs on under the same rules"
+        "a late job keeps its place and goes on"
     );
     let late_lo = run(&table(2, 1, &[[1, 5, 2, 0]]), &order, &[2; 50]);
     assert_eq!((late_lo.got[0], late_lo.closing[0]), (5, 4));
@@ -214,9 +214,9 @@ fn rows_left_out_of_the_table_stay_zero() {
     }
 }
 
-/// The promise of the planned order over a whole run: a row keeps its deadline
-/// if every supply from the earliest release to the slot before the deadline is
-/// at least N (LO) or G (HI); all other supplies may be anything.
+/// The promise of the planned order over a whole run (rule 9.12): a row keeps its
+/// deadline if each slot of its window (rule 9.14) supplies at least N for a LO
+/// row, or G for a HI row; all other slots may supply anything.
 #[test]
 fn planned_rows_keep_their_deadlines_in_their_windows() {
     let mut random = Random::seeded(47);

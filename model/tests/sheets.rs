@@ -174,7 +174,7 @@ fn every_other_line_end_is_refused_with_2() {
 }
 
 #[test]
-fn a_longer_input_is_answered_as_the_bytes_kept() {
+fn bytes_after_those_kept_change_no_answer() {
     let rows = vec![row([0, 1, 64, 1]); 64];
     let longest = write_sheet(64, 1, 1, &rows);
     assert_eq!(longest.len() + 1, KEPT);

@@ -41,8 +41,8 @@ fn every_step_from_a_fresh_record_keeps_it_sound() {
     );
 }
 
-/// A sound record that need not be reachable by running: any figures that the
-/// line of number 9 lets through.
+/// A sound record that need not be reachable by running: any figures that check
+/// 9 lets through (rule 8.7).
 fn sound_record(random: &mut Random) -> Record {
     let (table, order) = table_and_order(random);
     let clock = random.one_of(&[0, 1, 2, 5, 20, 1_999_998, 1_999_999, 2_000_000]);

@@ -20,16 +20,21 @@ use std::process::ExitCode;
 const REFUSED: u8 = 1;
 const NOT_USABLE: u8 = 2;
 
+/// The header's words for a number.
 fn words_for(number: u32) -> &'static str {
     match number {
-        0 => "an order was made",
-        1 => "the sheet's length is wrong",
-        2 => "a field or line end of the sheet is malformed",
-        3 => "the row count is outside 1 to 64",
-        4 => "a speed is outside its limits",
-        5 => "a row is outside its limits",
+        0 => "success",
+        1 => "the sheet has under 25 bytes, or not 25 + 33 for each row",
+        2 => "a field or a line end of the sheet is malformed",
+        3 => "the row count is not 1 to 64",
+        4 => "N is not 1 to 1,000, or G is not 1 to N (work units per slot)",
+        5 => concat!(
+            "a row has work not 1 to 1,000,000 work units, a deadline over 1,000,000 slots, ",
+            "a release not below its deadline or a level not 0 or 1, ",
+            "or a row after the last is not zero"
+        ),
         7 => "no correct order exists",
-        8 => "the clock is 2,000,000 and rows are still open",
+        8 => "the clock is 2,000,000 slots, and no further slot is worked",
         _ => unreachable!("no other number comes up in a run on paper"),
     }
 }
@@ -77,13 +82,16 @@ fn after_slot(table: &Table, state: &State, row: u8) -> String {
     );
     match state.closing[index] {
         0 => got,
-        closing => format!("{got}, {} at {closing}", closing_word(table, state, row)),
+        closing => format!(
+            "{got}, {} at clock {closing}",
+            closing_word(table, state, row)
+        ),
     }
 }
 
 fn summary_line(table: &Table, state: &State, row: u8) -> String {
     format!(
-        "row {row}: {} at {}, deadline {}, {}",
+        "row {row}: {} at clock {}, deadline {} slots, {}",
         closing_word(table, state, row),
         state.closing[row as usize - 1],
         table.row(row).deadline,
@@ -146,8 +154,8 @@ fn plan_and_run(out: &mut impl Write, sheet: &[u8], supplies: &[u32]) -> io::Res
     Ok(0)
 }
 
-/// At most one byte more than the longest sheet, which is enough to refuse a
-/// longer one.
+/// At most the bytes that the planning program keeps, which is enough to refuse
+/// a longer input (rule 12.1).
 fn read_file(name: &str) -> io::Result<Vec<u8>> {
     let mut sheet = Vec::new();
     let kept = KEPT as u64;

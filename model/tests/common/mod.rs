@@ -20,7 +20,7 @@ pub fn rows_at_level(table: &Table, level: u32) -> Vec<u8> {
     rows
 }
 
-/// The rows that stand in a word of rows left, row 1 in the lowest bit.
+/// The rows that stand in a word of rows left (rule 4.8).
 pub fn rows_in_word(word: u64) -> Vec<u8> {
     (1..=64u8)
         .filter(|&row| (word >> (row - 1)) % 2 == 1)

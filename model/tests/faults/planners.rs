@@ -19,7 +19,7 @@ pub struct Planner {
 }
 
 impl Planner {
-    /// The planner's loop of document 01 with this planner's two parts. The
+    /// The planner's loop (rules 4.1 to 4.6) with this planner's two parts. The
     /// table is accepted.
     pub fn plan(&self, table: &Table) -> Plan {
         let mut left: Vec<u8> = (1..=table.n as u8).collect();
@@ -53,9 +53,9 @@ pub const TRUE_PLANNER: Planner = Planner {
     trial: passes_lowest,
 };
 
-/// "Trying only the two latest deadlines": one LO and one HI row at each place.
+/// One LO and one HI row is tried at each place (rule 14.1).
 pub const TWO_LATEST: Planner = Planner {
-    name: "trying only the two latest deadlines",
+    name: "two rows tried (rule 14.1)",
     sequence: two_latest,
     trial: passes_lowest,
 };
@@ -73,9 +73,9 @@ pub fn two_latest(table: &Table, left: &[u8]) -> Vec<u8> {
         .collect()
 }
 
-/// "Charging a LO job its need at G, not N, in HI tests."
+/// LO rows above a HI row are counted with their need at G (rule 14.2).
 pub const LO_AT_DEGRADED: Planner = Planner {
-    name: "charging a LO job its need at G in HI tests",
+    name: "LO jobs charged at G (rule 14.2)",
     sequence: trial_sequence,
     trial: passes_with_lo_at_degraded,
 };
@@ -92,10 +92,10 @@ pub fn passes_with_lo_at_degraded(table: &Table, left: &[u8], placed: &[u8], row
     passes_lowest(&allowances_at_degraded, left, placed, row)
 }
 
-/// "Dropping late jobs in the planner's runs, so that order above matters": the
-/// rows above stand in row order.
+/// Late rows are taken out of the planner's runs (rule 14.3); the rows above
+/// stand in row order.
 pub const DROPPING_LATE: Planner = Planner {
-    name: "dropping late jobs in the planner's runs",
+    name: "late jobs taken out (rule 14.3)",
     sequence: trial_sequence,
     trial: |table, left, placed, row| {
         passes_with_late_dropped(table, &trial_order(left, placed, row), row)
@@ -104,7 +104,7 @@ pub const DROPPING_LATE: Planner = Planner {
 
 /// The same fault with the rows above in falling row order.
 pub const DROPPING_LATE_FALLING: Planner = Planner {
-    name: "dropping late jobs in the planner's runs, rows above in falling row order",
+    name: "late jobs taken out (rule 14.3), rows above in falling row order",
     sequence: trial_sequence,
     trial: |table, left, placed, row| {
         let falling: Vec<u8> = left.iter().rev().copied().collect();
@@ -131,9 +131,9 @@ pub fn drop_late_rows(table: &Table, state: &mut State) {
     }
 }
 
-/// "Leaving LO work out of (ii)": a HI row is tried among the HI rows alone.
+/// A HI row is tried among the HI rows alone (rule 14.4).
 pub const LO_LEFT_OUT: Planner = Planner {
-    name: "leaving LO work out of (ii)",
+    name: "LO jobs left out (rule 14.4)",
     sequence: trial_sequence,
     trial: passes_without_lo,
 };
@@ -150,10 +150,10 @@ pub fn passes_without_lo(table: &Table, left: &[u8], placed: &[u8], row: u8) -> 
     passes_lowest(table, &high, &[low.as_slice(), placed].concat(), row)
 }
 
-/// "Rounding total work up once, not each job's need": a slot is shared, so that
-/// what one job leaves of it goes to the next.
+/// The sum of works is rounded (rule 14.5): a slot is shared, so that what one
+/// job leaves of it goes to the next.
 pub const ROUNDING_ONCE: Planner = Planner {
-    name: "rounding total work up once",
+    name: "works rounded once (rule 14.5)",
     sequence: trial_sequence,
     trial: passes_with_slots_shared,
 };

@@ -1,0 +1,1251 @@
+/*
+ * The command tools/jasminebrace: plans, judges, runs and explains sheets.
+ *
+ * It has no check, no limit and no planner of its own: what it says of a sheet,
+ * an order or a run is what the archive answered. It knows how a sheet is laid
+ * out, in fields of 8 bytes, to cut it into parts and to ask the archive's
+ * reader about each part inside a sheet that is right everywhere else.
+ *
+ * Exit status: see enum status.
+ */
+#include "jasminebrace.h"
+
+#include <errno.h>
+#include <inttypes.h>
+#include <stdarg.h>
+#include <stdbool.h>
+#include <stdio.h>
+#include <stdlib.h>
+#include <string.h>
+
+enum status {
+    FINE = 0,      /* an order, or yes, or done */
+    NO = 1,        /* no correct order exists, or the order is not correct */
+    REFUSED = 2,   /* the sheet, the order or the run is refused by a number other than 7 */
+    NOT_USABLE = 3 /* arguments, a file or standard output cannot be used; nothing is said of a sheet */
+};
+
+/* What the command line asks for. */
+typedef struct {
+    bool plain;        /* figures alone, in fields of 8 bytes */
+    bool stretches;    /* run: a line for each stretch of slots */
+    const char *order; /* run: row numbers with commas between, or NULL for the planned order */
+    char **words;      /* the arguments that are no options, after the command's name */
+    size_t count;      /* how many there are */
+} request;
+
+/* A sheet as far as the reader has to see it. */
+typedef struct {
+    size_t length; /* JB_PROGRAM_INPUT stands for that many bytes or more */
+    uint8_t bytes[JB_PROGRAM_INPUT];
+} sheet_file;
+
+/* ---- what is said ---- */
+
+#if defined(__GNUC__)
+__attribute__((format(printf, 1, 2)))
+#endif
+static int not_usable(const char *format, ...) {
+    va_list figures;
+    va_start(figures, format);
+    fputs("jasminebrace: ", stderr);
+    vfprintf(stderr, format, figures);
+    fputc('\n', stderr);
+    va_end(figures);
+    return NOT_USABLE;
+}
+
+static int status_of(uint32_t number) {
+    return number == JB_OK ? FINE : number == JB_NO_ORDER ? NO : REFUSED;
+}
+
+/* A figure below 100,000,000 as a field of 8 bytes. */
+static void put_field(uint32_t figure) {
+    printf("%8" PRIu32, figure);
+}
+
+/* A slack in two fields: the slots before the deadline and the slots after it; at least one is 0. */
+static void put_slack(int64_t slack) {
+    put_field(slack > 0 ? (uint32_t)slack : 0);
+    put_field(slack < 0 ? (uint32_t)-slack : 0);
+}
+
+static const char *slots(int64_t count) {
+    return count == 1 || count == -1 ? "slot" : "slots";
+}
+
+static const char *level_word(uint32_t level) {
+    return level == JB_LO ? "LO" : "HI";
+}
+
+/* ---- what is wrong with a sheet ---- */
+
+/* A sheet of one row that the reader accepts. Probes put one part of another sheet in its place. */
+static const char PROBE[] = "       1       1       1\n"
+                            "       0       1       1       0\n";
+enum {
+    PROBE_LENGTH = JB_FIRST_LINE + JB_ROW_LINE,
+    FIRST_LINE_FIELDS = 3,
+    ROW_FIELDS = 4,
+    LINE_END = 10
+};
+
+/* A place in a sheet and what stands there. */
+typedef struct {
+    uint32_t row;   /* from 1; 0 for the first line, and where no place was found */
+    uint32_t field; /* from 1; the line end counts as the one after the last; 0 where no field is at fault */
+    size_t byte;    /* the first byte at fault, from 1; 0 where no place was found */
+    char what[160]; /* what is there */
+    size_t whole;   /* bytes of a sheet of as many rows as the first line announces; 0 where it was not asked for */
+} fault;
+
+static uint32_t ask_reader(const uint8_t *bytes, size_t length) {
+    jb_table table;
+    return jb_read_table(bytes, length, &table);
+}
+
+/* The reader's answer about the probe with these bytes at a place of it, counted from 0. */
+static uint32_t ask_probe(size_t place, const uint8_t *bytes, size_t count) {
+    uint8_t probe[PROBE_LENGTH];
+    memcpy(probe, PROBE, PROBE_LENGTH);
+    memcpy(probe + place, bytes, count);
+    return ask_reader(probe, PROBE_LENGTH);
+}
+
+/* The reader's answer about the probe with a row's field in place of its own; fields count from 1. */
+static uint32_t ask_row_field(uint32_t field, const uint8_t bytes[JB_FIELD]) {
+    return ask_probe(JB_FIRST_LINE + (field - 1) * JB_FIELD, bytes, JB_FIELD);
+}
+
+/*
+ * The first byte, from 1, after which no bytes could make a well-formed field
+ * of these, 0 if there is none: each beginning is tried with digits 1 after it.
+ */
+static size_t malformed_byte(const uint8_t *bytes, size_t count) {
+    for (size_t kept = 1; kept <= count; kept++) {
+        uint8_t tried[JB_FIELD];
+        memset(tried, '1', JB_FIELD);
+        memcpy(tried, bytes, kept);
+        if (ask_row_field(1, tried) == JB_MALFORMED) {
+            return kept;
+        }
+    }
+    return 0;
+}
+
+static bool is_line_end(uint8_t byte) {
+    return ask_probe(PROBE_LENGTH - 1, &byte, 1) != JB_MALFORMED;
+}
+
+static bool is_byte_order_mark(const uint8_t *bytes, size_t length) {
+    return length >= 3 && bytes[0] == 0xEF && bytes[1] == 0xBB && bytes[2] == 0xBF;
+}
+
+/* Names the byte at an index of a sheet. */
+static void name_byte(const uint8_t *bytes, size_t length, size_t index, char *name, size_t room) {
+    const unsigned byte = bytes[index];
+    if (index == 0 && is_byte_order_mark(bytes, length)) {
+        snprintf(name, room, "a UTF-8 byte order mark (bytes 239, 187, 191)");
+    } else if (byte == '\t') {
+        snprintf(name, room, "a tab (byte 9)");
+    } else if (byte == LINE_END) {
+        snprintf(name, room, "a line end (byte 10)");
+    } else if (byte == '\r') {
+        snprintf(name, room, "a carriage return (byte 13)");
+    } else if (byte == ' ') {
+        snprintf(name, room, "a space (byte 32)");
+    } else if (byte > ' ' && byte < 127) {
+        snprintf(name, room, "'%c' (byte %u)", (int)byte, byte);
+    } else {
+        snprintf(name, room, "byte %u", byte);
+    }
+}
+
+static void note_byte(const uint8_t *bytes, size_t length, size_t index, const char *belongs, fault *found) {
+    char name[64];
+    name_byte(bytes, length, index, name, sizeof name);
+    found->byte = index + 1;
+    snprintf(found->what, sizeof found->what, "%s %s", name, belongs);
+}
+
+static uint32_t fields_of(uint32_t row) {
+    return row == 0 ? FIRST_LINE_FIELDS : ROW_FIELDS;
+}
+
+/* The first byte that the reader finds malformed where it stands, in a sheet or in the beginning of one. */
+static bool find_malformed(const uint8_t *bytes, size_t length, fault *found) {
+    size_t at = 0;
+    for (found->row = 0; at < length; found->row++) {
+        for (found->field = 1; found->field <= fields_of(found->row) && at < length; found->field++) {
+            const size_t held = length - at < JB_FIELD ? length - at : JB_FIELD;
+            const size_t bad = malformed_byte(bytes + at, held);
+            if (bad != 0) {
+                const uint8_t byte = bytes[at + bad - 1];
+                note_byte(bytes, length, at + bad - 1,
+                          byte == '0'   ? "where a space or a digit 1 to 9 belongs"
+                          : byte == ' ' ? "where a digit belongs"
+                                        : "where a space or a digit belongs",
+                          found);
+                return true;
+            }
+            at += held;
+        }
+        if (at < length) {
+            if (!is_line_end(bytes[at])) {
+                note_byte(bytes, length, at, "where the line end (byte 10) belongs", found);
+                return true;
+            }
+            at++;
+        }
+    }
+    found->row = 0;
+    found->field = 0;
+    return false;
+}
+
+/* How many rows a well-formed first line announces: as many as make the reader content with the length. */
+static uint32_t rows_announced(const uint8_t first_line[JB_FIRST_LINE]) {
+    uint8_t tried[JB_LONGEST_SHEET];
+    memcpy(tried, first_line, JB_FIRST_LINE);
+    for (uint32_t rows = 1; rows <= JB_ROWS; rows++) {
+        const size_t before = JB_FIRST_LINE + (rows - 1) * (size_t)JB_ROW_LINE;
+        memcpy(tried + before, PROBE + JB_FIRST_LINE, JB_ROW_LINE);
+        if (ask_reader(tried, before + JB_ROW_LINE) != JB_LENGTH) {
+            return rows;
+        }
+    }
+    return 0;
+}
+
+static bool lacks_a_line_end(const uint8_t *bytes, size_t length) {
+    uint8_t longer[JB_PROGRAM_INPUT];
+    if (length >= sizeof longer) {
+        return false;
+    }
+    memcpy(longer, bytes, length);
+    longer[length] = LINE_END;
+    return ask_reader(longer, length + 1) != JB_LENGTH;
+}
+
+/* Why the reader answered 1. */
+static void find_length_fault(const uint8_t *bytes, size_t length, fault *found) {
+    if (length < JB_FIRST_LINE) {
+        found->whole = JB_FIRST_LINE;
+        if (!find_malformed(bytes, length, found)) {
+            found->byte = length + 1;
+            snprintf(found->what, sizeof found->what, "the sheet ends before this byte");
+        }
+        return;
+    }
+    const uint32_t rows = rows_announced(bytes);
+    const size_t whole = JB_FIRST_LINE + rows * (size_t)JB_ROW_LINE;
+    found->whole = whole;
+    if (find_malformed(bytes, length < whole ? length : whole, found)) {
+        return;
+    }
+    if (lacks_a_line_end(bytes, length)) {
+        found->row = rows;
+        found->field = ROW_FIELDS + 1;
+        found->byte = length + 1;
+        snprintf(found->what, sizeof found->what, "the last line end (byte 10) is missing");
+    } else if (length > whole) {
+        char name[64];
+        name_byte(bytes, length, whole, name, sizeof name);
+        found->byte = whole + 1;
+        snprintf(found->what, sizeof found->what, "%s follows the last row, row %" PRIu32, name, rows);
+    } else {
+        found->row = (uint32_t)((length - JB_FIRST_LINE) / JB_ROW_LINE + 1);
+        found->byte = length + 1;
+        snprintf(found->what, sizeof found->what, "the sheet ends before this byte");
+    }
+}
+
+/* A whole field at fault: the first of its bytes, and its figure. */
+static void note_field(const uint8_t *bytes, uint32_t row, uint32_t field, fault *found) {
+    const size_t line = row == 0 ? 0 : JB_FIRST_LINE + (row - 1) * (size_t)JB_ROW_LINE;
+    const size_t begin = line + (field - 1) * (size_t)JB_FIELD;
+    const char *text = (const char *)bytes + begin;
+    int spaces = 0;
+    while (spaces < JB_FIELD && text[spaces] == ' ') {
+        spaces++;
+    }
+    found->row = row;
+    found->field = field;
+    found->byte = begin + 1;
+    snprintf(found->what, sizeof found->what, "the figure is %.*s", JB_FIELD - spaces, text + spaces);
+}
+
+/* Which speed made the reader answer 4: N if it is refused beside a G of 1, else G. */
+static void find_speed_fault(const uint8_t *bytes, fault *found) {
+    const bool normal = ask_probe(JB_FIELD, bytes + JB_FIELD, JB_FIELD) == JB_SPEEDS;
+    note_field(bytes, 0, normal ? 2 : 3, found);
+}
+
+/*
+ * Which figure made the reader answer 5: in the first row that is refused by
+ * itself, the one that is refused in a row that is right otherwise, else the
+ * release, which is measured by the deadline of its own row.
+ */
+static void find_row_fault(const uint8_t *bytes, size_t length, fault *found) {
+    uint32_t row = 1;
+    for (size_t at = JB_FIRST_LINE; at + JB_ROW_LINE <= length; at += JB_ROW_LINE, row++) {
+        const uint8_t *line = bytes + at;
+        if (ask_probe(JB_FIRST_LINE, line, JB_ROW_LINE) != JB_ROW_LIMITS) {
+            continue;
+        }
+        for (uint32_t field = 2; field <= ROW_FIELDS; field++) {
+            if (ask_row_field(field, line + (field - 1) * JB_FIELD) == JB_ROW_LIMITS) {
+                note_field(bytes, row, field, found);
+                return;
+            }
+        }
+        note_field(bytes, row, 1, found);
+        return;
+    }
+}
+
+/* Where and why the reader answered this number. */
+static void find_fault(uint32_t number, const uint8_t *bytes, size_t length, fault *found) {
+    memset(found, 0, sizeof *found);
+    switch (number) {
+    case JB_LENGTH: find_length_fault(bytes, length, found); break;
+    case JB_MALFORMED: find_malformed(bytes, length, found); break;
+    case JB_ROW_COUNT: note_field(bytes, 0, 1, found); break;
+    case JB_SPEEDS: find_speed_fault(bytes, found); break;
+    case JB_ROW_LIMITS: find_row_fault(bytes, length, found); break;
+    default: break;
+    }
+}
+
+static const char *field_name(uint32_t row, uint32_t field) {
+    static const char *const first[] = {"row count n", "normal speed N", "degraded speed G", "line end"};
+    static const char *const others[] = {"release", "work", "deadline", "level", "line end"};
+    return row == 0 ? first[field - 1] : others[field - 1];
+}
+
+/* The line of a byte as an editor counts it, and where that line begins; all from 1. */
+static size_t line_of(const uint8_t *bytes, size_t byte, size_t *begin) {
+    size_t line = 1;
+    *begin = 1;
+    for (size_t index = 0; index + 1 < byte; index++) {
+        if (bytes[index] == LINE_END) {
+            line++;
+            *begin = index + 2;
+        }
+    }
+    return line;
+}
+
+static void put_words(FILE *to, uint32_t number) {
+    fprintf(to, "number %" PRIu32 ": %s\n", number, jb_words(number));
+}
+
+static void put_remedy(FILE *to, uint32_t number) {
+    fprintf(to, "remedy: %s\n", jb_remedy(number));
+}
+
+static void put_place(FILE *to, const uint8_t *bytes, const fault *found) {
+    fputs("where:", to);
+    if (found->row != 0) {
+        fprintf(to, " row %" PRIu32 ",", found->row);
+    } else if (found->field != 0) {
+        fputs(" first line,", to);
+    }
+    if (found->field != 0) {
+        fprintf(to, " %s,", field_name(found->row, found->field));
+    }
+    if (found->byte != 0) {
+        size_t begin;
+        const size_t line = line_of(bytes, found->byte, &begin);
+        fprintf(to, " byte %zu (line %zu, byte %zu of it):", found->byte, line, found->byte - begin + 1);
+    }
+    fprintf(to, " %s\n", found->what);
+}
+
+/* Says why the reader answered this number, and what to do. */
+static void explain_refusal(FILE *to, uint32_t number, const uint8_t *bytes, size_t length) {
+    fault found;
+    find_fault(number, bytes, length, &found);
+    put_words(to, number);
+    if (found.whole != 0) {
+        const char *more = length >= JB_PROGRAM_INPUT ? " or more" : "";
+        const char *of =
+            found.whole == JB_FIRST_LINE ? "a first line alone takes" : "the rows that its first line announces make it";
+        fprintf(to, "length: the sheet has %zu bytes%s; %s %zu\n", length, more, of, found.whole);
+    }
+    put_place(to, bytes, &found);
+    put_remedy(to, number);
+}
+
+static void explain_no_order(FILE *to, uint64_t left) {
+    put_words(to, JB_NO_ORDER);
+    fputs("rows left:", to);
+    for (unsigned row = 1; row <= JB_ROWS; row++) {
+        if (left >> (row - 1) & 1) {
+            fprintf(to, " %u", row);
+        }
+    }
+    fputc('\n', to);
+    put_remedy(to, JB_NO_ORDER);
+}
+
+/* Says why a sheet was answered with a number other than 0. */
+static void explain_number(FILE *to, uint32_t number, const sheet_file *sheet, uint64_t left) {
+    if (number == JB_NO_ORDER) {
+        explain_no_order(to, left);
+    } else {
+        explain_refusal(to, number, sheet->bytes, sheet->length);
+    }
+}
+
+static uint32_t how_many(uint64_t left) {
+    uint32_t ones = 0;
+    for (; left != 0; left >>= 1) {
+        ones += (uint32_t)(left & 1);
+    }
+    return ones;
+}
+
+/* ---- what is read ---- */
+
+/* Reads as much of a file as the reader has to see. Gives FINE, or NOT_USABLE with the reason said. */
+static int read_sheet(const char *name, sheet_file *sheet) {
+    const bool standard = strcmp(name, "-") == 0;
+    if (*name == '\0') {
+        return not_usable("the name of the sheet is empty");
+    }
+    errno = 0;
+    FILE *file = standard ? stdin : fopen(name, "rb");
+    if (file == NULL) {
+        return not_usable("%s cannot be opened: %s", name, strerror(errno));
+    }
+    sheet->length = fread(sheet->bytes, 1, JB_PROGRAM_INPUT, file);
+    const bool failed = ferror(file) != 0;
+    const int reason = errno;
+    if (!standard) {
+        fclose(file);
+    }
+    if (failed && standard && reason == EBADF) {
+        return not_usable("standard input is closed");
+    }
+    if (failed) {
+        return not_usable("%s cannot be read: %s", standard ? "standard input" : name, strerror(reason));
+    }
+    return FINE;
+}
+
+/* A decimal number up to a limit that ends at one of these bytes, or at the end of the text. */
+static bool read_number(const char **text, const char *ends, uint32_t most, uint32_t *number) {
+    uint64_t value = 0;
+    const char *from = *text;
+    for (; **text >= '0' && **text <= '9'; ++*text) {
+        value = 10 * value + (uint64_t)(**text - '0');
+        if (value > most) {
+            return false;
+        }
+    }
+    *number = (uint32_t)value;
+    return *text != from && (**text == '\0' || strchr(ends, **text) != NULL);
+}
+
+/* An order in the making: how many numbers were given. */
+typedef struct {
+    uint8_t places[JB_ROWS];
+    size_t count;
+} order_list;
+
+/* Takes row numbers from a word, commas between them. Gives FINE, or NOT_USABLE with the reason said. */
+static int add_rows(const char *word, order_list *order) {
+    const char *at = word;
+    for (;;) {
+        uint32_t row;
+        if (!read_number(&at, ",", UINT32_MAX, &row)) {
+            return not_usable("not a row number: '%s'", word);
+        }
+        if (order->count == JB_ROWS) {
+            return not_usable("an order has at most %d places; more row numbers were given", JB_ROWS);
+        }
+        /* A place holds numbers up to 255. None above 64 is a row, so the archive refuses 255 as it would refuse them. */
+        order->places[order->count++] = (uint8_t)(row < 255 ? row : 255);
+        if (*at == '\0') {
+            return FINE;
+        }
+        at++;
+    }
+}
+
+static int add_words(char **words, size_t count, order_list *order) {
+    for (size_t index = 0; index < count; index++) {
+        const int status = add_rows(words[index], order);
+        if (status != FINE) {
+            return status;
+        }
+    }
+    return FINE;
+}
+
+/* A supply in work units per slot, or a count, 'x' and a supply. */
+static bool read_supply(const char *word, uint32_t *times, uint32_t *supply) {
+    const char *at = word;
+    *times = 1;
+    if (!read_number(&at, "x", UINT32_MAX, supply)) {
+        return false;
+    }
+    if (*at == '\0') {
+        return true;
+    }
+    *times = *supply;
+    at++;
+    return *times != 0 && read_number(&at, "", UINT32_MAX, supply);
+}
+
+/* The list of all supplies, one for each slot; NULL with the reason said. */
+static uint32_t *read_supplies(char **words, size_t count, size_t *total) {
+    /* One more than any run takes is enough for the archive to refuse the rest. */
+    const size_t most = (size_t)JB_LAST_CLOCK + 1;
+    uint32_t times;
+    uint32_t supply;
+    *total = 0;
+    for (size_t index = 0; index < count; index++) {
+        if (!read_supply(words[index], &times, &supply)) {
+            not_usable("not a supply from 0 to 4294967295, nor a count from 1 and a supply as 1000x5: '%s'", words[index]);
+            return NULL;
+        }
+        *total = times < most - *total ? *total + times : most;
+    }
+    uint32_t *supplies = (uint32_t *)malloc((*total + 1) * sizeof *supplies);
+    if (supplies == NULL) {
+        not_usable("there is no memory for %zu supplies", *total);
+        return NULL;
+    }
+    size_t filled = 0;
+    for (size_t index = 0; index < count; index++) {
+        read_supply(words[index], &times, &supply);
+        for (; times > 0 && filled < *total; times--) {
+            supplies[filled++] = supply;
+        }
+    }
+    return supplies;
+}
+
+/* ---- the commands ---- */
+
+/* Says a refusal: in plain form its number and the count of rows left, and always the explanation. */
+static int refuse_sheet(const request *asked, uint32_t number, const sheet_file *sheet, uint64_t left) {
+    if (asked->plain) {
+        put_field(number);
+        put_field(how_many(left));
+        putchar('\n');
+    }
+    explain_number(stderr, number, sheet, left);
+    return status_of(number);
+}
+
+/* Says a refusal of an order, or of a slot. */
+static int refuse_call(const request *asked, uint32_t number) {
+    if (asked->plain && number == JB_NOT_AN_ORDER) {
+        put_field(number);
+        put_field(0);
+        putchar('\n');
+    }
+    put_words(stderr, number);
+    put_remedy(stderr, number);
+    return status_of(number);
+}
+
+/* Reads the sheet that the request names first. Gives FINE, or a status with everything said. */
+static int load_table(const request *asked, sheet_file *sheet, jb_table *table) {
+    int status = read_sheet(asked->words[0], sheet);
+    if (status == FINE) {
+        const uint32_t number = jb_read_table(sheet->bytes, sheet->length, table);
+        if (number != JB_OK) {
+            status = refuse_sheet(asked, number, sheet, 0);
+        }
+    }
+    return status;
+}
+
+/* The order that was given, or the planned one where none was. Gives FINE, or a status with everything said. */
+static int load_order(const request *asked, const sheet_file *sheet, const jb_table *table, order_list *order) {
+    if (order->count != 0) {
+        return FINE;
+    }
+    uint64_t left;
+    const uint32_t number = jb_plan_table(table, order->places, &left);
+    return number == JB_OK ? FINE : refuse_sheet(asked, number, sheet, left);
+}
+
+static int64_t slack_of(const jb_table *table, const uint32_t finishes[JB_ROWS], uint32_t row) {
+    return (int64_t)table->deadline[row - 1] - (int64_t)finishes[row - 1];
+}
+
+/* The number of reading a sheet and planning it, with the order and the rows left. */
+static uint32_t read_and_plan(const sheet_file *sheet, jb_table *table, uint8_t order[JB_ROWS], uint64_t *left) {
+    const uint32_t number = jb_read_table(sheet->bytes, sheet->length, table);
+    *left = 0;
+    return number == JB_OK ? jb_plan_table(table, order, left) : number;
+}
+
+/* What the planning program writes, byte for byte; the explanation of a refusal beside it. */
+static int plan_plain(const sheet_file *sheet) {
+    jb_table table;
+    uint8_t order[JB_ROWS];
+    uint64_t left;
+    uint8_t text[JB_PROGRAM_TEXT];
+    const uint32_t number = read_and_plan(sheet, &table, order, &left);
+    fwrite(text, 1, jb_program_text(sheet->bytes, sheet->length, text), stdout);
+    if (number != JB_OK) {
+        explain_number(stderr, number, sheet, left);
+    }
+    return status_of(number);
+}
+
+static int plan_words(const request *asked, const sheet_file *sheet) {
+    jb_table table;
+    uint8_t order[JB_ROWS];
+    uint32_t worst[JB_ROWS];
+    uint64_t left;
+    uint32_t number = read_and_plan(sheet, &table, order, &left);
+    if (number != JB_OK) {
+        return refuse_sheet(asked, number, sheet, left);
+    }
+    number = jb_worst_finishes(&table, order, worst);
+    if (number != JB_OK) {
+        return refuse_call(asked, number);
+    }
+    printf("a correct order of %" PRIu32 " %s, highest place first\n", table.n, table.n == 1 ? "row" : "rows");
+    for (uint32_t place = 1; place <= table.n; place++) {
+        const uint32_t row = order[place - 1];
+        const int64_t slack = slack_of(&table, worst, row);
+        printf("place %" PRIu32 ": row %" PRIu32 " (%s), slack %" PRId64 " %s\n", place, row,
+               level_word(table.level[row - 1]), slack, slots(slack));
+    }
+    return FINE;
+}
+
+static int plan(const request *asked) {
+    sheet_file sheet;
+    const int status = read_sheet(asked->words[0], &sheet);
+    if (status != FINE) {
+        return status;
+    }
+    return asked->plain ? plan_plain(&sheet) : plan_words(asked, &sheet);
+}
+
+static int judge(const request *asked) {
+    sheet_file sheet;
+    jb_table table;
+    order_list order = {{0}, 0};
+    uint32_t yes;
+    uint32_t row;
+    int32_t slack;
+    int status = add_words(asked->words + 1, asked->count - 1, &order);
+    if (status == FINE) {
+        status = load_table(asked, &sheet, &table);
+    }
+    if (status != FINE) {
+        return status;
+    }
+    const uint32_t number = jb_judge_order(&table, order.places, &yes, &row, &slack);
+    if (number != JB_OK) {
+        return refuse_call(asked, number);
+    }
+    if (asked->plain) {
+        put_field(number);
+        put_field(yes);
+        put_field(row);
+        put_slack(slack);
+        putchar('\n');
+    } else {
+        printf("%s\n", yes ? "yes: the order is correct" : "no: the order is not correct");
+        printf("least slack: row %" PRIu32 " (%s), %" PRId32 " %s\n", row, level_word(table.level[row - 1]), slack,
+               slots(slack));
+    }
+    return yes ? FINE : NO;
+}
+
+static void put_order(const order_list *order, uint32_t n) {
+    fputs("order:", stdout);
+    for (uint32_t place = 0; place < n; place++) {
+        printf(" %u", (unsigned)order->places[place]);
+    }
+    putchar('\n');
+}
+
+/* What stands before the lines of rows or slots: the order, or in the plain form 0 and the row count. */
+static void put_heading(const request *asked, const order_list *order, uint32_t n) {
+    if (asked->plain) {
+        put_field(JB_OK);
+        put_field(n);
+        putchar('\n');
+    } else {
+        put_order(order, n);
+    }
+}
+
+static int finishes(const request *asked) {
+    sheet_file sheet;
+    jb_table table;
+    order_list order = {{0}, 0};
+    uint32_t worst[JB_ROWS];
+    int status = add_words(asked->words + 1, asked->count - 1, &order);
+    if (status == FINE) {
+        status = load_table(asked, &sheet, &table);
+    }
+    if (status == FINE) {
+        status = load_order(asked, &sheet, &table, &order);
+    }
+    if (status != FINE) {
+        return status;
+    }
+    const uint32_t number = jb_worst_finishes(&table, order.places, worst);
+    if (number != JB_OK) {
+        return refuse_call(asked, number);
+    }
+    put_heading(asked, &order, table.n);
+    for (uint32_t row = 1; row <= table.n; row++) {
+        const uint32_t finish = worst[row - 1];
+        const uint32_t deadline = table.deadline[row - 1];
+        const int64_t slack = slack_of(&table, worst, row);
+        if (asked->plain) {
+            put_field(row);
+            put_field(finish);
+            put_field(deadline);
+            put_slack(slack);
+            putchar('\n');
+        } else {
+            printf("row %" PRIu32 " (%s): worst finish %" PRIu32 " %s, deadline %" PRIu32 " %s, slack %" PRId64 " %s\n", row,
+                   level_word(table.level[row - 1]), finish, slots(finish), deadline, slots(deadline), slack, slots(slack));
+        }
+    }
+    return FINE;
+}
+
+/* How a row has closed, for plain lines: see the help of run. */
+static uint32_t closing_figure(const jb_run *run, uint32_t row) {
+    return jb_is_dropped(run, row) ? 2 : !jb_is_done(run, row) ? 0 : jb_is_late(run, row) ? 3 : 1;
+}
+
+/* How a row has closed, in words; nothing while it is open. */
+static void put_closing(const jb_run *run, uint32_t row) {
+    if (jb_is_dropped(run, row)) {
+        printf(", dropped at clock %" PRIu32, run->closing[row - 1]);
+    } else if (jb_is_done(run, row)) {
+        printf(", done at clock %" PRIu32, run->closing[row - 1]);
+        if (jb_is_late(run, row)) {
+            const uint32_t late = run->closing[row - 1] - run->table.deadline[row - 1];
+            printf(", late by %" PRIu32 " %s", late, slots(late));
+        }
+    }
+}
+
+static void put_slot(const request *asked, const jb_run *run, uint32_t slot, uint32_t row, uint32_t supply) {
+    const uint32_t got = row == 0 ? 0 : run->got[row - 1];
+    const uint32_t work = row == 0 ? 0 : run->table.work[row - 1];
+    if (asked->plain) {
+        put_field(slot);
+        put_field(row);
+        put_field(got);
+        put_field(work);
+        put_field(closing_figure(run, row));
+    } else if (row == 0) {
+        printf("slot %" PRIu32 ": idle, supply %" PRIu32 " work units", slot, supply);
+    } else {
+        printf("slot %" PRIu32 ": row %" PRIu32 ", supply %" PRIu32 " work units, got %" PRIu32 " of %" PRIu32 " work units",
+               slot, row, supply, got, work);
+        put_closing(run, row);
+    }
+    putchar('\n');
+}
+
+static void put_stretch(const request *asked, const jb_run *run, uint32_t first, uint32_t length, uint32_t row) {
+    if (asked->plain) {
+        put_field(first);
+        put_field(length);
+        put_field(row);
+        put_field(closing_figure(run, row));
+    } else {
+        printf("from slot %" PRIu32 ", %" PRIu32 " %s: ", first, length, slots(length));
+        if (row == 0) {
+            fputs("idle", stdout);
+        } else {
+            printf("row %" PRIu32, row);
+            put_closing(run, row);
+        }
+    }
+    putchar('\n');
+}
+
+/* A row ran in every one of so many slots between two records of a run; with row 0, none did in any. */
+static bool ran_alone(const jb_run *before, const jb_run *after, uint32_t row, uint32_t length) {
+    if (row == 0) {
+        return memcmp(before->used, after->used, sizeof before->used) == 0;
+    }
+    return after->used[row - 1] - before->used[row - 1] == length;
+}
+
+/*
+ * Works a run to the end of the stretch in which the coming row runs on, or of
+ * the supplies. Pieces of twice the length are tried on a copy as long as the
+ * row runs through them, then pieces of half the length down to one slot. Each
+ * piece is tried once, so that a stretch costs a few times its own slots.
+ */
+static uint32_t work_stretch(jb_run *run, const uint32_t *supplies, size_t count, uint32_t *row) {
+    const uint32_t number = jb_coming_row(run, row);
+    bool growing = true;
+    size_t piece = 1;
+    while (number == JB_OK && piece > 0 && count > 0) {
+        const size_t tried = piece < count ? piece : count;
+        jb_run copy = *run;
+        uint32_t worked;
+        if (jb_work_forward(&copy, supplies, tried, &worked) == JB_OK && ran_alone(run, &copy, *row, (uint32_t)tried)) {
+            *run = copy;
+            supplies += tried;
+            count -= tried;
+        } else {
+            growing = false;
+        }
+        piece = growing ? 2 * piece : piece / 2;
+    }
+    return number;
+}
+
+static uint32_t run_slots(const request *asked, jb_run *run, const uint32_t *supplies, size_t count) {
+    for (size_t index = 0; index < count && !ferror(stdout); index++) {
+        uint32_t row;
+        const uint32_t slot = run->clock;
+        const uint32_t number = jb_work_slot(run, supplies[index], &row);
+        if (number != JB_OK) {
+            return number;
+        }
+        put_slot(asked, run, slot, row, supplies[index]);
+    }
+    return JB_OK;
+}
+
+static uint32_t run_stretches(const request *asked, jb_run *run, const uint32_t *supplies, size_t count) {
+    while (run->clock < count && !ferror(stdout)) {
+        uint32_t row;
+        const uint32_t first = run->clock;
+        const uint32_t number = work_stretch(run, supplies + first, count - first, &row);
+        if (number != JB_OK) {
+            return number;
+        }
+        put_stretch(asked, run, first, run->clock - first, row);
+    }
+    return JB_OK;
+}
+
+static void put_open_rows(const jb_run *run) {
+    bool any = false;
+    printf("after %" PRIu32 " %s:", run->clock, slots(run->clock));
+    for (uint32_t row = 1; row <= run->table.n; row++) {
+        if (jb_is_open(run, row)) {
+            printf("%s %" PRIu32 "%s", any ? "," : " rows still open:", row, jb_is_late(run, row) ? " (late)" : "");
+            any = true;
+        }
+    }
+    puts(any ? "" : " no row is open");
+}
+
+static int run_with(const request *asked, const uint32_t *supplies, size_t count) {
+    sheet_file sheet;
+    jb_table table;
+    jb_run run;
+    order_list order = {{0}, 0};
+    int status = asked->order == NULL ? FINE : add_rows(asked->order, &order);
+    if (status == FINE) {
+        status = load_table(asked, &sheet, &table);
+    }
+    if (status == FINE) {
+        status = load_order(asked, &sheet, &table, &order);
+    }
+    if (status != FINE) {
+        return status;
+    }
+    uint32_t number = jb_fresh_run(&table, order.places, &run);
+    if (number != JB_OK) {
+        return refuse_call(asked, number);
+    }
+    put_heading(asked, &order, table.n);
+    number = asked->stretches ? run_stretches(asked, &run, supplies, count) : run_slots(asked, &run, supplies, count);
+    if (!asked->plain) {
+        put_open_rows(&run);
+    }
+    return number == JB_OK ? FINE : refuse_call(asked, number);
+}
+
+static int run(const request *asked) {
+    size_t count;
+    uint32_t *supplies = read_supplies(asked->words + 1, asked->count - 1, &count);
+    if (supplies == NULL) {
+        return NOT_USABLE;
+    }
+    const int status = run_with(asked, supplies, count);
+    free(supplies);
+    return status;
+}
+
+static void put_plain_fault(uint32_t number, const sheet_file *sheet, uint64_t left) {
+    fault found;
+    size_t begin;
+    find_fault(number, sheet->bytes, sheet->length, &found);
+    put_field(number);
+    put_field(found.row);
+    put_field(found.field);
+    put_field((uint32_t)found.byte);
+    put_field(found.byte == 0 ? 0 : (uint32_t)line_of(sheet->bytes, found.byte, &begin));
+    putchar('\n');
+    for (uint32_t row = 1; row <= JB_ROWS; row++) {
+        if (left >> (row - 1) & 1) {
+            put_field(row);
+            putchar('\n');
+        }
+    }
+}
+
+static int explain(const request *asked) {
+    sheet_file sheet;
+    jb_table table;
+    uint8_t order[JB_ROWS];
+    uint64_t left;
+    const int status = read_sheet(asked->words[0], &sheet);
+    if (status != FINE) {
+        return status;
+    }
+    const uint32_t number = read_and_plan(&sheet, &table, order, &left);
+    if (asked->plain) {
+        put_plain_fault(number, &sheet, left);
+    } else if (number == JB_OK) {
+        printf("number 0: nothing is wrong; the sheet has %" PRIu32 " %s and a correct order\n", table.n,
+               table.n == 1 ? "row" : "rows");
+    } else {
+        explain_number(stdout, number, &sheet, left);
+    }
+    return status_of(number);
+}
+
+/* ---- writing a sheet ---- */
+
+/* A sheet in the making; room is made for the words as they are counted before. */
+typedef struct {
+    uint8_t *bytes;
+    size_t length;
+} sheet_text;
+
+/* Pads a word of at most 8 bytes to a field. */
+static bool add_field(sheet_text *text, const char *word, size_t length) {
+    if (length > JB_FIELD) {
+        return false;
+    }
+    memset(text->bytes + text->length, ' ', JB_FIELD - length);
+    memcpy(text->bytes + text->length + JB_FIELD - length, word, length);
+    text->length += JB_FIELD;
+    return true;
+}
+
+static int add_row(sheet_text *text, const char *word) {
+    const char *at = word;
+    for (uint32_t field = 1; field <= ROW_FIELDS; field++) {
+        const size_t length = strcspn(at, ",");
+        if ((at[length] == ',') != (field < ROW_FIELDS)) {
+            return not_usable("a row is release,work,deadline,level with three commas between: '%s'", word);
+        }
+        if (!add_field(text, at, length)) {
+            return not_usable("%s of '%s' has more than the %d bytes of a field", field_name(1, field), word, JB_FIELD);
+        }
+        at += length + 1;
+    }
+    text->bytes[text->length++] = LINE_END;
+    return FINE;
+}
+
+static int add_first_line(sheet_text *text, size_t rows, const char *normal, const char *degraded) {
+    char n[32];
+    snprintf(n, sizeof n, "%zu", rows);
+    const char *const words[] = {n, normal, degraded};
+    for (uint32_t field = 1; field <= FIRST_LINE_FIELDS; field++) {
+        if (!add_field(text, words[field - 1], strlen(words[field - 1]))) {
+            return not_usable("%s '%s' has more than the %d bytes of a field", field_name(0, field), words[field - 1],
+                              JB_FIELD);
+        }
+    }
+    text->bytes[text->length++] = LINE_END;
+    return FINE;
+}
+
+/* Pads the words to a sheet. Gives FINE, or NOT_USABLE with the reason said. */
+static int add_all(sheet_text *text, const request *asked) {
+    const size_t rows = asked->count - 2;
+    int status = add_first_line(text, rows, asked->words[0], asked->words[1]);
+    for (size_t index = 0; index < rows && status == FINE; index++) {
+        status = add_row(text, asked->words[index + 2]);
+    }
+    return status;
+}
+
+static int sheet(const request *asked) {
+    const size_t rows = asked->count - 2;
+    sheet_text text = {(uint8_t *)malloc(JB_FIRST_LINE + rows * JB_ROW_LINE), 0};
+    if (text.bytes == NULL) {
+        return not_usable("there is no memory for %zu rows", rows);
+    }
+    int status = add_all(&text, asked);
+    if (status == FINE) {
+        const uint32_t number = ask_reader(text.bytes, text.length);
+        if (number == JB_OK) {
+            fwrite(text.bytes, 1, text.length, stdout);
+        } else {
+            explain_refusal(stderr, number, text.bytes, text.length);
+            status = status_of(number);
+        }
+    }
+    free(text.bytes);
+    return status;
+}
+
+/* ---- help and the command line ---- */
+
+typedef struct {
+    const char *name;
+    int (*does)(const request *);
+    size_t least; /* fewest arguments */
+    size_t most;  /* most arguments, 0 for any number */
+    const char *usage;
+    const char *help;
+} command;
+
+static const char PLAN_HELP[] =
+    "makes a correct order, highest place first, with the slack of each row in slots\n"
+    "\n"
+    "A row's slack is its deadline less its worst finish: its finish when every slot\n"
+    "supplies exactly N (LO row) or exactly G (HI row) work units.\n"
+    "\n"
+    "--plain: what the planning program writes. First line: 0 and the row count, or\n"
+    "a refusal's number and the count of rows left, which is 0 but for 7. After 0 a\n"
+    "line for each place: place, row, slack in slots.\n";
+
+static const char JUDGE_HELP[] =
+    "says whether an order is correct, the row of least slack and that slack in slots\n"
+    "\n"
+    "ROW.. is the order: row numbers, highest place first, with spaces or commas\n"
+    "between them. On a tie the lower row is named.\n"
+    "\n"
+    "--plain: one line: 0, yes as 1 or no as 0, row of least slack, slots by which it\n"
+    "finishes before its deadline, slots by which it finishes after it (at least one\n"
+    "of these two is 0). A refusal is a line of its number and 0.\n";
+
+static const char FINISHES_HELP[] =
+    "says each row's worst finish and slack in slots\n"
+    "\n"
+    "ROW.. is the order as for judge; without it the planned order is taken.\n"
+    "\n"
+    "--plain: first line: 0 and the row count, or a refusal's number and the count of\n"
+    "rows left, 0 but for 7. After 0 a line for each row: row, worst finish in\n"
+    "slots, deadline in slots, slots by which it finishes before its deadline, slots\n"
+    "by which it finishes after it.\n";
+
+static const char RUN_HELP[] =
+    "works a run, one slot for each supply, and says what each slot did\n"
+    "\n"
+    "SUPPLY is what a slot supplies in work units, 0 to 4294967295, or COUNTxSUPPLY\n"
+    "for as many slots, as 1000x5. --order gives an order of the sheet's rows, correct\n"
+    "or not; without it the planned order is taken. --stretches says a line for each\n"
+    "stretch of slots in which the same row runs, or none, and not one for each slot.\n"
+    "A row closes when it is done (all its work got) or dropped (a LO row that is\n"
+    "not done when its need at N is used up). Done after its deadline it is late.\n"
+    "The clock ends at 2,000,000 slots: a supply beyond that is refused with 8.\n"
+    "\n"
+    "--plain: first line: 0 and the row count, or a refusal's number and the count of\n"
+    "rows left, 0 but for 7. After 0 a line for each slot: slot, row run (0 for\n"
+    "none), work units that the row has got, its work in work units, how it closed: 0\n"
+    "not closed, 1 done, 2 dropped, 3 done late. With --stretches a line for each\n"
+    "stretch: first slot, number of slots, row (0 for none), how it closed at the end\n"
+    "of the stretch. Supplies are not repeated; some would not fit in 8 bytes.\n";
+
+static const char EXPLAIN_HELP[] =
+    "says what is wrong with a sheet, where, and what to do about it\n"
+    "\n"
+    "The place is found by asking the proved reader about parts of the sheet. One\n"
+    "fault is named, that of the reader's number; others may show when it is mended.\n"
+    "\n"
+    "--plain: one line: number, row (0 for the first line or none), field from 1 (the\n"
+    "line end counts as the field after the last; 0 for none), byte of the sheet from\n"
+    "1 (0 for none), line of that byte. After 7 a line for each row left: row.\n";
+
+static const char SHEET_HELP[] =
+    "writes a sheet, if the proved reader accepts it\n"
+    "\n"
+    "N and G are the normal and the degraded speed in work units per slot; RELEASE and\n"
+    "DEADLINE are in slots, WORK in work units, LEVEL is 0 (LO) or 1 (HI).\n"
+    "\n"
+    "--plain changes nothing: a sheet has no words in it.\n";
+
+static const command COMMANDS[] = {
+    {"plan", plan, 1, 1, "plan SHEET", PLAN_HELP},
+    {"judge", judge, 2, 0, "judge SHEET ROW..", JUDGE_HELP},
+    {"finishes", finishes, 1, 0, "finishes SHEET [ROW..]", FINISHES_HELP},
+    {"run", run, 2, 0, "run SHEET [--order ROW,ROW..] [--stretches] SUPPLY..", RUN_HELP},
+    {"explain", explain, 1, 1, "explain SHEET", EXPLAIN_HELP},
+    {"sheet", sheet, 2, 0, "sheet N G RELEASE,WORK,DEADLINE,LEVEL..", SHEET_HELP},
+};
+enum { COMMAND_COUNT = sizeof COMMANDS / sizeof COMMANDS[0] };
+
+static const command *command_named(const char *name) {
+    for (size_t index = 0; index < COMMAND_COUNT; index++) {
+        if (strcmp(COMMANDS[index].name, name) == 0) {
+            return &COMMANDS[index];
+        }
+    }
+    return NULL;
+}
+
+static void put_usage(FILE *to) {
+    fputs("usage: jasminebrace COMMAND [--plain] ARGUMENTS\n\n", to);
+    for (size_t index = 0; index < COMMAND_COUNT; index++) {
+        const int length = (int)strcspn(COMMANDS[index].help, "\n");
+        fprintf(to, "  jasminebrace %s\n      %.*s\n", COMMANDS[index].usage, length, COMMANDS[index].help);
+    }
+    fputs("\n  jasminebrace COMMAND --help\n      says more of a command, and the fields of its --plain form\n", to);
+}
+
+static int put_help(const command *of) {
+    if (of != NULL) {
+        printf("usage: jasminebrace %s\n\n%s %s", of->usage, of->name, of->help);
+        if (of->does == explain) {
+            for (uint32_t number = JB_LENGTH; number <= JB_UNSOUND; number++) {
+                printf("\nnumber %" PRIu32 ": %s\nremedy: %s\n", number, jb_words(number), jb_remedy(number));
+            }
+        }
+        return FINE;
+    }
+    put_usage(stdout);
+    fputs("\nSHEET is a file, or - for standard input. --plain writes figures alone, each in a\n"
+          "field of 8 bytes, for scripts. What was asked for goes to standard output, the\n"
+          "explanation of a refusal to standard error (that of explain to standard output).\n"
+          "\n"
+          "Exit status: 0 an order, or yes, or done; 1 no correct order exists (number 7),\n"
+          "or no; 2 refused by another number; 3 cannot be used (arguments, a file, standard\n"
+          "output, a missing tool).\n",
+          stdout);
+    return FINE;
+}
+
+static int bad_usage(const command *of) {
+    if (of == NULL) {
+        put_usage(stderr);
+    } else {
+        fprintf(stderr, "usage: jasminebrace %s\n", of->usage);
+    }
+    return NOT_USABLE;
+}
+
+/* What the options on a command line said, before it is known whether they fit. */
+typedef struct {
+    bool help;
+    bool version;
+    const command *of;
+    request asked;
+} command_line;
+
+/* Takes one option. Gives FINE, or NOT_USABLE with the reason said. */
+static int take_option(command_line *line, const char *option, const char *next, bool *took_next) {
+    const char *const order = "--order";
+    *took_next = false;
+    if (strcmp(option, "--help") == 0 || strcmp(option, "-h") == 0) {
+        line->help = true;
+    } else if (strcmp(option, "--version") == 0) {
+        line->version = true;
+    } else if (strcmp(option, "--plain") == 0) {
+        line->asked.plain = true;
+    } else if (strcmp(option, "--stretches") == 0) {
+        line->asked.stretches = true;
+    } else if (strcmp(option, order) == 0) {
+        if (next == NULL) {
+            return not_usable("--order needs row numbers with commas between");
+        }
+        line->asked.order = next;
+        *took_next = true;
+    } else if (strncmp(option, "--order=", strlen("--order=")) == 0) {
+        line->asked.order = option + strlen("--order=");
+    } else {
+        return not_usable("unknown option: '%s'", option);
+    }
+    return FINE;
+}
+
+/* Sorts the words of a command line into the command, its options and its arguments. */
+static int take_line(command_line *line, int count, char **words) {
+    bool options = true;
+    for (int index = 1; index < count; index++) {
+        char *word = words[index];
+        if (options && strcmp(word, "--") == 0) {
+            options = false;
+        } else if (options && (strncmp(word, "--", 2) == 0 || strcmp(word, "-h") == 0)) {
+            bool took_next;
+            const int status = take_option(line, word, index + 1 < count ? words[index + 1] : NULL, &took_next);
+            if (status != FINE) {
+                return status;
+            }
+            index += took_next;
+        } else if (line->of == NULL) {
+            line->of = command_named(word);
+            if (line->of == NULL) {
+                not_usable("unknown command: '%s'", word);
+                return bad_usage(NULL);
+            }
+        } else {
+            line->asked.words[line->asked.count++] = word;
+        }
+    }
+    return FINE;
+}
+
+static int do_line(const command_line *line) {
+    const command *of = line->of;
+    const size_t given = line->asked.count;
+    if (line->help) {
+        return put_help(of);
+    }
+    if (line->version) {
+        printf("jasminebrace, interface %" PRIu32 "\n", jb_version());
+        return FINE;
+    }
+    if (of == NULL) {
+        not_usable("a command is missing");
+        return bad_usage(NULL);
+    }
+    if (of->does != run && (line->asked.stretches || line->asked.order != NULL)) {
+        not_usable("--order and --stretches belong to run");
+        return bad_usage(of);
+    }
+    if (given < of->least || (of->most != 0 && given > of->most)) {
+        not_usable("%s takes %s%zu %s; %zu given", of->name, of->most == 0 ? "at least " : "", of->least,
+                   of->least == 1 ? "argument" : "arguments", given);
+        return bad_usage(of);
+    }
+    return of->does(&line->asked);
+}
+
+int main(int count, char **words) {
+    command_line line = {false, false, NULL, {false, false, NULL, NULL, 0}};
+    if (!jb_fits()) {
+        return not_usable("the archive has interface %" PRIu32 " and this program was compiled for %u", jb_version(),
+                          JB_VERSION);
+    }
+    line.asked.words = (char **)calloc((size_t)count + 1, sizeof *line.asked.words);
+    if (line.asked.words == NULL) {
+        return not_usable("there is no memory for the arguments");
+    }
+    int status = take_line(&line, count, words);
+    if (status == FINE) {
+        status = do_line(&line);
+    }
+    free(line.asked.words);
+    errno = 0;
+    if (fflush(stdout) != 0 || ferror(stdout)) {
+        return not_usable("standard output cannot be written%s%s", errno == 0 ? "" : ": ",
+                          errno == 0 ? "" : strerror(errno));
+    }
+    return status;
+}

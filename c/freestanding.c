@@ -1,0 +1,96 @@
+/*
+ * The library without a C library: the two functions that the archive needs, an
+ * entry of its own, and a run of case P1 from its sheet to its last row. It shows
+ * what a board has to provide. Build and run it on x86-64 Linux:
+ *
+ *     gcc -std=c11 -O2 -ffreestanding -nostdlib -static -fno-tree-loop-distribute-patterns \
+ *         -o freestanding c/freestanding.c target/staticlib/libjasminebrace.a
+ *
+ * Exit status 0 if every step was as it should be, else the number of the step.
+ */
+#include "jasminebrace.h"
+
+/* Without -fno-tree-loop-distribute-patterns the compiler may turn these loops into calls of themselves. */
+void *memcpy(void *to, const void *from, size_t count);
+void *memset(void *to, int byte, size_t count);
+
+void *memcpy(void *to, const void *from, size_t count) {
+    unsigned char *written = (unsigned char *)to;
+    const unsigned char *read = (const unsigned char *)from;
+    while (count-- > 0) {
+        *written++ = *read++;
+    }
+    return to;
+}
+
+void *memset(void *to, int byte, size_t count) {
+    unsigned char *written = (unsigned char *)to;
+    while (count-- > 0) {
+        *written++ = (unsigned char)byte;
+    }
+    return to;
+}
+
+static const char SHEET[] = "       4       5       2\n"
+                            "       0      20      10       1\n"
+                            "       5      15      10       0\n"
+                            "       5      11      19       1\n"
+                            "       0       5       5       0\n";
+
+static jb_table table;
+static jb_run run;
+
+/* The supply of a slot in work units: between G and N, as a warming processor has it. */
+static uint32_t supply_of(uint32_t slot) {
+    return 2 + slot % 4;
+}
+
+static int steps(void) {
+    uint8_t order[JB_ROWS];
+    uint64_t left;
+    if (!jb_fits()) {
+        return 1;
+    }
+    if (jb_read_table((const uint8_t *)SHEET, sizeof SHEET - 1, &table) != JB_OK) {
+        return 2;
+    }
+    if (jb_plan_table(&table, order, &left) != JB_OK || left != 0) {
+        return 3;
+    }
+    for (uint8_t place = 0; place < 4; place++) {
+        if (order[place] != place + 1) {
+            return 4;
+        }
+    }
+    if (jb_fresh_run(&table, order, &run) != JB_OK) {
+        return 5;
+    }
+    while (run.clock < 19) {
+        const uint32_t supply = supply_of(run.clock);
+        uint32_t coming;
+        uint32_t row;
+        if (jb_coming_row(&run, &coming) != JB_OK || jb_work_slot(&run, supply, &row) != JB_OK || coming != row) {
+            return 6;
+        }
+    }
+    /* Every slot supplied at least G, so both HI rows are done, neither of them late. */
+    if (!jb_is_done(&run, 1) || jb_is_late(&run, 1) || !jb_is_done(&run, 3) || jb_is_late(&run, 3)) {
+        return 7;
+    }
+    return 0;
+}
+
+/* Called by _start on an aligned stack. Leaves by the system call exit (60). */
+_Noreturn void enter(void);
+_Noreturn void enter(void) {
+    const long status = steps();
+    for (;;) {
+        __asm__ volatile("syscall" : : "a"(60L), "D"(status) : "rcx", "r11", "memory");
+    }
+}
+
+__asm__(".globl _start\n"
+        "_start:\n"
+        "    xor %ebp, %ebp\n"
+        "    and $-16, %rsp\n"
+        "    call enter\n");

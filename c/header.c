@@ -1,0 +1,126 @@
+/*
+ * Tests of the header's own functions, in what C11 and C++11 have in common:
+ * the interface's number, the words for every number, lists of no entries, where
+ * a row of a run stands, and the packed verdict taken apart. It says how many
+ * things it looked at; exit status 1 if one is not as it should be.
+ */
+#include "jasminebrace.h"
+
+#include <stdio.h>
+#include <string.h>
+
+static unsigned looked_at;
+static unsigned wrong;
+
+static void look(int fine, const char *what, unsigned figure) {
+    looked_at++;
+    if (!fine) {
+        wrong++;
+        printf("not as it should be: %s %u\n", what, figure);
+    }
+}
+
+/* The sheet of case P3: N 2, G 1, a LO row 0 2 2 and a HI row 0 4 4. */
+static const char P3[] = "       2       2       1\n"
+                         "       0       2       2       0\n"
+                         "       0       4       4       1\n";
+
+static void look_at_words(void) {
+    for (uint32_t number = JB_OK; number <= JB_UNSOUND + 1; number++) {
+        look(strlen(jb_words(number)) > 0, "words for", number);
+        look(strlen(jb_remedy(number)) > 0, "remedy for", number);
+        for (uint32_t other = JB_OK; other < number; other++) {
+            look(strcmp(jb_words(number), jb_words(other)) != 0, "words of its own for", number);
+        }
+    }
+    look(strcmp(jb_words(JB_UNSOUND + 1), jb_words(UINT32_MAX)) == 0, "one text for all other numbers", UINT32_MAX);
+}
+
+/* Null goes with a length of 0, and the answer is that of an empty list. */
+static void look_at_empty_lists(void) {
+    jb_table table;
+    jb_run run;
+    uint8_t order[JB_ROWS] = {1, 2};
+    uint8_t text[JB_PROGRAM_TEXT];
+    uint32_t yes;
+    uint32_t row;
+    int32_t slack;
+    uint32_t worked = 7;
+    look(jb_read_table(NULL, 0, &table) == JB_LENGTH, "no sheet", 0);
+    look(jb_program_text(NULL, 0, text) == 17 && memcmp(text, "       1       0\n", 17) == 0, "no input", 0);
+    look(jb_judge_list(NULL, 0, 2, 1, order, &yes, &row, &slack) == JB_ROW_COUNT && yes == 0 && row == 0 && slack == 0, "no rows", 0);
+    look(jb_read_table((const uint8_t *)P3, sizeof P3 - 1, &table) == JB_OK, "P3", 0);
+    look(jb_fresh_run(&table, order, &run) == JB_OK, "fresh", 0);
+    look(jb_work_forward(&run, NULL, 0, &worked) == JB_OK && worked == 0 && run.clock == 0, "no supplies", 0);
+}
+
+static void look_at_row(const jb_run *run, uint32_t row, int open, int done, int dropped, int late) {
+    look(jb_is_open(run, row) == open, "open, row", row);
+    look(jb_is_done(run, row) == done, "done, row", row);
+    look(jb_is_dropped(run, row) == dropped, "dropped, row", row);
+    look(jb_is_late(run, row) == late, "late, row", row);
+}
+
+static void look_at_no_rows(const jb_run *run) {
+    const uint32_t none[] = {0, 3, 64, 65, 66, UINT32_MAX};
+    for (size_t index = 0; index < sizeof none / sizeof none[0]; index++) {
+        look_at_row(run, none[index], 0, 0, 0, 0);
+    }
+}
+
+/* P7: with 1 work unit from each slot, row 1 of P3 is dropped with closing slot 1, and row 2 is done with 5 and so late. */
+static void look_at_run(void) {
+    jb_table table;
+    jb_run run;
+    const uint8_t order[JB_ROWS] = {1, 2};
+    uint32_t row;
+    look(jb_read_table((const uint8_t *)P3, sizeof P3 - 1, &table) == JB_OK, "P3", 0);
+    look(jb_fresh_run(&table, order, &run) == JB_OK, "fresh", 0);
+    look_at_row(&run, 1, 1, 0, 0, 0);
+    look_at_row(&run, 2, 1, 0, 0, 0);
+    for (uint32_t slot = 0; slot < 5; slot++) {
+        look_at_no_rows(&run);
+        look(jb_coming_row(&run, &row) == JB_OK && row == (slot == 0 ? 1u : 2u), "coming at", slot);
+        look(jb_work_slot(&run, 1, &row) == JB_OK && row == (slot == 0 ? 1u : 2u), "slot", slot);
+        look_at_row(&run, 1, 0, 0, 1, 0);
+        look_at_row(&run, 2, slot < 4, slot == 4, 0, slot >= 3);
+    }
+    /* With supplies of 2 row 1 is done at 1, and row 2 at 3, in time. */
+    look(jb_fresh_run(&table, order, &run) == JB_OK, "fresh", 0);
+    for (uint32_t slot = 0; slot < 3; slot++) {
+        look(jb_work_slot(&run, 2, &row) == JB_OK, "slot", slot);
+    }
+    look_at_row(&run, 1, 0, 1, 0, 0);
+    look_at_row(&run, 2, 0, 1, 0, 0);
+    /* A count that no table has does not lead out of the columns. */
+    run.table.n = UINT32_MAX;
+    look_at_row(&run, 65, 0, 0, 0, 0);
+}
+
+/* The list's verdict taken apart is the table's, slacks below zero too. */
+static void look_at_lists(void) {
+    const jb_row rows[] = {{0, 2, 2, JB_LO}, {0, 4, 4, JB_HI}};
+    const uint8_t orders[][JB_ROWS] = {{1, 2}, {2, 1}, {1, 1}};
+    jb_table table;
+    look(jb_read_table((const uint8_t *)P3, sizeof P3 - 1, &table) == JB_OK, "P3", 0);
+    for (unsigned index = 0; index < 3; index++) {
+        uint32_t yes[2];
+        uint32_t row[2];
+        int32_t slack[2];
+        const uint32_t number = jb_judge_order(&table, orders[index], &yes[0], &row[0], &slack[0]);
+        look(jb_judge_list(rows, 2, 2, 1, orders[index], &yes[1], &row[1], &slack[1]) == number, "number of order", index);
+        look(yes[0] == yes[1] && row[0] == row[1] && slack[0] == slack[1], "verdict of order", index);
+        look(number == JB_NOT_AN_ORDER || slack[0] < 0, "a slack below zero, order", index);
+    }
+}
+
+int main(void) {
+    look(jb_fits(), "the archive's interface is not this header's:", jb_version());
+    look(jb_version() == JB_VERSION, "interface", jb_version());
+    look_at_words();
+    look_at_empty_lists();
+    look_at_run();
+    look_at_lists();
+    printf("header: %u things looked at, %u not as they should be\n", looked_at, wrong);
+    return wrong == 0 ? 0 : 1;
+}

@@ -1,0 +1,193 @@
+//! Measures the compiled library against plain Rust by the same algorithm.
+//!
+//!     cargo run --offline --release --bin bench
+//!
+//! The headline is the ratio: the library's time divided by plain Rust's, both
+//! from this run, this machine and the same inputs. Nothing is asserted.
+
+mod pairs;
+
+use compiled::raw::{self, StateWords, TableWords};
+use compiled::sheets::{easy, hard};
+use compiled::stack;
+use model::order::{order_of, Order};
+use model::plain;
+use model::record::Record;
+use model::table::{Row, Table, HI};
+use std::hint::black_box;
+
+/// Slots of a long run.
+const MILLION: usize = 1_000_000;
+
+/// Row counts by which every cost is shown.
+const ROW_COUNTS: [u32; 4] = [8, 16, 32, 64];
+
+fn main() {
+    println!("Ratio: time of the library divided by time of plain Rust, same run and inputs.");
+    println!("Buffers for results are not cleared before a call, on either side; both sides");
+    println!("write them whole. Run records stay in place from slot to slot; a forward call");
+    println!("starts from a copy of a fresh record, and the copy is in the time of both.");
+    println!("Times are the best of several batches that take turns.\n");
+    pairs::print_head();
+    for_each_count(|n| measure_plan("hard", &hard(n)));
+    for_each_count(|n| measure_plan("easy", &easy(n)));
+    for_each_count(|n| measure_judge(&hard(n)));
+    for_each_count(|n| measure_slot(&last_row_open(n)));
+    for_each_count(|n| measure_forward(&busy(n)));
+    print_stack();
+}
+
+fn for_each_count(measure: impl Fn(u32)) {
+    for n in ROW_COUNTS {
+        measure(n);
+    }
+    println!();
+}
+
+/// A table as the library and as plain Rust take it, with an order.
+struct Input {
+    words: TableWords,
+    table: Table,
+    order: Order,
+}
+
+impl Input {
+    fn of(table: &Table) -> Input {
+        let rows: Vec<u8> = (1..=table.n as u8).collect();
+        Input {
+            words: raw::table_words(table),
+            table: *table,
+            order: order_of(&rows),
+        }
+    }
+}
+
+fn measure_plan(kind: &str, table: &Table) {
+    let (_, trials) = plain::plan_and_trials(table);
+    let what = format!("plan, {kind} ({trials} trials)");
+    let input = Input::of(table);
+    let (mut order, mut left) = ([0; 64], 0);
+    let mut library = || {
+        // SAFETY: every pointer is to memory of the size that the library names.
+        black_box(unsafe { raw::jb_plan(black_box(&input.words), &mut order, &mut left) });
+        black_box((&order, left));
+    };
+    let mut plain = || {
+        black_box(plain::plan(black_box(&input.table)));
+    };
+    pairs::measure(&what, table.n, &mut library, &mut plain);
+}
+
+fn measure_judge(table: &Table) {
+    let input = Input::of(table);
+    let (mut yes, mut row, mut slack) = (0, 0, 0);
+    let mut library = || {
+        let (words, order) = black_box((&input.words, &input.order));
+        // SAFETY: as in `measure_plan`.
+        black_box(unsafe { raw::jb_judge(words, order, &mut yes, &mut row, &mut slack) });
+        black_box((yes, row, slack));
+    };
+    let mut plain = || {
+        let (table, order) = black_box((&input.table, &input.order));
+        black_box(plain::judge(table, order));
+    };
+    pairs::measure("judge", table.n, &mut library, &mut plain);
+}
+
+/// A record in which the row at the lowest place alone is open, so that every
+/// slot looks at all places. The row is HI and gets nothing, so it stays open.
+fn last_row_open(n: u32) -> Record {
+    let mut table = easy(n);
+    table.level[n as usize - 1] = HI;
+    let input = Input::of(&table);
+    let (_, fresh) = Record::fresh(&table, &input.order);
+    fresh.forward(&vec![table.normal; n as usize - 1]).record
+}
+
+fn measure_slot(record: &Record) {
+    let words = raw::table_words(&record.table);
+    let start = raw::state_words(record);
+    let mut state = start;
+    let mut row = 0;
+    let mut library = || {
+        if state[0] == model::calls::LAST_CLOCK {
+            state = start;
+        }
+        // SAFETY: as in `measure_plan`.
+        black_box(unsafe { raw::jb_slot(&words, &record.order, &mut state, 0, &mut row) });
+        black_box((&state, row));
+    };
+    let mut kept = *record;
+    let mut plain = || {
+        if kept.clock == model::calls::LAST_CLOCK {
+            kept = *record;
+        }
+        black_box(plain::one_slot(&mut kept, black_box(0)));
+    };
+    pairs::measure("one slot", record.table.n, &mut library, &mut plain);
+}
+
+/// A table of n HI rows that fill a million slots at one work unit per slot.
+fn busy(n: u32) -> Table {
+    let row = Row {
+        release: 0,
+        work: MILLION as u32 / n,
+        deadline: MILLION as u32,
+        level: HI,
+    };
+    Table::of(1, 1, &vec![row; n as usize])
+}
+
+fn measure_forward(table: &Table) {
+    let input = Input::of(table);
+    let supplies = vec![1; MILLION];
+    let (_, fresh) = Record::fresh(table, &input.order);
+    let start = raw::state_words(&fresh);
+    let mut library = || {
+        let mut state = start;
+        black_box(library_forward(&input, &mut state, &supplies));
+        black_box(&state);
+    };
+    let mut plain = || {
+        let mut record = fresh;
+        black_box(plain::forward(&mut record, black_box(&supplies)));
+        black_box(&record);
+    };
+    let what = "forward, a million slots";
+    pairs::measure(what, table.n, &mut library, &mut plain);
+}
+
+/// The library's forward on this state; gives number and slots worked.
+fn library_forward(input: &Input, state: &mut StateWords, supplies: &[u32]) -> (u32, u32) {
+    let mut worked = 0;
+    // SAFETY: as in `measure_plan`.
+    let number = unsafe {
+        raw::jb_forward(
+            &input.words,
+            &input.order,
+            state,
+            supplies.as_ptr(),
+            supplies.len(),
+            &mut worked,
+        )
+    };
+    (number, worked)
+}
+
+/// Peak stack of every export, and of plain Rust's planning and forward.
+fn print_stack() {
+    println!("Peak stack in bytes, without what the caller lends (512 stands for less):");
+    for (name, bytes) in stack::peaks() {
+        println!("  {name:<16}{bytes:>7}");
+    }
+    let (planned, run) = (hard(64), Input::of(&busy(64)));
+    let supplies = vec![1; 10_000];
+    let (_, mut record) = Record::fresh(&run.table, &run.order);
+    let plan = stack::peak(&mut || {
+        black_box(plain::plan(&planned));
+    });
+    let forward = stack::peak(&mut || {
+        black_box(plain::forward(&mut record, &supplies));
+    });
+    println!("  plain Rust: plan {plan}, forward {forward}");
+}

@@ -1,0 +1,194 @@
+//! Safe calls of the library with the model's types.
+//!
+//! Every result's memory is filled with rubbish before the call, so that a call
+//! that leaves a part unwritten shows (rule 9.2). After the call every lent
+//! input is compared with what it was (rule 9.3).
+
+use crate::raw::{
+    self, Finishes, RowWords, StateWords, TableWords, STATE_WORDS, TABLE_WORDS, TEXT,
+};
+use model::judge::Verdict;
+use model::order::Order;
+use model::plan::Plan;
+use model::record::{Forward, OneSlot, Record};
+use model::table::{Row, Table, ROWS};
+
+const RUBBISH: u32 = 0xA5A5_A5A5;
+const RUBBISH_BYTE: u8 = 0xA5;
+
+/// The reader: number and table.
+pub fn read(sheet: &[u8]) -> (u32, Table) {
+    let before = sheet.to_vec();
+    let mut table: TableWords = [RUBBISH; TABLE_WORDS];
+    // SAFETY: the pointers are to memory of the sizes that the library names.
+    let number = unsafe { raw::jb_read(sheet.as_ptr(), sheet.len(), &mut table) };
+    assert_eq!(sheet, before, "the sheet was written");
+    (number, raw::table_of(&table))
+}
+
+/// The planner.
+pub fn plan(table: &Table) -> Plan {
+    let lent = Lent::new(table, &[0; ROWS]);
+    let mut order: Order = [RUBBISH_BYTE; ROWS];
+    let mut left = u64::from(RUBBISH);
+    // SAFETY: as in `read`.
+    let number = unsafe { raw::jb_plan(&lent.table, &mut order, &mut left) };
+    lent.assert_unwritten(table, &[0; ROWS]);
+    Plan {
+        number,
+        order,
+        left,
+    }
+}
+
+/// The judge.
+pub fn judge(table: &Table, order: &Order) -> Verdict {
+    let lent = Lent::new(table, order);
+    let (mut yes, mut row, mut slack) = (RUBBISH, RUBBISH, RUBBISH as i32);
+    // SAFETY: as in `read`.
+    let number = unsafe { raw::jb_judge(&lent.table, &lent.order, &mut yes, &mut row, &mut slack) };
+    lent.assert_unwritten(table, order);
+    assert!(yes <= 1, "yes is {yes}");
+    Verdict {
+        number,
+        yes: yes == 1,
+        row: row_number(row),
+        slack: i64::from(slack),
+    }
+}
+
+/// The judge over a list of rows, any number of them.
+pub fn judge_rows(normal: u32, degraded: u32, rows: &[Row], order: &Order) -> Verdict {
+    let words = |row: &Row| [row.release, row.work, row.deadline, row.level];
+    let lent: Vec<RowWords> = rows.iter().map(words).collect();
+    let before = lent.clone();
+    // SAFETY: as in `read`.
+    let packed = unsafe { raw::jb_judge_rows(lent.as_ptr(), lent.len(), normal, degraded, order) };
+    assert_eq!(lent, before, "the rows are only lent");
+    let slack = (packed >> 16) as u32 as i32;
+    Verdict {
+        number: (packed & 15) as u32,
+        yes: packed >> 4 & 1 == 1,
+        row: row_number((packed >> 5 & 255) as u32),
+        slack: i64::from(slack),
+    }
+}
+
+/// The worst finish of every row, in slots.
+pub fn finishes(table: &Table, order: &Order) -> (u32, Finishes) {
+    let lent = Lent::new(table, order);
+    let mut finishes: Finishes = [RUBBISH; ROWS];
+    // SAFETY: as in `read`.
+    let number = unsafe { raw::jb_finishes(&lent.table, &lent.order, &mut finishes) };
+    lent.assert_unwritten(table, order);
+    (number, finishes)
+}
+
+/// The fresh record.
+pub fn fresh(table: &Table, order: &Order) -> (u32, Record) {
+    let lent = Lent::new(table, order);
+    let mut run_table: TableWords = [RUBBISH; TABLE_WORDS];
+    let mut run_order: Order = [RUBBISH_BYTE; ROWS];
+    let mut run_state: StateWords = [RUBBISH; STATE_WORDS];
+    // SAFETY: as in `read`.
+    let number = unsafe {
+        raw::jb_fresh(
+            &lent.table,
+            &lent.order,
+            &mut run_table,
+            &mut run_order,
+            &mut run_state,
+        )
+    };
+    lent.assert_unwritten(table, order);
+    (number, raw::record_of(&run_table, &run_order, &run_state))
+}
+
+/// The number and the row of the coming slot, before its supply is known.
+pub fn coming(record: &Record) -> (u32, u8) {
+    let lent = Lent::new(&record.table, &record.order);
+    let state = raw::state_words(record);
+    let mut row = RUBBISH;
+    // SAFETY: as in `read`.
+    let number = unsafe { raw::jb_coming(&lent.table, &lent.order, &state, &mut row) };
+    let after = raw::record_of(&lent.table, &lent.order, &state);
+    assert_eq!(after, *record, "the record was written");
+    (number, row_number(row))
+}
+
+/// One slot with this supply, in work units per slot.
+pub fn one_slot(record: &Record, supply: u32) -> OneSlot {
+    let lent = Lent::new(&record.table, &record.order);
+    let mut state = raw::state_words(record);
+    let mut row = RUBBISH;
+    // SAFETY: as in `read`.
+    let number = unsafe { raw::jb_slot(&lent.table, &lent.order, &mut state, supply, &mut row) };
+    OneSlot {
+        number,
+        row: row_number(row),
+        record: raw::record_of(&lent.table, &lent.order, &state),
+    }
+}
+
+/// Forward over these supplies, in work units per slot.
+pub fn forward(record: &Record, supplies: &[u32]) -> Forward {
+    let lent = Lent::new(&record.table, &record.order);
+    let mut state = raw::state_words(record);
+    let before = supplies.to_vec();
+    let mut worked = RUBBISH;
+    // SAFETY: as in `read`.
+    let number = unsafe {
+        raw::jb_forward(
+            &lent.table,
+            &lent.order,
+            &mut state,
+            supplies.as_ptr(),
+            supplies.len(),
+            &mut worked,
+        )
+    };
+    assert!(supplies == before, "the supplies were written");
+    Forward {
+        number,
+        worked,
+        record: raw::record_of(&lent.table, &lent.order, &state),
+    }
+}
+
+/// What the planning program writes for this input.
+pub fn program(input: &[u8]) -> Vec<u8> {
+    let before = input.to_vec();
+    let mut text = [RUBBISH_BYTE; TEXT];
+    // SAFETY: as in `read`.
+    let length = unsafe { raw::jb_program(input.as_ptr(), input.len(), &mut text) };
+    assert_eq!(input, before, "the input was written");
+    let (written, after) = text.split_at(length as usize);
+    assert!(after.iter().all(|&byte| byte == 0), "zeros follow the text");
+    written.to_vec()
+}
+
+/// A table and an order as they are lent to the library.
+struct Lent {
+    table: TableWords,
+    order: Order,
+}
+
+impl Lent {
+    fn new(table: &Table, order: &Order) -> Lent {
+        Lent {
+            table: raw::table_words(table),
+            order: *order,
+        }
+    }
+
+    fn assert_unwritten(&self, table: &Table, order: &Order) {
+        assert_eq!(self.table, raw::table_words(table), "the table was written");
+        assert_eq!(self.order, *order, "the order was written");
+    }
+}
+
+/// A row number as the model has it; the library never gives one above 64.
+fn row_number(row: u32) -> u8 {
+    assert!(row <= ROWS as u32, "row {row}");
+    row as u8
+}

@@ -1,0 +1,131 @@
+//! The C functions of the library, and tables and records as its words. The
+//! declarations say the same as c/jasminebrace.h.
+
+use model::order::Order;
+use model::record::Record;
+use model::table::{Table, ROWS};
+
+/// Words in a table: n, N, G and four columns.
+pub const TABLE_WORDS: usize = 3 + 4 * ROWS;
+
+/// Words in the state of a run: the clock and three columns.
+pub const STATE_WORDS: usize = 1 + 3 * ROWS;
+
+/// Most bytes that the planning program writes: a first line and a line for each place.
+pub const TEXT: usize = 17 + 25 * ROWS;
+
+pub type TableWords = [u32; TABLE_WORDS];
+pub type StateWords = [u32; STATE_WORDS];
+
+/// A row as the library takes it: release, work, deadline, level.
+pub type RowWords = [u32; 4];
+pub type Finishes = [u32; ROWS];
+
+extern "C" {
+    pub fn jb_read(sheet: *const u8, length: usize, table: *mut TableWords) -> u32;
+    pub fn jb_plan(table: *const TableWords, order: *mut Order, left: *mut u64) -> u32;
+    pub fn jb_judge(
+        table: *const TableWords,
+        order: *const Order,
+        yes: *mut u32,
+        row: *mut u32,
+        slack: *mut i32,
+    ) -> u32;
+    pub fn jb_judge_rows(
+        rows: *const RowWords,
+        count: usize,
+        normal: u32,
+        degraded: u32,
+        order: *const Order,
+    ) -> u64;
+    pub fn jb_finishes(
+        table: *const TableWords,
+        order: *const Order,
+        finishes: *mut Finishes,
+    ) -> u32;
+    pub fn jb_fresh(
+        table: *const TableWords,
+        order: *const Order,
+        run_table: *mut TableWords,
+        run_order: *mut Order,
+        run_state: *mut StateWords,
+    ) -> u32;
+    pub fn jb_coming(
+        table: *const TableWords,
+        order: *const Order,
+        state: *const StateWords,
+        row: *mut u32,
+    ) -> u32;
+    pub fn jb_slot(
+        table: *const TableWords,
+        order: *const Order,
+        state: *mut StateWords,
+        supply: u32,
+        row: *mut u32,
+    ) -> u32;
+    pub fn jb_forward(
+        table: *const TableWords,
+        order: *const Order,
+        state: *mut StateWords,
+        supplies: *const u32,
+        count: usize,
+        worked: *mut u32,
+    ) -> u32;
+    pub fn jb_program(input: *const u8, length: usize, text: *mut [u8; TEXT]) -> u32;
+    pub fn jb_version() -> u32;
+}
+
+/// The words of a table.
+pub fn table_words(table: &Table) -> TableWords {
+    let mut words = [0; TABLE_WORDS];
+    words[..3].copy_from_slice(&[table.n, table.normal, table.degraded]);
+    let columns = [&table.release, &table.work, &table.deadline, &table.level];
+    put_columns(&mut words[3..], &columns);
+    words
+}
+
+/// The table that these words hold.
+pub fn table_of(words: &TableWords) -> Table {
+    Table {
+        n: words[0],
+        normal: words[1],
+        degraded: words[2],
+        release: column(&words[3..], 0),
+        work: column(&words[3..], 1),
+        deadline: column(&words[3..], 2),
+        level: column(&words[3..], 3),
+    }
+}
+
+/// The words of a record's clock and columns.
+pub fn state_words(record: &Record) -> StateWords {
+    let mut words = [0; STATE_WORDS];
+    words[0] = record.clock;
+    let columns = [&record.got, &record.used, &record.closing];
+    put_columns(&mut words[1..], &columns);
+    words
+}
+
+/// The record that these words hold.
+pub fn record_of(table: &TableWords, order: &Order, state: &StateWords) -> Record {
+    Record {
+        table: table_of(table),
+        order: *order,
+        clock: state[0],
+        got: column(&state[1..], 0),
+        used: column(&state[1..], 1),
+        closing: column(&state[1..], 2),
+    }
+}
+
+fn put_columns(words: &mut [u32], columns: &[&[u32; ROWS]]) {
+    for (place, column) in words.chunks_mut(ROWS).zip(columns) {
+        place.copy_from_slice(*column);
+    }
+}
+
+fn column(words: &[u32], index: usize) -> [u32; ROWS] {
+    words[index * ROWS..][..ROWS]
+        .try_into()
+        .expect("a column has sixty-four entries")
+}

@@ -1,0 +1,98 @@
+//! Tables on which the planner has little or much to do, and random tables on
+//! which both of its answers are common.
+
+use model::order::{order_of, Order};
+use model::plain;
+use model::random::{table_of_rows_in, Random, Ranges};
+use model::table::{Row, Table, HI, LO, ROWS};
+
+/// Rows that pass at their first trial: LO rows of one slot, each with time
+/// enough for all.
+pub fn easy(n: u32) -> Table {
+    let row = |index| Row {
+        release: 0,
+        work: 5,
+        deadline: n + index,
+        level: LO,
+    };
+    let rows: Vec<Row> = (0..n).map(row).collect();
+    Table::of(5, 2, &rows)
+}
+
+/// Rows of which few pass (n is a multiple of 4). In each group three LO rows
+/// just fit if their HI row stands below them, and the groups follow each other
+/// in time. The HI row of the first group has the latest deadline, so the first
+/// group is placed first, after the LO rows of all others have been tried again
+/// at every place.
+pub fn hard(n: u32) -> Table {
+    let mut rows = Vec::new();
+    for group in 0..n / 4 {
+        let release = 8 * group;
+        let low = |place| Row {
+            release,
+            work: 5,
+            deadline: release + place,
+            level: LO,
+        };
+        rows.extend([low(1), low(2), low(3)]);
+        rows.push(Row {
+            release,
+            work: 5,
+            deadline: 10_000 - group,
+            level: HI,
+        });
+    }
+    Table::of(5, 2, &rows)
+}
+
+/// A table of n rows whose deadlines are those of a random order's worst
+/// finishes or a little later, so that it just has a correct order; then, once
+/// in two times, one deadline is moved forward, so that it often has none.
+pub fn tight(random: &mut Random, n: u32, ranges: Ranges) -> Table {
+    let mut table = table_of_rows_in(random, n, ranges);
+    let order = random_order(random, n);
+    let (number, finishes) = plain::finishes(&table, &order);
+    assert_eq!(number, 0, "a table in these ranges is accepted");
+    let spare = random.between(0, 3);
+    for (deadline, finish) in table.deadline.iter_mut().zip(finishes).take(n as usize) {
+        *deadline = finish + random.between(0, spare);
+    }
+    if random.once_in(2) {
+        let index = random.between(0, n - 1) as usize;
+        let earliest = table.release[index] + 1;
+        let moved = table.deadline[index].saturating_sub(random.between(1, 4));
+        table.deadline[index] = moved.max(earliest);
+    }
+    table
+}
+
+/// A random order of a table of n rows.
+pub fn random_order(random: &mut Random, n: u32) -> Order {
+    let rows: Vec<u8> = (1..=n as u8).collect();
+    order_of(&random.shuffled(&rows))
+}
+
+/// Sixty-four rows of the largest work at speed 1, all released at `release`;
+/// the k-th place finishes at release + k × 1,000,000 slots.
+pub fn largest(release: u32) -> Table {
+    let row = Row {
+        release,
+        work: 1_000_000,
+        deadline: 1_000_000,
+        level: HI,
+    };
+    Table::of(1, 1, &[row; ROWS])
+}
+
+/// Sixty-four LO rows that all have time until the last deadline, every other
+/// one released later than the one before it.
+pub fn longest_windows() -> Table {
+    let row = |index: u32| Row {
+        release: 1_000 * (index / 2),
+        work: 1_000 + index,
+        deadline: 1_000_000,
+        level: LO,
+    };
+    let rows: Vec<Row> = (0..ROWS as u32).map(row).collect();
+    Table::of(7, 3, &rows)
+}

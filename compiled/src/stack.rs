@@ -1,0 +1,270 @@
+//! Peak stack of a call: it runs on a thread whose stack is our own memory. The
+//! thread paints what lies below it with a pattern, makes the call, and counts
+//! how much of the pattern is left. Linux with POSIX threads.
+
+use crate::raw::{self, StateWords, TableWords};
+use crate::sheets::{easy, hard, largest, longest_windows};
+use model::order::{order_of, Order};
+use model::record::Record;
+use model::sheet::sheet_of;
+use model::table::Table;
+use std::ffi::{c_int, c_void};
+use std::hint::black_box;
+use std::ptr;
+
+const PATTERN: u64 = 0x5AFE_57AC_5AFE_57AC;
+
+/// Pages of the stack: one mebibyte.
+const PAGES: usize = 256;
+const PAGE_WORDS: usize = 512;
+
+/// Bytes just below the caller's mark that stay unpainted, since its own frame
+/// is there. A call that takes fewer is counted as taking these.
+const UNPAINTED: usize = 512;
+
+#[repr(C, align(4096))]
+#[derive(Clone, Copy)]
+struct Page([u64; PAGE_WORDS]);
+
+/// Room for a thread's attributes, which take 56 bytes on x86-64 Linux.
+#[repr(C, align(16))]
+struct Attributes([u64; 32]);
+
+type Thread = usize;
+
+extern "C" {
+    fn pthread_attr_init(attributes: *mut Attributes) -> c_int;
+    fn pthread_attr_setstack(attributes: *mut Attributes, low: *mut c_void, size: usize) -> c_int;
+    fn pthread_create(
+        thread: *mut Thread,
+        attributes: *const Attributes,
+        start: extern "C" fn(*mut c_void) -> *mut c_void,
+        argument: *mut c_void,
+    ) -> c_int;
+    fn pthread_join(thread: Thread, result: *mut *mut c_void) -> c_int;
+}
+
+/// What the thread is handed: the call, its stack's lowest word, and room for
+/// the peak in bytes.
+struct Job<'a> {
+    call: &'a mut dyn FnMut(),
+    low: *mut u64,
+    peak: usize,
+}
+
+/// Most bytes of stack that the call takes.
+pub fn peak(call: &mut dyn FnMut()) -> usize {
+    // The first call may load or resolve something; the second is measured.
+    peak_once(call);
+    peak_once(call)
+}
+
+fn peak_once(call: &mut dyn FnMut()) -> usize {
+    let mut pages = vec![Page([0; PAGE_WORDS]); PAGES];
+    let mut job = Job {
+        call,
+        low: pages.as_mut_ptr().cast(),
+        peak: 0,
+    };
+    run_on(&mut pages, &mut job);
+    job.peak
+}
+
+fn run_on(pages: &mut [Page], job: &mut Job) {
+    let argument: *mut Job = job;
+    let low: *mut c_void = pages.as_mut_ptr().cast();
+    let mut attributes = Attributes([0; 32]);
+    let mut thread: Thread = 0;
+    // SAFETY: the stack and the job outlive the thread, which is joined here.
+    unsafe {
+        assert_eq!(pthread_attr_init(&mut attributes), 0);
+        let size = std::mem::size_of_val(pages);
+        assert_eq!(pthread_attr_setstack(&mut attributes, low, size), 0);
+        let created = pthread_create(&mut thread, &attributes, start, argument.cast());
+        assert_eq!(created, 0);
+        assert_eq!(pthread_join(thread, ptr::null_mut()), 0);
+    }
+}
+
+extern "C" fn start(argument: *mut c_void) -> *mut c_void {
+    let mark = 0u64;
+    let mark = black_box(&mark) as *const u64 as usize;
+    // SAFETY: `run_on` hands in a pointer to its job and waits for the thread.
+    // The words from `low` on are this thread's stack, unused below its frame.
+    unsafe {
+        let job: &mut Job = &mut *argument.cast();
+        let words = (mark - UNPAINTED - job.low as usize) / 8;
+        let mut word = 0;
+        while word < words {
+            job.low.add(word).write_volatile(PATTERN);
+            word += 1;
+        }
+        (job.call)();
+        let mut untouched = 0;
+        while untouched < words && job.low.add(untouched).read_volatile() == PATTERN {
+            untouched += 1;
+        }
+        job.peak = mark - (job.low.add(untouched) as usize);
+    }
+    ptr::null_mut()
+}
+
+/// A table in every form that a call takes it, with an order of it and a run.
+struct Inputs {
+    sheet: Vec<u8>,
+    table: TableWords,
+    rows: Vec<raw::RowWords>,
+    speeds: [u32; 2],
+    order: Order,
+    state: StateWords,
+}
+
+impl Inputs {
+    /// The table with its rows in order, and its run after some slots at N.
+    fn of(table: &Table, slots: usize) -> Inputs {
+        let rows: Vec<u8> = (1..=table.n as u8).collect();
+        let order = order_of(&rows);
+        let record = Record::fresh(table, &order).1;
+        let reached = record.forward(&vec![table.normal; slots]).record;
+        let words = |row: &model::table::Row| [row.release, row.work, row.deadline, row.level];
+        Inputs {
+            sheet: sheet_of(table),
+            table: raw::table_words(table),
+            rows: table.rows().iter().map(words).collect(),
+            speeds: [table.normal, table.degraded],
+            order,
+            state: raw::state_words(&reached),
+        }
+    }
+}
+
+/// Most bytes of stack that each export took, without what the caller lends:
+/// the most over easy, hard and large tables of 64 rows, one row, and tables
+/// and orders that are refused.
+pub fn peaks() -> Vec<(&'static str, usize)> {
+    let mut refused = hard(64);
+    refused.level[63] = 2;
+    let tables = [
+        hard(64),
+        easy(64),
+        largest(999_999),
+        longest_windows(),
+        easy(1),
+        refused,
+    ];
+    let inputs: Vec<Inputs> = tables
+        .iter()
+        .flat_map(|table| [Inputs::of(table, 0), Inputs::of(table, 70)])
+        .collect();
+    CALLS
+        .iter()
+        .map(|(name, call)| {
+            let over_inputs = inputs.iter().map(|input| peak(&mut || call(input)));
+            (*name, over_inputs.max().unwrap_or(0))
+        })
+        .collect()
+}
+
+type Call = fn(&Inputs);
+
+/// Every export with the memory that it is lent. What is written lies outside
+/// the measured stack, in `Results`.
+const CALLS: [(&str, Call); 11] = [
+    ("jb_read", |on| {
+        with_results(|out| unsafe {
+            raw::jb_read(on.sheet.as_ptr(), on.sheet.len(), &mut out.table);
+        })
+    }),
+    ("jb_plan", |on| {
+        with_results(|out| unsafe {
+            raw::jb_plan(&on.table, &mut out.order, &mut out.left);
+        })
+    }),
+    ("jb_judge", |on| {
+        with_results(|out| unsafe {
+            let [yes, row, ..] = &mut out.words;
+            raw::jb_judge(&on.table, &on.order, yes, row, &mut out.slack);
+        })
+    }),
+    ("jb_judge_rows", |on| {
+        let [normal, degraded] = on.speeds;
+        let (rows, count) = (on.rows.as_ptr(), on.rows.len());
+        black_box(unsafe { raw::jb_judge_rows(rows, count, normal, degraded, &on.order) });
+    }),
+    ("jb_finishes", |on| {
+        with_results(|out| unsafe {
+            raw::jb_finishes(&on.table, &on.order, &mut out.words);
+        })
+    }),
+    ("jb_fresh", |on| {
+        with_results(|out| unsafe {
+            let (table, order, state) = (&mut out.table, &mut out.order, &mut out.state);
+            raw::jb_fresh(&on.table, &on.order, table, order, state);
+        })
+    }),
+    ("jb_coming", |on| {
+        with_results(|out| unsafe {
+            raw::jb_coming(&on.table, &on.order, &on.state, &mut out.words[0]);
+        })
+    }),
+    ("jb_slot", |on| {
+        with_results(|out| unsafe {
+            out.state = on.state;
+            let row = &mut out.words[0];
+            raw::jb_slot(&on.table, &on.order, &mut out.state, on.speeds[1], row);
+        })
+    }),
+    ("jb_forward", |on| {
+        with_results(|out| unsafe {
+            out.state = on.state;
+            let (supplies, count) = (SUPPLIES.as_ptr(), SUPPLIES.len());
+            let worked = &mut out.words[0];
+            raw::jb_forward(
+                &on.table,
+                &on.order,
+                &mut out.state,
+                supplies,
+                count,
+                worked,
+            );
+        })
+    }),
+    ("jb_program", |on| {
+        with_results(|out| unsafe {
+            raw::jb_program(on.sheet.as_ptr(), on.sheet.len(), &mut out.text);
+        })
+    }),
+    ("jb_version", |_| {
+        black_box(unsafe { raw::jb_version() });
+    }),
+];
+
+static SUPPLIES: [u32; 3_000] = [2; 3_000];
+
+/// Memory for the results of every call.
+struct Results {
+    table: TableWords,
+    order: Order,
+    state: StateWords,
+    words: raw::Finishes,
+    left: u64,
+    slack: i32,
+    text: [u8; raw::TEXT],
+}
+
+/// Makes a call with memory for its results that is not on the stack.
+fn with_results(call: impl FnOnce(&mut Results)) {
+    use std::sync::Mutex;
+    static RESULTS: Mutex<Results> = Mutex::new(Results {
+        table: [0; raw::TABLE_WORDS],
+        order: [0; 64],
+        state: [0; raw::STATE_WORDS],
+        words: [0; 64],
+        left: 0,
+        slack: 0,
+        text: [0; raw::TEXT],
+    });
+    let mut results = RESULTS.lock().expect("no call panics");
+    call(&mut results);
+    black_box(&results.words);
+}

@@ -1,0 +1,226 @@
+//! What several test files share: tallies of answers, tables, orders, supplies.
+#![allow(dead_code)]
+
+pub mod records;
+
+use compiled::sheets::{random_order, tight};
+use model::cases::row;
+use model::order::{check_order, Order, NO_ORDER};
+use model::random::{table_in, Random, Ranges};
+use model::sheet::write_sheet;
+use model::table::{Row, Table, ROWS};
+use std::collections::BTreeMap;
+use std::fmt::Debug;
+
+/// Counts how often each kind of case came up, so that a test can show that it
+/// looked at all of them. It prints its counts when the test ends.
+pub struct Tally<Kind: Ord + Debug> {
+    of: &'static str,
+    seen: BTreeMap<Kind, u64>,
+}
+
+impl<Kind: Ord + Debug> Tally<Kind> {
+    pub fn new(of: &'static str) -> Self {
+        let seen = BTreeMap::new();
+        Tally { of, seen }
+    }
+
+    pub fn saw(&mut self, kind: Kind) {
+        *self.seen.entry(kind).or_insert(0) += 1;
+    }
+
+    /// Fails unless each of these came up `least` times.
+    pub fn assert_common(&self, kinds: &[Kind], least: u64) {
+        for kind in kinds {
+            let times = self.seen.get(kind).copied().unwrap_or(0);
+            assert!(times >= least, "{}: {kind:?} only {times} times", self.of);
+        }
+    }
+}
+
+impl<Kind: Ord + Debug> Drop for Tally<Kind> {
+    fn drop(&mut self) {
+        let total: u64 = self.seen.values().sum();
+        println!("{}: {total} cases, by answer {:?}", self.of, self.seen);
+    }
+}
+
+/// Calls `with` on every table of one to three rows whose figures come from a
+/// small grid: 239,940 tables, some with an order and some with none.
+pub fn for_each_small_table(mut with: impl FnMut(&Table)) {
+    let grid = grid_rows();
+    for [normal, degraded] in [[1, 1], [2, 1], [2, 2], [3, 1], [3, 2]] {
+        for &first in &grid {
+            with(&Table::of(normal, degraded, &[first]));
+            for &second in &grid {
+                with(&Table::of(normal, degraded, &[first, second]));
+                for &third in &grid {
+                    with(&Table::of(normal, degraded, &[first, second, third]));
+                }
+            }
+        }
+    }
+}
+
+fn grid_rows() -> Vec<Row> {
+    let mut rows = Vec::new();
+    for release in [0, 2] {
+        for work in [1, 3, 4] {
+            for window in [2, 4, 7] {
+                for level in [0, 1] {
+                    rows.push(row([release, work, release + window, level]));
+                }
+            }
+        }
+    }
+    rows
+}
+
+/// Figures for tables that the model plans quickly.
+pub const SMALL: Ranges = Ranges {
+    rows: 6,
+    speed: 4,
+    release: 8,
+    need: 3,
+    window: 14,
+};
+
+/// Figures for large tables with busy and idle times; `tight` sets deadlines.
+pub const LARGE: Ranges = Ranges {
+    rows: 64,
+    speed: 1_000,
+    release: 150,
+    need: 6,
+    window: 1,
+};
+
+/// Figures near the limits, as far as a random order's finishes allow.
+pub const WIDE: Ranges = Ranges {
+    rows: 64,
+    speed: 1_000,
+    release: 600_000,
+    need: 900,
+    window: 1,
+};
+
+/// A small accepted table with random deadlines.
+pub fn small_table(random: &mut Random) -> Table {
+    table_in(random, SMALL)
+}
+
+/// A large accepted table with 0 and 7 both likely.
+pub fn large_table(random: &mut Random) -> Table {
+    let n = random.between(1, ROWS as u32);
+    let ranges = random.one_of(&[LARGE, LARGE, WIDE]);
+    loop {
+        // At a low degraded speed a finish may lie past 1,000,000 slots.
+        let table = tight(random, n, ranges);
+        if model::table::check_table(&table) == 0 {
+            return table;
+        }
+    }
+}
+
+/// Sixty-four numbers that are no order of n rows.
+pub fn no_order_of(random: &mut Random, n: u32) -> Order {
+    loop {
+        let mut order = random_order(random, n);
+        let place = random.between(0, n - 1) as usize;
+        match random.between(0, 5) {
+            0 => order[place] = 0,
+            1 => order[place] = random.word() as u8,
+            2 => order[place] = order[random.between(0, n - 1) as usize],
+            3 => order[random.between(0, 63) as usize] = random.between(1, 65) as u8,
+            4 => order = std::array::from_fn(|_| random.word() as u8),
+            _ => order = NO_ORDER,
+        }
+        if check_order(n, &order) == 6 {
+            return order;
+        }
+    }
+}
+
+/// An order of n rows, or once in `out_of` times sixty-four other numbers.
+pub fn any_order(random: &mut Random, n: u32, out_of: u32) -> Order {
+    if random.once_in(out_of) {
+        no_order_of(random, n)
+    } else {
+        random_order(random, n)
+    }
+}
+
+/// The table changed so that a check on tables refuses it with this number (3,
+/// 4 or 5), or with one before it.
+pub fn spoil_table(random: &mut Random, table: &mut Table, number: u32) {
+    let index = random.between(0, table.n - 1) as usize;
+    match number {
+        3 => table.n = random.one_of(&[0, 65, 66, 1 << 31, u32::MAX]),
+        4 => match random.between(0, 3) {
+            0 => table.normal = random.one_of(&[0, 1_001, u32::MAX]),
+            1 => table.degraded = 0,
+            2 => table.degraded = table.normal + 1,
+            _ => table.degraded = u32::MAX,
+        },
+        _ => match random.between(0, 5) {
+            0 => table.work[index] = random.one_of(&[0, 1_000_001, u32::MAX]),
+            1 => table.deadline[index] = random.one_of(&[1_000_001, u32::MAX]),
+            2 => table.release[index] = table.deadline[index],
+            3 => table.level[index] = random.one_of(&[2, u32::MAX]),
+            4 => table.deadline[index] = 0,
+            _ => spoil_tail(random, table),
+        },
+    }
+}
+
+/// Figures after the last row, small ones and a whole accepted row too; in a
+/// table of 64 rows a level.
+fn spoil_tail(random: &mut Random, table: &mut Table) {
+    if table.n == ROWS as u32 {
+        table.level[0] = 2;
+        return;
+    }
+    let index = random.between(table.n, 63) as usize;
+    let figure = random.one_of(&[1, 2, 1 << 31, u32::MAX]);
+    match random.between(0, 4) {
+        0 => table.release[index] = figure,
+        1 => table.work[index] = figure,
+        2 => table.deadline[index] = figure,
+        3 => table.level[index] = figure,
+        _ => (table.work[index], table.deadline[index]) = (1, 1),
+    }
+}
+
+/// Supplies of every kind, in work units per slot: none, about the two speeds,
+/// the largest there is.
+pub fn supplies(random: &mut Random, count: u32) -> Vec<u32> {
+    (0..count).map(|_| supply(random)).collect()
+}
+
+/// A supply of any kind, in work units per slot.
+pub fn supply(random: &mut Random) -> u32 {
+    match random.between(0, 9) {
+        0..=1 => 0,
+        2 => u32::MAX,
+        3 => random.word() as u32,
+        _ => random.between(0, 5),
+    }
+}
+
+/// The sheet of this table changed so that a check on tables refuses it.
+pub fn refused_sheet(random: &mut Random, table: &Table) -> Vec<u8> {
+    let mut spoiled = *table;
+    let number = random.between(3, 5);
+    spoil_table(random, &mut spoiled, number);
+    let field = |figure: u32| figure.min(99_999_999);
+    let count = field(spoiled.n);
+    spoiled.n = table.n;
+    let rows = spoiled.rows().into_iter().map(|row| Row {
+        release: field(row.release),
+        work: field(row.work),
+        deadline: field(row.deadline),
+        level: field(row.level),
+    });
+    let rows: Vec<Row> = rows.collect();
+    let (normal, degraded) = (field(spoiled.normal), field(spoiled.degraded));
+    write_sheet(count, normal, degraded, &rows)
+}

@@ -1,0 +1,212 @@
+//! The judge and the worst finishes of the library against the model's, and on
+//! large tables against the plain ones.
+
+mod common;
+
+use common::{any_order, for_each_small_table, large_table, small_table, spoil_table, Tally};
+use compiled::library;
+use compiled::sheets::{largest, random_order};
+use model::cases::table;
+use model::judge::{judge, judge_table, Verdict};
+use model::order::{check_table_and_order, order_of, Order};
+use model::plain;
+use model::plan::worst_finish;
+use model::random::Random;
+use model::table::{Row, Table, ROWS};
+
+/// What the judge said, for the tallies.
+#[derive(Debug, PartialEq, Eq, PartialOrd, Ord)]
+enum Said {
+    Yes,
+    No,
+    Refused(u32),
+}
+
+fn said(verdict: &Verdict) -> Said {
+    match (verdict.number, verdict.yes) {
+        (0, true) => Said::Yes,
+        (0, false) => Said::No,
+        (number, _) => Said::Refused(number),
+    }
+}
+
+/// The worst finishes of the model, in slots, every slot worked.
+fn finishes_on_paper(table: &Table, order: &Order) -> (u32, [u32; ROWS]) {
+    let mut finishes = [0; ROWS];
+    let number = check_table_and_order(table, order);
+    if number == 0 {
+        for row in 1..=table.n as u8 {
+            finishes[row as usize - 1] = worst_finish(table, order, row);
+        }
+    }
+    (number, finishes)
+}
+
+fn compare_with_model(table: &Table, order: &Order, tally: &mut Tally<Said>) {
+    let verdict = judge_table(table, order);
+    let finishes = finishes_on_paper(table, order);
+    assert_eq!(plain::judge(table, order), verdict, "{table:?} {order:?}");
+    assert_eq!(
+        plain::finishes(table, order),
+        finishes,
+        "{table:?} {order:?}"
+    );
+    compare(table, order, verdict, finishes, tally);
+}
+
+fn compare_with_plain(table: &Table, order: &Order, tally: &mut Tally<Said>) {
+    let verdict = plain::judge(table, order);
+    let finishes = plain::finishes(table, order);
+    compare(table, order, verdict, finishes, tally);
+}
+
+fn compare(
+    table: &Table,
+    order: &Order,
+    verdict: Verdict,
+    finishes: (u32, [u32; ROWS]),
+    tally: &mut Tally<Said>,
+) {
+    assert_eq!(library::judge(table, order), verdict, "{table:?} {order:?}");
+    assert_eq!(
+        library::finishes(table, order),
+        finishes,
+        "{table:?} {order:?}"
+    );
+    tally.saw(said(&verdict));
+}
+
+#[test]
+fn all_small_tables() {
+    let mut random = Random::seeded(301);
+    let mut tally = Tally::new("judge, all tables of the grid");
+    for_each_small_table(|table| {
+        let order = any_order(&mut random, table.n, 8);
+        compare_with_model(table, &order, &mut tally);
+    });
+    let common = [Said::Yes, Said::No, Said::Refused(6)];
+    tally.assert_common(&common, 20_000);
+}
+
+#[test]
+fn random_large_tables() {
+    let mut random = Random::seeded(302);
+    let mut tally = Tally::new("judge, random tables of up to 64 rows");
+    for _ in 0..50_000 {
+        let table = large_table(&mut random);
+        let order = any_order(&mut random, table.n, 8);
+        compare_with_plain(&table, &order, &mut tally);
+        let planned = library::plan(&table);
+        if planned.number == 0 {
+            compare_with_plain(&table, &planned.order, &mut tally);
+        }
+    }
+    let common = [Said::Yes, Said::No, Said::Refused(6)];
+    tally.assert_common(&common, 5_000);
+}
+
+#[test]
+fn refused_tables_and_orders() {
+    let mut random = Random::seeded(303);
+    let mut tally = Tally::new("judge, refusals");
+    for round in 0..40_000 {
+        let mut table = small_table(&mut random);
+        let order = any_order(&mut random, table.n, 2);
+        if round % 4 != 3 {
+            spoil_table(&mut random, &mut table, 3 + round % 4);
+        }
+        compare_with_model(&table, &order, &mut tally);
+    }
+    let refusals = [3, 4, 5, 6].map(Said::Refused);
+    tally.assert_common(&refusals, 4_000);
+}
+
+/// Two rows or more of the same least slack: the lower row is named, wherever
+/// it stands in the order.
+#[test]
+fn ties() {
+    let mut random = Random::seeded(304);
+    let mut ties = Tally::new("judge, rows that share the least slack");
+    let mut tally = Tally::new("judge, ties");
+    for _ in 0..30_000 {
+        let table = small_table(&mut random);
+        let order = random_order(&mut random, table.n);
+        compare_with_model(&table, &order, &mut tally);
+        let verdict = library::judge(&table, &order);
+        let (_, finishes) = library::finishes(&table, &order);
+        let shares = |&index: &usize| {
+            i64::from(table.deadline[index]) - i64::from(finishes[index]) == verdict.slack
+        };
+        let sharing: Vec<usize> = (0..table.n as usize).filter(shares).collect();
+        assert_eq!(sharing[0] + 1, verdict.row as usize);
+        ties.saw(sharing.len());
+    }
+    ties.assert_common(&[1, 2], 2_000);
+    ties.assert_common(&[3], 100);
+    let equal = table(1, 1, &[[0, 1, 3, 0], [0, 1, 2, 1], [0, 1, 1, 0]]);
+    let order = model::order::order_of(&[3, 2, 1]);
+    let expected = judge(1, 1, &equal.rows(), &order);
+    assert_eq!((expected.row, expected.slack), (1, 0));
+    compare_with_model(&equal, &order, &mut tally);
+}
+
+/// Slacks down to about minus 64 million slots.
+#[test]
+fn largest_works() {
+    let mut random = Random::seeded(305);
+    let mut tally = Tally::new("judge, largest works");
+    for release in [0, 1, 500_000, 999_999] {
+        let table = largest(release);
+        let order = random_order(&mut random, 64);
+        compare_with_plain(&table, &order, &mut tally);
+        let verdict = library::judge(&table, &order);
+        let lowest = order[63];
+        assert_eq!((verdict.row, verdict.yes), (lowest, false));
+        assert_eq!(verdict.slack, -63_000_000 - i64::from(release));
+        let (_, finishes) = library::finishes(&table, &order);
+        for place in 1..=64u32 {
+            let row = order[place as usize - 1];
+            assert_eq!(finishes[row as usize - 1], release + place * 1_000_000);
+        }
+    }
+    tally.assert_common(&[Said::No], 4);
+    // The largest slack there is: one slot of work, a million slots of time.
+    let idle = table(1, 1, &[[0, 1, 1_000_000, 1]]);
+    let order = model::order::order_of(&[1]);
+    compare_with_model(&idle, &order, &mut tally);
+    assert_eq!(library::judge(&idle, &order).slack, 999_999);
+}
+
+/// Lists of 0, 1, 64, 65 and 1,000 rows, and of every length between, as the
+/// judge borrows them.
+#[test]
+fn lists_of_rows() {
+    let mut random = Random::seeded(505);
+    let mut tally = Tally::new("judge, lists of rows");
+    let mut compare = |normal, degraded, rows: &[Row], order: &Order| {
+        let verdict = judge(normal, degraded, rows, order);
+        let found = library::judge_rows(normal, degraded, rows, order);
+        assert_eq!(found, verdict, "{rows:?} {order:?}");
+        tally.saw(said(&verdict));
+    };
+    for _ in 0..20_000 {
+        let table = small_table(&mut random);
+        let order = any_order(&mut random, table.n, 4);
+        compare(table.normal, table.degraded, &table.rows(), &order);
+    }
+    let row = |index: u32| Row {
+        release: index % 3,
+        work: 1 + index % 5,
+        deadline: 200 + index % 50,
+        level: index % 2,
+    };
+    let rows: Vec<Row> = (0..1_000).map(row).collect();
+    for n in (0..=66).chain([100, 1_000]) {
+        let places: Vec<u8> = (1..=n.min(ROWS) as u8).rev().collect();
+        compare(5, 2, &rows[..n], &order_of(&places));
+        compare(2, 5, &rows[..n], &order_of(&places));
+    }
+    tally.assert_common(&[Said::Yes, Said::No, Said::Refused(6)], 1_000);
+    tally.assert_common(&[Said::Refused(3)], 8);
+    tally.assert_common(&[Said::Refused(4)], 60);
+}

@@ -1,0 +1,203 @@
+//! What the planning program writes, byte for byte.
+
+mod common;
+
+use common::{large_table, refused_sheet, small_table, Tally};
+use compiled::library;
+use compiled::sheets::{easy, hard};
+use model::cases::{p1, P1_TEXT};
+use model::plain;
+use model::program::{planning_program, KEPT};
+use model::random::Random;
+use model::sheet::sheet_of;
+use std::io::Write;
+use std::process::{Command, Stdio};
+use std::thread::sleep;
+use std::time::Duration;
+
+/// The number in the first field of a text.
+fn number_of(text: &[u8]) -> u8 {
+    text[7] - b'0'
+}
+
+fn compare_with_model(input: &[u8], tally: &mut Tally<u8>) {
+    assert_eq!(plain::program(input), planning_program(input));
+    compare(input, tally);
+}
+
+fn compare(input: &[u8], tally: &mut Tally<u8>) {
+    let text = library::program(input);
+    assert_eq!(text, plain::program(input), "{input:?}");
+    tally.saw(number_of(&text));
+}
+
+fn damaged(random: &mut Random, mut sheet: Vec<u8>) -> Vec<u8> {
+    let place = random.between(0, sheet.len() as u32 - 1) as usize;
+    match random.between(0, 3) {
+        0 => sheet.truncate(place),
+        1 => sheet.push(random.word() as u8),
+        2 => sheet[place] = random.one_of(b"\n 0129x"),
+        _ => sheet[place] = random.word() as u8,
+    }
+    sheet
+}
+
+/// The sheet followed by bytes up to more than the program keeps.
+fn long(random: &mut Random, mut sheet: Vec<u8>) -> Vec<u8> {
+    let length = KEPT + random.between(0, 4_000) as usize;
+    let byte = random.one_of(b"\n 1");
+    sheet.resize(length.max(sheet.len()), byte);
+    sheet
+}
+
+/// The sheet of a small table as it is, damaged, outside its limits, and with
+/// more bytes after it than the program keeps.
+fn small_sheets(random: &mut Random) -> [Vec<u8>; 4] {
+    let table = small_table(random);
+    let sheet = sheet_of(&table);
+    [
+        damaged(random, sheet.clone()),
+        refused_sheet(random, &table),
+        long(random, sheet.clone()),
+        sheet,
+    ]
+}
+
+#[test]
+fn small_sheets_against_the_model() {
+    let mut random = Random::seeded(601);
+    let mut tally = Tally::new("program, small sheets");
+    compare_with_model(b"", &mut tally);
+    for _ in 0..4_000 {
+        for input in small_sheets(&mut random) {
+            compare_with_model(&input, &mut tally);
+        }
+    }
+    tally.assert_common(&[0, 1, 2, 3, 4, 5, 7], 500);
+}
+
+/// What the planning program itself writes for this standard input.
+fn plan(input: &[u8]) -> Vec<u8> {
+    plan_pieces(&[input])
+}
+
+/// What it writes where its input comes piece by piece, with a pause between.
+fn plan_pieces(pieces: &[&[u8]]) -> Vec<u8> {
+    let program = concat!(env!("CARGO_MANIFEST_DIR"), "/../target/bin/plan");
+    let mut child = Command::new(program)
+        .stdin(Stdio::piped())
+        .stdout(Stdio::piped())
+        .spawn()
+        .expect("the planning program is built");
+    let mut pipe = child.stdin.take().expect("a pipe");
+    for (index, piece) in pieces.iter().enumerate() {
+        if index > 0 {
+            sleep(Duration::from_millis(20));
+        }
+        // It may end before a long input is written whole: what it keeps is enough.
+        let _ = pipe.write_all(piece);
+    }
+    drop(pipe);
+    child.wait_with_output().expect("its output").stdout
+}
+
+#[test]
+fn the_program_itself_against_the_model() {
+    let mut random = Random::seeded(603);
+    let mut tally = Tally::new("the planning program itself");
+    assert_eq!(plan(b""), planning_program(b""));
+    for _ in 0..2_500 {
+        for input in small_sheets(&mut random) {
+            let text = plan(&input);
+            assert_eq!(text, planning_program(&input), "{input:?}");
+            tally.saw(number_of(&text));
+        }
+    }
+    for n in (4..=64).step_by(4) {
+        for sheet in [sheet_of(&easy(n)), sheet_of(&hard(n))] {
+            assert_eq!(plan(&sheet), plain::program(&sheet));
+        }
+    }
+    tally.assert_common(&[0, 1, 2, 3, 4, 5, 7], 250);
+}
+
+/// A pipe hands over what is there, so that one read may bring only a part.
+#[test]
+fn the_program_itself_on_input_in_pieces() {
+    for sheet in [sheet_of(&p1()), sheet_of(&hard(64))] {
+        let text = planning_program(&sheet);
+        for cut in [1, 24, 25, 26, 58, sheet.len() - 1] {
+            let (first, rest) = sheet.split_at(cut);
+            assert_eq!(plan_pieces(&[first, rest]), text, "cut at {cut}");
+            assert_eq!(
+                plan_pieces(&[first, &rest[..1], &rest[1..]]),
+                text,
+                "cut at {cut}"
+            );
+        }
+        let longer = [sheet.as_slice(), b"\n"];
+        assert_eq!(plan_pieces(&longer), planning_program(&longer.concat()));
+    }
+}
+
+#[test]
+fn large_sheets() {
+    let mut random = Random::seeded(602);
+    let mut tally = Tally::new("program, sheets of up to 64 rows");
+    for _ in 0..4_000 {
+        let sheet = sheet_of(&large_table(&mut random));
+        compare(&sheet, &mut tally);
+        compare(&damaged(&mut random, sheet.clone()), &mut tally);
+        compare(&long(&mut random, sheet), &mut tally);
+    }
+    for n in (4..=64).step_by(4) {
+        compare(&sheet_of(&easy(n)), &mut tally);
+        compare(&sheet_of(&hard(n)), &mut tally);
+    }
+    tally.assert_common(&[0, 1, 2, 7], 1_000);
+}
+
+/// The longest sheet has 2,137 bytes, and the program itself keeps one byte
+/// more, whichever that is: by it alone it tells the sheet from a longer input.
+#[test]
+fn the_program_itself_around_the_bytes_that_are_kept() {
+    let mut tally = Tally::new("the planning program itself, around the bytes kept");
+    for sheet in [sheet_of(&easy(64)), sheet_of(&hard(64))] {
+        assert_eq!(sheet.len(), KEPT - 1);
+        for extra in 0..=3 {
+            for byte in [0, b'\n', b' ', b'1', 255] {
+                let mut input = sheet.clone();
+                input.resize(sheet.len() + extra, byte);
+                let text = plan(&input);
+                assert_eq!(text, planning_program(&input), "{extra} bytes {byte}");
+                tally.saw(number_of(&text));
+            }
+        }
+    }
+    tally.assert_common(&[0], 10);
+    tally.assert_common(&[1], 30);
+}
+
+/// The longest sheet has 2,137 bytes; one byte more is kept, and what follows
+/// makes no difference.
+#[test]
+fn around_the_bytes_that_are_kept() {
+    let mut tally = Tally::new("program, around the bytes kept");
+    let sheet = sheet_of(&easy(64));
+    assert_eq!(sheet.len(), KEPT - 1);
+    for extra in 0..=3 {
+        for byte in 0..=255 {
+            let mut input = sheet.clone();
+            input.resize(sheet.len() + extra, byte);
+            compare(&input, &mut tally);
+        }
+    }
+    tally.assert_common(&[0], 256);
+    tally.assert_common(&[1], 768);
+}
+
+#[test]
+fn the_text_of_p1() {
+    assert_eq!(library::program(&sheet_of(&p1())), P1_TEXT.as_bytes());
+    assert_eq!(library::program(b""), b"       1       0\n");
+}

@@ -1,0 +1,299 @@
+//! The same answers in plain Rust, by the algorithm that the library uses: a
+//! worst finish is found by one sweep over the rows above by release, and not
+//! by working every slot. Tests compare it with the model on small tables, use
+//! it in the model's place on large ones, and the measurements take it as the
+//! measure of what Rust without proofs costs.
+//!
+//! Clocks, needs, caps and finishes are in slots; rows stand at index row - 1.
+
+use crate::calls::LAST_CLOCK;
+use crate::judge::Verdict;
+use crate::order::{Order, NO_ORDER};
+use crate::plan::Plan;
+use crate::record::Record;
+use crate::sheet::{read_sheet, write_line};
+use crate::table::{check_table, need, Table, HI, LO, ROWS};
+
+/// What a row can take in its worst runs, and the rows by release.
+struct Load<'a> {
+    table: &'a Table,
+    /// Slots that each row takes at most where every slot supplies N.
+    at_normal: [u32; ROWS],
+    /// Slots that each row takes at most where every slot supplies G.
+    at_degraded: [u32; ROWS],
+    /// Row indices by rising release.
+    by_release: [u8; ROWS],
+}
+
+impl Load<'_> {
+    fn of(table: &Table) -> Load<'_> {
+        let mut load = Load {
+            table,
+            at_normal: [0; ROWS],
+            at_degraded: [0; ROWS],
+            by_release: std::array::from_fn(|index| index as u8),
+        };
+        for index in 0..table.n as usize {
+            let at_normal = need(table.work[index], table.normal);
+            load.at_normal[index] = at_normal;
+            // A LO row takes no more than its allowance (rule 1.9).
+            load.at_degraded[index] = if table.level[index] == LO {
+                at_normal
+            } else {
+                need(table.work[index], table.degraded)
+            };
+        }
+        let rows = &mut load.by_release[..table.n as usize];
+        rows.sort_unstable_by_key(|&index| table.release[index as usize]);
+        load
+    }
+
+    /// The worst finish of the row at `index` under the rows of `above`, a word
+    /// that may or may not hold the row itself.
+    fn finish(&self, index: usize, above: u64) -> u32 {
+        let mine = self.table.release[index];
+        let with_row = above | 1 << index;
+        let caps = if self.table.level[index] == LO {
+            &self.at_normal
+        } else {
+            &self.at_degraded
+        };
+        let mut end = 0;
+        for &other in &self.by_release[..self.table.n as usize] {
+            let other = other as usize;
+            if with_row >> other & 1 == 0 {
+                continue;
+            }
+            let release = self.table.release[other];
+            if release > mine && end <= release {
+                return end;
+            }
+            end = end.max(release) + caps[other];
+        }
+        end
+    }
+
+    fn meets(&self, index: usize, above: u64) -> bool {
+        self.finish(index, above) <= self.table.deadline[index]
+    }
+
+    /// All row indices in their trial sequence (rule 4.3).
+    fn trial_sequence(&self) -> Vec<u8> {
+        let mut sequence: Vec<u8> = (0..self.table.n as u8).collect();
+        sequence.sort_unstable_by_key(|&index| {
+            let index = index as usize;
+            let falling = u32::MAX - self.table.deadline[index];
+            (self.table.level[index], falling, index)
+        });
+        sequence
+    }
+}
+
+/// The planner.
+pub fn plan(table: &Table) -> Plan {
+    plan_and_trials(table).0
+}
+
+/// The planner, and how many rows it tried until it had its answer.
+pub fn plan_and_trials(table: &Table) -> (Plan, u32) {
+    let refusal = check_table(table);
+    if refusal != 0 {
+        return (answer(refusal, NO_ORDER, 0), 0);
+    }
+    let load = Load::of(table);
+    let mut waiting = load.trial_sequence();
+    let mut left = u64::MAX >> (ROWS as u32 - table.n);
+    let mut order = NO_ORDER;
+    let mut trials = 0;
+    while let Some(place) = waiting.len().checked_sub(1) {
+        let passing = waiting.iter().position(|&index| {
+            trials += 1;
+            load.meets(index as usize, left)
+        });
+        let Some(position) = passing else {
+            return (answer(7, NO_ORDER, left), trials);
+        };
+        let index = waiting.remove(position);
+        left &= !(1 << index);
+        order[place] = index + 1;
+    }
+    (answer(0, order, 0), trials)
+}
+
+fn answer(number: u32, order: Order, left: u64) -> Plan {
+    Plan {
+        number,
+        order,
+        left,
+    }
+}
+
+/// Checks 3, 4, 5, then 6.
+fn check(table: &Table, order: &Order) -> u32 {
+    match check_table(table) {
+        0 if is_order(table.n as usize, order) => 0,
+        0 => 6,
+        refusal => refusal,
+    }
+}
+
+fn is_order(n: usize, order: &Order) -> bool {
+    let mut held = 0u64;
+    for &row in &order[..n] {
+        if row == 0 || row as usize > n || held >> (row - 1) & 1 == 1 {
+            return false;
+        }
+        held |= 1 << (row - 1);
+    }
+    order[n..].iter().all(|&row| row == 0)
+}
+
+/// The worst finish of every row, in slots.
+pub fn finishes(table: &Table, order: &Order) -> (u32, [u32; ROWS]) {
+    let mut finishes = [0; ROWS];
+    let refusal = check(table, order);
+    if refusal != 0 {
+        return (refusal, finishes);
+    }
+    let load = Load::of(table);
+    let mut above = 0;
+    for &row in &order[..table.n as usize] {
+        let index = row as usize - 1;
+        finishes[index] = load.finish(index, above);
+        above |= 1 << index;
+    }
+    (0, finishes)
+}
+
+/// The judge.
+pub fn judge(table: &Table, order: &Order) -> Verdict {
+    let (number, finishes) = finishes(table, order);
+    let mut verdict = Verdict {
+        number,
+        yes: false,
+        row: 0,
+        slack: 0,
+    };
+    if number != 0 {
+        return verdict;
+    }
+    for (index, &finish) in finishes.iter().enumerate().take(table.n as usize) {
+        let slack = i64::from(table.deadline[index]) - i64::from(finish);
+        if verdict.row == 0 || slack < verdict.slack {
+            verdict.row = index as u8 + 1;
+            verdict.slack = slack;
+        }
+    }
+    verdict.yes = verdict.slack >= 0;
+    verdict
+}
+
+/// What closes a row: its work got, or a LO row's allowance used up.
+fn is_over(table: &Table, index: usize, got: u32, used: u32) -> bool {
+    let dropped = || used >= need(table.work[index], table.normal);
+    got >= table.work[index] || table.level[index] != HI && dropped()
+}
+
+/// Check 9 does not refuse the record.
+pub fn is_sound(record: &Record) -> bool {
+    check(&record.table, &record.order) == 0
+        && record.clock <= LAST_CLOCK
+        && (0..ROWS).all(|index| entry_is_sound(record, index))
+}
+
+fn entry_is_sound(record: &Record, index: usize) -> bool {
+    let (got, used, closing) = (record.got[index], record.used[index], record.closing[index]);
+    if index >= record.table.n as usize {
+        return got == 0 && used == 0 && closing == 0;
+    }
+    got <= record.table.work[index]
+        && used <= record.clock
+        && closing <= record.clock
+        && (closing != 0) == is_over(&record.table, index, got, used)
+}
+
+/// The row that the coming slot runs, 0 for an idle slot.
+fn chosen(record: &Record) -> u8 {
+    let is_ready = |&&row: &&u8| {
+        let index = row as usize - 1;
+        record.closing[index] == 0 && record.table.release[index] <= record.clock
+    };
+    let places = &record.order[..record.table.n as usize];
+    places.iter().find(is_ready).copied().unwrap_or(0)
+}
+
+fn step(record: &mut Record, supply: u32) -> u8 {
+    let row = chosen(record);
+    record.clock += 1;
+    if row != 0 {
+        let index = row as usize - 1;
+        let got = record.got[index].saturating_add(supply);
+        record.got[index] = got.min(record.table.work[index]);
+        record.used[index] += 1;
+        if is_over(&record.table, index, record.got[index], record.used[index]) {
+            record.closing[index] = record.clock;
+        }
+    }
+    row
+}
+
+/// The number and row of the coming slot.
+pub fn coming(record: &Record) -> (u32, u8) {
+    if !is_sound(record) {
+        (9, 0)
+    } else if record.clock == LAST_CLOCK {
+        (8, 0)
+    } else {
+        (0, chosen(record))
+    }
+}
+
+/// One slot on a record by reference: number and row run.
+pub fn one_slot(record: &mut Record, supply: u32) -> (u32, u8) {
+    if !is_sound(record) {
+        (9, 0)
+    } else if record.clock == LAST_CLOCK {
+        (8, 0)
+    } else {
+        (0, step(record, supply))
+    }
+}
+
+/// Forward on a record by reference: number and slots worked.
+pub fn forward(record: &mut Record, supplies: &[u32]) -> (u32, u32) {
+    if !is_sound(record) {
+        return (9, 0);
+    }
+    let mut worked = 0;
+    for &supply in supplies {
+        if record.clock == LAST_CLOCK {
+            return (8, worked);
+        }
+        step(record, supply);
+        worked += 1;
+    }
+    (0, worked)
+}
+
+/// What the planning program writes: the model's reader and writer around this
+/// planner.
+pub fn program(input: &[u8]) -> Vec<u8> {
+    let kept = &input[..input.len().min(crate::program::KEPT)];
+    let (refusal, table) = read_sheet(kept);
+    if refusal != 0 {
+        return write_line(&[refusal, 0]);
+    }
+    let made = plan(&table);
+    if made.number != 0 {
+        return write_line(&[made.number, made.left.count_ones()]);
+    }
+    let mut text = write_line(&[0, table.n]);
+    let (_, finishes) = finishes(&table, &made.order);
+    for place in 1..=table.n {
+        let row = made.order[place as usize - 1];
+        let index = row as usize - 1;
+        let slack = table.deadline[index] - finishes[index];
+        text.extend(write_line(&[place, u32::from(row), slack]));
+    }
+    text
+}

@@ -1,0 +1,38 @@
+#!/usr/bin/env bash
+# Tests that a run by stretches asks the archive a few times and not once a slot, whatever the sheet.
+# Usage: tools/few_calls.sh COMMAND    COMMAND: the command linked with c/counted.c
+set -euo pipefail
+command=$(realpath "$1")
+there=$(mktemp -d)
+trap 'rm -rf "$there"' EXIT
+cd "$there"
+
+# few ROWS SLOTS ARGUMENTS..: not one call a slot; for each stretch, of which there are at most three for each row and one, at most
+# forty calls over lists; and these work each slot at most four times.
+few() {
+    local rows=$1 slots=$2 stretches calls
+    shift 2
+    "$command" "$@" >out 2>err
+    read -r _ single _ calls _ worked <err
+    stretches=$(grep -c '^from' out)
+    if [ "$single" -ne 0 ] || [ "$stretches" -gt $((3 * rows + 1)) ] || [ "$calls" -gt $((40 * stretches)) ] || [ "$worked" -gt $((4 * slots)) ]; then
+        echo "NOT AS IT SHOULD BE: $*: $stretches stretches, $single calls for one slot, $calls calls over lists, $worked slots"
+        exit 1
+    fi
+    echo "few calls: $rows rows, $slots slots: $stretches stretches, $calls calls over lists, which work $worked slots"
+}
+
+equal=() && apart=()
+for ((row = 0; row < 64; row++)); do
+    equal+=("0,15625,1000000,1")
+    apart+=("$((15000 * row)),$((9000 + row % 2 * 9000)),1000000,$((row % 2))")
+done
+"$command" sheet 1 1 0,1000000,1000000,1 >one.sheet 2>err
+"$command" sheet 1 1 "${equal[@]}" >equal.sheet 2>err
+"$command" sheet 2 1 "${apart[@]}" >apart.sheet 2>err
+order=$(seq -s , 64 -1 1)
+few 1 1000000 run one.sheet --stretches 1000000x1
+few 1 2000000 run one.sheet --stretches 2000000x0
+few 64 1000000 run equal.sheet --stretches 1000000x1
+few 64 1000000 run apart.sheet --stretches --order "$order" 500000x1 500000x2
+few 64 2000000 run apart.sheet --stretches --order "$order" 2000000x0

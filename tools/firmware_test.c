@@ -1,0 +1,683 @@
+/*
+ * What docs/FIRMWARE.md says of records and answers, called against the archive, and the page's loop on a board that is played here.
+ *
+ *     firmware_test       exit status 0 and a line for each claim, or 1 with the claim that failed
+ *
+ * The loop is compiled from the page by tools/firmware_test.sh and linked to this file.
+ */
+#define _POSIX_C_SOURCE 200809L
+
+#include "jasminebrace.h"
+
+#include <signal.h>
+#include <stdarg.h>
+#include <stdio.h>
+#include <stdlib.h>
+#include <string.h>
+#include <unistd.h>
+
+/* The listing's functions. */
+uint32_t one_slot(jb_run *run);
+uint32_t plot(const jb_table *table, jb_run *run);
+
+enum {
+    COURSE = 4096, /* slots that a played board has supplies for; the last one is repeated */
+    TABLES = 1000  /* tables that each claim over many tables is tried on */
+};
+
+static void must(int holds, const char *words, ...) {
+    va_list rest;
+    if (holds) {
+        return;
+    }
+    va_start(rest, words);
+    fprintf(stderr, "not so: ");
+    vfprintf(stderr, words, rest);
+    fprintf(stderr, "\n");
+    va_end(rest);
+    exit(1);
+}
+
+/* ---- the board ---- */
+
+typedef struct {
+    uint32_t real_work; /* work units that the job really takes */
+    uint32_t units;     /* work units counted so far */
+    uint32_t ended_at;  /* tick at whose slot's end the job had ended, 0 before */
+    uint32_t calls;     /* how often board_closed or board_work_over_c was called */
+    int done, in_time, over_c;
+} job;
+
+static struct {
+    job jobs[JB_ROWS + 1];
+    uint32_t supply[COURSE]; /* what each slot really supplies, in work units */
+    uint32_t rows[COURSE];   /* the row that ran in each slot */
+    uint32_t slots;          /* slots so far */
+    int started;             /* whether tick 0 has come */
+    jb_run *run;             /* the loop's record, where the board looks at it or changes it */
+    int begun_fresh;         /* whether that record was fresh at tick 0 */
+    int damage;              /* whether the record is damaged when a row is told closed, */
+    uint32_t damaged_n;      /* so that its row count is this and every closing slot is set */
+    int starts_over;         /* whether the job of the next slot, and its counter, begin again from 0 in it */
+    int to_last_slot;        /* whether slots that supply nothing pass up to the clock's last slot before a tick comes */
+} board;
+
+static uint32_t real_supply(uint32_t slot) {
+    return board.supply[slot < COURSE ? slot : COURSE - 1];
+}
+
+void board_start(void);
+void board_run_until_tick(uint32_t row);
+uint32_t board_units(uint32_t row);
+int board_ended(uint32_t row);
+void board_closed(uint32_t row, int done, int in_time);
+void board_work_over_c(uint32_t row);
+
+/* Slots that supply nothing, up to the last slot of the clock. */
+static void pass_to_last_slot(jb_run *run) {
+    uint32_t worked;
+    uint32_t *nothing = (uint32_t *)calloc(JB_LAST_CLOCK, sizeof *nothing);
+    must(nothing != NULL, "no memory");
+    must(jb_work_forward(run, nothing, JB_LAST_CLOCK - 1 - run->clock, &worked) == JB_OK, "the slots up to the last are not worked");
+    must(run->clock == JB_LAST_CLOCK - 1, "the last slot is not the coming one");
+    free(nothing);
+}
+
+void board_start(void) {
+    must(!board.started && board.slots == 0, "the board is started twice, or after a slot");
+    board.started = 1;
+    if (board.run != NULL) {
+        uint32_t row;
+        board.begun_fresh = jb_coming_row(board.run, &row) == JB_OK && board.run->clock == 0;
+    }
+}
+
+void board_run_until_tick(uint32_t row) {
+    uint32_t supply = real_supply(board.slots);
+    must(board.started, "a slot is run before the board has started");
+    if (board.to_last_slot) {
+        pass_to_last_slot(board.run);
+        board.to_last_slot = 0;
+    }
+    if (board.slots < COURSE) {
+        board.rows[board.slots] = row;
+    }
+    board.slots++;
+    if (row != 0) {
+        job *it = &board.jobs[row];
+        must(it->calls == 0, "a closed row is named again: row %u", row);
+        if (board.starts_over) {
+            it->units = 0;
+            board.starts_over = 0;
+        }
+        it->units = supply < it->real_work - it->units ? it->units + supply : it->real_work;
+        if (it->units == it->real_work && it->ended_at == 0) {
+            it->ended_at = board.slots;
+        }
+    }
+}
+
+uint32_t board_units(uint32_t row) {
+    must(row != 0, "the units of row 0 are asked for");
+    return board.jobs[row].units;
+}
+
+int board_ended(uint32_t row) {
+    must(row != 0, "the end of row 0 is asked for");
+    return board.jobs[row].ended_at != 0;
+}
+
+void board_closed(uint32_t row, int done, int in_time) {
+    board.jobs[row].calls++;
+    board.jobs[row].done = done;
+    board.jobs[row].in_time = in_time;
+    if (board.damage) {
+        board.run->table.n = board.damaged_n;
+        for (uint32_t other = 0; other < JB_ROWS; other++) {
+            board.run->closing[other] = 1;
+        }
+    }
+}
+
+void board_work_over_c(uint32_t row) {
+    board.jobs[row].calls++;
+    board.jobs[row].over_c = 1;
+}
+
+/* ---- tables and courses of speed, from a fixed seed ---- */
+
+static uint64_t seed = 1;
+
+static uint32_t below(uint32_t bound) {
+    seed = seed * 6364136223846793005u + 1442695040888963407u;
+    return (uint32_t)((seed >> 33) % bound);
+}
+
+static jb_table empty_table(uint32_t normal, uint32_t degraded) {
+    jb_table table;
+    memset(&table, 0, sizeof table);
+    table.normal = normal;
+    table.degraded = degraded;
+    return table;
+}
+
+static void add_row(jb_table *table, uint32_t release, uint32_t work, uint32_t deadline, uint32_t level) {
+    table->release[table->n] = release;
+    table->work[table->n] = work;
+    table->deadline[table->n] = deadline;
+    table->level[table->n] = level;
+    table->n++;
+}
+
+/* A table that has a correct order, and that order. */
+static jb_table planned_table(uint8_t order[JB_ROWS]) {
+    for (;;) {
+        uint64_t left;
+        uint32_t normal = 1 + below(12), rows = 1 + below(below(8) == 0 ? 20 : 6);
+        jb_table table = empty_table(normal, 1 + below(normal));
+        while (table.n < rows) {
+            uint32_t release = 3 + below(20);
+            add_row(&table, release, 1 + below(5 * normal), release + 1 + below(8 + 8 * rows), below(2));
+        }
+        uint32_t number = jb_plan_table(&table, order, &left);
+        must(number == JB_OK || number == JB_NO_ORDER, "a table within the limits is answered %u", number);
+        if (number == JB_OK) {
+            return table;
+        }
+    }
+}
+
+/* A board whose slots each supply from least to most work units, and whose jobs take c work units or, where less is set, up to that. */
+static void new_board(const jb_table *table, uint32_t least, uint32_t most, int less) {
+    memset(&board, 0, sizeof board);
+    for (size_t slot = 0; slot < COURSE; slot++) {
+        board.supply[slot] = least + below(most - least + 1);
+    }
+    for (uint32_t row = 1; row <= table->n; row++) {
+        board.jobs[row].real_work = less ? 1 + below(table->work[row - 1]) : table->work[row - 1];
+    }
+}
+
+static jb_run fresh_run(const jb_table *table, const uint8_t order[JB_ROWS]) {
+    jb_run run;
+    must(jb_fresh_run(table, order, &run) == JB_OK, "a planned order is refused");
+    return run;
+}
+
+/* The run over so many of the board's true supplies. */
+static jb_run true_run(const jb_table *table, const uint8_t order[JB_ROWS], uint32_t slots) {
+    uint32_t worked;
+    jb_run run = fresh_run(table, order);
+    must(slots <= COURSE, "%u slots are more than the board has supplies for", slots);
+    must(jb_work_forward(&run, board.supply, slots, &worked) == JB_OK && worked == slots, "the slots are not worked");
+    return run;
+}
+
+static int same(const jb_run *one, const jb_run *other) {
+    return memcmp(one, other, sizeof *one) == 0;
+}
+
+/* Whether all but the work got of the two records is the same. */
+static int same_but_got(jb_run one, jb_run other) {
+    memset(one.got, 0, sizeof one.got);
+    memset(other.got, 0, sizeof other.got);
+    return same(&one, &other);
+}
+
+static int ended_in_time(const jb_table *table, uint32_t row) {
+    return board.jobs[row].ended_at != 0 && board.jobs[row].ended_at <= table->deadline[row - 1];
+}
+
+/* ---- the claims ---- */
+
+/* Jobs of work c: the loop's record is the one of the true supplies, byte for byte, though it reports c for ends and 0 for idle slots. */
+static void record_of_true_supplies(void) {
+    for (int trial = 0; trial < TABLES; trial++) {
+        uint8_t order[JB_ROWS];
+        jb_table table = planned_table(order);
+        jb_run run;
+        new_board(&table, 1, 2 * table.normal, 0);
+        must(plot(&table, &run) == JB_OK, "the loop does not end with 0");
+        jb_run paper = true_run(&table, order, board.slots);
+        must(same(&run, &paper), "the loop's record is not that of the true supplies");
+        for (uint32_t row = 1; row <= table.n; row++) {
+            const job *it = &board.jobs[row];
+            const int done = run.got[row - 1] == table.work[row - 1];
+            must(it->calls == 1 && !it->over_c, "row %u is not told closed once", row);
+            must(it->done == done && it->done == (it->ended_at != 0), "row %u is told done otherwise than it is", row);
+            must(it->in_time == ended_in_time(&table, row), "row %u is told in time otherwise than it is", row);
+        }
+    }
+    puts("the loop's record is that of the true supplies, byte for byte; every closing is told once");
+}
+
+/* Real jobs of at most c keep their deadlines: all at N, HI at G. */
+static void real_deadlines(void) {
+    for (int trial = 0; trial < TABLES; trial++) {
+        uint8_t order[JB_ROWS];
+        jb_table table = planned_table(order);
+        jb_run run;
+        const int normal = trial % 2;
+        const uint32_t least = normal ? table.normal : table.degraded;
+        new_board(&table, least, least + below(4) * table.normal, trial % 3 != 0);
+        must(plot(&table, &run) == JB_OK, "the loop does not end with 0");
+        for (uint32_t row = 1; row <= table.n; row++) {
+            if (normal || table.level[row - 1] == JB_HI) {
+                must(ended_in_time(&table, row), "row %u's job is late at %s", row, normal ? "N" : "G");
+                must(board.jobs[row].in_time, "row %u is not told in time", row);
+            }
+        }
+    }
+    puts("real jobs of at most c work units end in time: all with N, HI with G");
+}
+
+/* Slots before the earliest release and after a row's deadline may supply nothing. */
+static void window_only(void) {
+    for (int trial = 0; trial < TABLES; trial++) {
+        uint8_t order[JB_ROWS];
+        jb_table table = planned_table(order);
+        jb_run run;
+        uint32_t earliest = COURSE, row = 1 + below(table.n);
+        for (uint32_t other = 1; other <= table.n; other++) {
+            earliest = table.release[other - 1] < earliest ? table.release[other - 1] : earliest;
+        }
+        const uint32_t least = table.level[row - 1] == JB_HI ? table.degraded : table.normal;
+        new_board(&table, least, 2 * table.normal, 1);
+        for (uint32_t slot = 0; slot < COURSE / 2; slot++) {
+            if (slot < earliest || slot >= table.deadline[row - 1]) {
+                board.supply[slot] = 0;
+            }
+        }
+        must(plot(&table, &run) == JB_OK, "the loop does not end with 0");
+        must(ended_in_time(&table, row), "row %u is late though its window was supplied", row);
+    }
+    puts("only the slots of a row's window count for its deadline");
+}
+
+/* A job of more than c is told, and costs no other row its deadline. */
+static void work_over_c(void) {
+    for (int trial = 0; trial < TABLES; trial++) {
+        uint8_t order[JB_ROWS];
+        jb_table table = planned_table(order);
+        jb_run run;
+        uint32_t long_one = 1 + below(table.n);
+        new_board(&table, table.normal, 3 * table.normal, 1);
+        board.jobs[long_one].real_work = table.work[long_one - 1] + 1 + 3 * table.normal;
+        must(plot(&table, &run) == JB_OK, "the loop does not end with 0");
+        must(board.jobs[long_one].over_c && board.jobs[long_one].ended_at == 0, "work over c is not told");
+        for (uint32_t row = 1; row <= table.n; row++) {
+            must(row == long_one || ended_in_time(&table, row), "row %u is late through another's work over c", row);
+        }
+    }
+    puts("work over c: told, the row is closed, all other rows keep their deadlines");
+}
+
+/* The row answered is the coming one whatever the supply; coming changes nothing; idle slots ignore the figure. */
+static void coming_and_idle(void) {
+    uint32_t idle = 0;
+    for (int trial = 0; trial < TABLES; trial++) {
+        uint8_t order[JB_ROWS];
+        jb_table table = planned_table(order);
+        jb_run run = fresh_run(&table, order);
+        for (uint32_t slot = 0; slot < 60; slot++) {
+            jb_run before = run, other = run;
+            uint32_t coming, row;
+            must(jb_coming_row(&run, &coming) == JB_OK, "a sound record is refused");
+            must(same(&run, &before), "asking for the coming row changes the record");
+            must(jb_work_slot(&other, below(2) ? 0 : UINT32_MAX, &row) == JB_OK && row == coming, "the row depends on the supply");
+            must(jb_work_slot(&run, below(2 * table.normal), &row) == JB_OK && row == coming, "the row is not the coming one");
+            if (coming == 0) {
+                before.clock++;
+                must(same(&run, &before) && same(&other, &before), "an idle slot changes more than the clock");
+                idle++;
+            }
+        }
+    }
+    must(idle > TABLES, "only %u idle slots were met", idle);
+    puts("the row is the coming one whatever is reported; an idle slot changes the clock alone");
+}
+
+/* Works a slot on the board and reports c for an end, else 0 or up to the count. Gives the row. */
+static uint32_t slot_by_ends(jb_run *run, int nothing) {
+    uint32_t row;
+    const uint32_t supply = real_supply(board.slots);
+    must(jb_coming_row(run, &row) == JB_OK, "a sound record is refused");
+    board_run_until_tick(row);
+    const int ended = row != 0 && board_ended(row);
+    const uint32_t figure = ended ? run->table.work[row - 1] : nothing ? 0 : below(supply + 1);
+    must(jb_work_slot(run, figure, &row) == JB_OK, "a slot is refused");
+    if (row != 0 && !jb_is_open(run, row)) {
+        board_closed(row, jb_is_done(run, row), 0);
+    }
+    return row;
+}
+
+/* Reporting 0, or anything up to the count, for full slots and c for ends: all but the work got of rows not done is as with the true figures. */
+static void ends_alone(void) {
+    uint32_t dropped = 0;
+    for (int trial = 0; trial < TABLES; trial++) {
+        uint8_t order[JB_ROWS];
+        jb_table table = planned_table(order);
+        jb_run run = fresh_run(&table, order), truth = run;
+        const int less = trial % 4 == 3; /* jobs of less than c: an end is an end in the true figures too */
+        new_board(&table, trial % 2, 2 * table.normal, less);
+        board_start();
+        for (uint32_t slot = 0; slot < 200; slot++) {
+            uint32_t same_row, row = slot_by_ends(&run, trial % 3 == 0);
+            const uint32_t figure = less && row != 0 && board_ended(row) ? table.work[row - 1] : real_supply(slot);
+            must(jb_work_slot(&truth, figure, &same_row) == JB_OK && row == same_row, "another row runs than with the true figures");
+            must(same_but_got(run, truth), "more than the work got differs");
+            if (row != 0 && !jb_is_open(&run, row)) {
+                must(jb_is_done(&run, row) == jb_is_done(&truth, row), "row %u is done in one record only", row);
+                dropped += (uint32_t)jb_is_dropped(&run, row);
+            }
+        }
+    }
+    must(dropped > TABLES / 10, "only %u rows were dropped", dropped);
+    puts("ends reported, full slots at or below the count: rows, slots used, closings and clock as with the true figures");
+}
+
+/* Reporting ends alone keeps the deadlines of real jobs: all at N, HI at G. */
+static void deadlines_by_ends(void) {
+    for (int trial = 0; trial < TABLES; trial++) {
+        uint8_t order[JB_ROWS];
+        jb_table table = planned_table(order);
+        jb_run run = fresh_run(&table, order);
+        const int normal = trial % 2;
+        const uint32_t least = normal ? table.normal : table.degraded;
+        new_board(&table, least, least + below(4) * table.normal, trial % 3 != 0);
+        board_start();
+        for (uint32_t slot = 0; slot < 400; slot++) {
+            slot_by_ends(&run, 1);
+        }
+        for (uint32_t row = 1; row <= table.n; row++) {
+            if (normal || table.level[row - 1] == JB_HI) {
+                must(ended_in_time(&table, row) && !jb_is_late(&run, row), "row %u's job is late at %s", row, normal ? "N" : "G");
+            }
+        }
+    }
+    puts("ends alone reported: real jobs end in time, all with N, HI with G");
+}
+
+/* An end reported as no more than what is lacking, or as far more: the same record. With the units of a shorter job alone the row stays open. */
+static void early_end(void) {
+    static const uint8_t order[JB_ROWS] = {1};
+    static const uint32_t first = 5;
+    jb_table table = empty_table(5, 2);
+    uint32_t row;
+    add_row(&table, 0, 8, 9, JB_HI);
+    jb_run lacking = fresh_run(&table, order), work, whole, most, units;
+    must(jb_work_slot(&lacking, first, &row) == JB_OK && row == 1, "the first slot");
+    work = whole = most = units = lacking;
+    must(jb_work_slot(&lacking, 3, &row) == JB_OK && lacking.closing[0] == 2 && lacking.got[0] == 8, "3 work units were lacking");
+    must(jb_work_slot(&work, 8, &row) == JB_OK && same(&work, &lacking), "c gives another record");
+    must(jb_work_slot(&whole, 5, &row) == JB_OK && same(&whole, &lacking), "the slot's whole supply gives another record");
+    must(jb_work_slot(&most, UINT32_MAX, &row) == JB_OK && same(&most, &lacking), "the largest figure gives another record");
+    must(jb_work_slot(&units, 2, &row) == JB_OK && units.closing[0] == 0, "the row is closed by 7 of 8 work units");
+    must(jb_coming_row(&units, &row) == JB_OK && row == 1, "the next slot does not go to the row that was left open");
+    puts("an end: what is lacking, c, the whole supply and more give one record; less leaves the row open");
+}
+
+/* Lower bounds without ends: a LO row dropped though its job has ended; a HI row named on, a LO row below late; HI rows kept while figures are at least G. */
+static void lagging(void) {
+    static const uint8_t one[JB_ROWS] = {1};
+    uint8_t order[JB_ROWS];
+    uint64_t left;
+    uint32_t row;
+    jb_table table = empty_table(5, 2);
+    add_row(&table, 0, 10, 5, JB_LO);
+    jb_run run = fresh_run(&table, one); /* the job ends after two slots of 5 work units, reported as 4 */
+    must(jb_work_slot(&run, 4, &row) == JB_OK && jb_work_slot(&run, 4, &row) == JB_OK, "two slots");
+    must(run.closing[0] == 2 && run.got[0] == 8, "the LO row is not dropped at 2");
+
+    table = empty_table(5, 2);
+    add_row(&table, 0, 10, 5, JB_HI); /* ends after two slots of 5 work units, reported as 2 */
+    add_row(&table, 0, 5, 4, JB_LO);
+    must(jb_plan_table(&table, order, &left) == JB_OK && order[0] == 1 && order[1] == 2, "the order is not 1 2");
+    run = fresh_run(&table, order);
+    for (uint32_t slot = 0; slot < 5; slot++) {
+        must(jb_work_slot(&run, table.degraded, &row) == JB_OK && row == 1, "slot %u does not go to row 1", slot);
+    }
+    must(jb_work_slot(&run, 5, &row) == JB_OK && row == 2 && run.closing[1] == 6, "row 2 is not closed at 6");
+    must(run.closing[1] > table.deadline[1], "row 2 is not late");
+
+    for (int trial = 0; trial < TABLES; trial++) {
+        table = planned_table(order);
+        run = fresh_run(&table, order);
+        new_board(&table, table.degraded, 3 * table.normal, 1);
+        board_start();
+        for (uint32_t slot = 0; slot < 400; slot++) {
+            must(jb_coming_row(&run, &row) == JB_OK, "a sound record is refused");
+            board_run_until_tick(row);
+            must(jb_work_slot(&run, table.degraded + below(real_supply(slot) - table.degraded + 1), &row) == JB_OK, "a slot");
+            if (row != 0 && run.closing[row - 1] != 0) {
+                board_closed(row, 1, 1);
+            }
+        }
+        for (row = 1; row <= table.n; row++) {
+            must(table.level[row - 1] == JB_LO || ended_in_time(&table, row), "HI row %u is late by lower bounds of at least G", row);
+        }
+    }
+    puts("lower bounds without ends: LO rows are lost, HI rows kept while the figures are at least G");
+}
+
+/* Too much reported of one row's slots: its job is left unfinished, all others keep their deadlines. */
+static void too_much(void) {
+    uint32_t unfinished = 0;
+    for (int trial = 0; trial < TABLES; trial++) {
+        uint8_t order[JB_ROWS];
+        jb_table table = planned_table(order);
+        jb_run run = fresh_run(&table, order);
+        uint32_t row, boasted = 1 + below(table.n);
+        new_board(&table, table.normal, 2 * table.normal, 0);
+        board_start();
+        for (uint32_t slot = 0; slot < 400; slot++) {
+            must(jb_coming_row(&run, &row) == JB_OK, "a sound record is refused");
+            board_run_until_tick(row);
+            must(jb_work_slot(&run, row == boasted ? 2 * real_supply(slot) : real_supply(slot), &row) == JB_OK, "a slot");
+            if (row != 0 && run.closing[row - 1] != 0) {
+                board_closed(row, 1, 1); /* the board stops the test if the row is named again */
+            }
+        }
+        must(run.got[boasted - 1] == table.work[boasted - 1], "row %u is not done in the record", boasted);
+        unfinished += board.jobs[boasted].ended_at == 0;
+        for (row = 1; row <= table.n; row++) {
+            must(row == boasted || ended_in_time(&table, row), "row %u is late through another's figures", row);
+        }
+    }
+    must(unfinished > TABLES / 4, "only %u jobs were left unfinished", unfinished);
+    puts("too much reported: that row is closed unfinished and never named again, all others keep their deadlines");
+}
+
+/* A given-up job: its row is closed as done by the next slot that goes to it. */
+static void given_up(void) {
+    static const uint8_t order[JB_ROWS] = {1, 2};
+    jb_table table = empty_table(5, 2);
+    add_row(&table, 0, 40, 30, JB_HI);
+    add_row(&table, 0, 5, 30, JB_LO);
+    jb_run run = fresh_run(&table, order);
+    new_board(&table, 2, 2, 0);
+    board_start();
+    must(one_slot(&run) == JB_OK && run.got[0] == 2 && run.closing[0] == 0, "the first slot");
+    board.jobs[1].ended_at = 1;
+    must(one_slot(&run) == JB_OK && run.closing[0] == 2 && board.jobs[1].done, "the row is not closed by the next slot");
+    must(one_slot(&run) == JB_OK && board.rows[2] == 2, "the next slot does not go to the row below");
+    puts("a job given up: its row is closed as done by the next slot that goes to it");
+}
+
+/* Restoring: supplies worked again give the same record; 9 finds some damage, not another sheet's record, an old copy or what no run makes. */
+static void restored(void) {
+    static const uint8_t order[JB_ROWS] = {2, 1};
+    uint32_t row, worked;
+    for (int trial = 0; trial < TABLES; trial++) {
+        uint8_t planned[JB_ROWS];
+        jb_table table = planned_table(planned);
+        jb_run run = fresh_run(&table, planned), again = run;
+        uint32_t cut = below(100);
+        new_board(&table, 0, 2 * table.normal, 0);
+        for (uint32_t slot = 0; slot < 100; slot++) {
+            must(jb_work_slot(&run, board.supply[slot], &row) == JB_OK, "a slot is refused");
+        }
+        must(jb_work_forward(&again, board.supply, cut, &worked) == JB_OK && worked == cut, "the first supplies");
+        must(jb_coming_row(&again, &row) == JB_OK, "an old copy is refused");
+        must(jb_work_forward(&again, board.supply + cut, 100 - cut, &worked) == JB_OK && worked == 100 - cut, "the rest");
+        must(same(&run, &again), "the supplies worked again give another record");
+    }
+    jb_table table = empty_table(5, 2);
+    add_row(&table, 0, 40, 30, JB_HI);
+    add_row(&table, 0, 40, 30, JB_HI);
+    jb_run none = fresh_run(&table, order); /* two rows that have each used every slot: no run makes this */
+    none.clock = 5;
+    none.used[0] = none.used[1] = 5;
+    must(jb_coming_row(&none, &row) == JB_OK && row == 2, "the record of no run is refused");
+    jb_run damaged = fresh_run(&table, order), before;
+    damaged.got[0] = 41;
+    before = damaged;
+    must(jb_coming_row(&damaged, &row) == JB_UNSOUND && row == 0, "work got over c is not 9 when asked");
+    must(jb_work_slot(&damaged, 5, &row) == JB_UNSOUND && row == 0 && same(&damaged, &before), "work got over c is not 9 when worked");
+    must(jb_work_forward(&damaged, &table.normal, 1, &worked) == JB_UNSOUND && worked == 0 && same(&damaged, &before), "forward");
+    new_board(&table, 5, 5, 0);
+    board_start();
+    must(one_slot(&damaged) == JB_UNSOUND && board.slots == 0, "the loop runs a slot on a damaged record");
+    puts("restoring: replayed supplies give the same bytes; 9 leaves the record, and lets pass what no run makes");
+}
+
+/* The end of the clock: 8, nothing changes, and the loop begins no slot. Missed slots reported as 0 drop a LO row. */
+static void clock_end(void) {
+    static const uint8_t order[JB_ROWS] = {2, 1};
+    uint32_t row, worked;
+    jb_table table = empty_table(5, 2);
+    add_row(&table, 0, 40, 30, JB_HI);
+    add_row(&table, 0, 12, 30, JB_LO);
+    jb_run run = fresh_run(&table, order);
+    uint32_t *nothing = (uint32_t *)calloc(JB_LAST_CLOCK, sizeof *nothing);
+    must(nothing != NULL, "no memory");
+    must(jb_work_forward(&run, nothing, 3, &worked) == JB_OK && run.closing[1] == 3 && run.got[1] == 0, "the LO row is not dropped at 3");
+    must(jb_work_forward(&run, nothing, JB_LAST_CLOCK - 4, &worked) == JB_OK && run.clock == JB_LAST_CLOCK - 1, "the slots");
+    must(jb_coming_row(&run, &row) == JB_OK && row == 1, "the last slot is refused");
+    must(jb_work_slot(&run, 1, &row) == JB_OK && row == 1 && run.clock == JB_LAST_CLOCK && run.got[0] == 1, "the last slot");
+    jb_run before = run;
+    must(jb_coming_row(&run, &row) == JB_CLOCK_OVER && row == 0, "asking at the end is not 8");
+    must(jb_work_slot(&run, 1, &row) == JB_CLOCK_OVER && row == 0 && same(&run, &before), "working at the end is not 8");
+    new_board(&table, 5, 5, 0);
+    board_start();
+    must(one_slot(&run) == JB_CLOCK_OVER && board.slots == 0 && same(&run, &before), "the loop runs a slot at the end");
+    free(nothing);
+    puts("the end of the clock: slot 1,999,999 is worked, then 8 and the record stays; slots of 0 drop a LO row");
+}
+
+/* The loop plans, makes a fresh record and only then starts the board; slot 0 begins at tick 0. */
+static void started(void) {
+    for (int trial = 0; trial < TABLES; trial++) {
+        uint8_t order[JB_ROWS];
+        jb_table table = planned_table(order);
+        jb_run run;
+        memset(&run, 0xFF, sizeof run);
+        new_board(&table, table.normal, table.normal, 0);
+        board.run = &run;
+        must(plot(&table, &run) == JB_OK, "the loop does not end with 0");
+        must(board.started && board.begun_fresh, "the board is started before the record is fresh");
+        must(run.clock == board.slots, "the clock is not the ticks since tick 0");
+    }
+    puts("the loop starts the board once, when the record is fresh, and runs no slot before");
+}
+
+/* A job that starts over and, against the rule, its counter with it: 0 is reported of that slot, and the row stays open until its job has ended. */
+static void fallen_counter(void) {
+    static const uint8_t order[JB_ROWS] = {1};
+    jb_table table = empty_table(5, 2);
+    add_row(&table, 0, 40, 30, JB_HI);
+    jb_run run = fresh_run(&table, order);
+    new_board(&table, 5, 5, 0);
+    board_start();
+    must(one_slot(&run) == JB_OK && one_slot(&run) == JB_OK && run.got[0] == 10, "two slots");
+    board.starts_over = 1;
+    must(one_slot(&run) == JB_OK && run.closing[0] == 0 && run.got[0] == 10, "a counter that fell is not reported as 0");
+    must(one_slot(&run) == JB_OK && run.got[0] == 15, "the slot after it is not reported as it was");
+    puts("a counter that fell is reported as 0 work units, and the row stays open");
+}
+
+static void endless(int number) {
+    static const char words[] = "not so: the loop does not end on a damaged record\n";
+    (void)number;
+    if (write(2, words, sizeof words - 1) < 0) {
+        _exit(2);
+    }
+    _exit(1);
+}
+
+/* A record damaged after a slot, so that no row seems open: the loop ends and answers 9. All rows closed by the last slot of the clock: 0. */
+static void seems_closed(void) {
+    static const uint32_t counts[] = {0, 1, 64, 65, 0x80000000u, UINT32_MAX};
+    jb_table table = empty_table(5, 2);
+    jb_run run;
+    add_row(&table, 0, 5, 20, JB_HI);
+    add_row(&table, 0, 40, 30, JB_HI);
+    must(signal(SIGALRM, endless) != SIG_ERR, "no alarm");
+    for (size_t index = 0; index < sizeof counts / sizeof counts[0]; index++) {
+        new_board(&table, 5, 5, 0);
+        board.run = &run;
+        board.damage = 1;
+        board.damaged_n = counts[index];
+        alarm(5);
+        must(plot(&table, &run) == JB_UNSOUND, "a record damaged to %u rows, all closed, is not answered 9", counts[index]);
+        alarm(0);
+        must(run.table.n == counts[index] && board.slots < 9, "the loop goes on after the damage");
+    }
+    table = empty_table(5, 2);
+    add_row(&table, 0, 5, 20, JB_HI);
+    new_board(&table, 5, 5, 0);
+    board.run = &run;
+    board.to_last_slot = 1;
+    must(plot(&table, &run) == JB_OK, "all rows closed by the clock's last slot are not answered 0");
+    must(run.clock == JB_LAST_CLOCK && run.closing[0] == JB_LAST_CLOCK && board.jobs[1].done, "the last slot does not close the row");
+    table.work[0] = 6;
+    new_board(&table, 5, 5, 0);
+    board.run = &run;
+    board.to_last_slot = 1;
+    must(plot(&table, &run) == JB_CLOCK_OVER && board.slots == 1, "a row open at the clock's end is not answered 8");
+    puts("a record damaged so that no row seems open: the loop ends with 9; rows closed by the clock's last slot: 0, one open: 8");
+}
+
+/* What the loop answers for tables that cannot be run. */
+static void refusals(void) {
+    static const uint8_t other[JB_ROWS] = {1, 1};
+    jb_table table = empty_table(2, 1);
+    jb_run run;
+    new_board(&table, 2, 2, 0);
+    must(plot(&table, &run) == JB_ROW_COUNT, "no rows are not 3");
+    add_row(&table, 0, 2, 2, JB_LO);
+    add_row(&table, 0, 4, 4, JB_HI);
+    must(plot(&table, &run) == JB_NO_ORDER, "the table without an order is not 7");
+    must(jb_fresh_run(&table, other, &run) == JB_NOT_AN_ORDER, "a row twice is not 6");
+    table.normal = 1001;
+    must(plot(&table, &run) == JB_SPEEDS, "N 1,001 is not 4");
+    table.normal = 2;
+    table.release[0] = 2;
+    must(plot(&table, &run) == JB_ROW_LIMITS, "a release at the deadline is not 5");
+    must(board.slots == 0 && !board.started, "a refused table starts the board or runs a slot");
+    puts("tables that cannot be run are answered 3, 4, 5, 6 or 7, and no slot is begun");
+}
+
+int main(void) {
+    must(jb_fits(), "the header and the archive do not belong together");
+    must(sizeof(jb_table) == 1036 && sizeof(jb_run) == 1872, "table and record have other sizes");
+    record_of_true_supplies();
+    real_deadlines();
+    window_only();
+    work_over_c();
+    coming_and_idle();
+    ends_alone();
+    deadlines_by_ends();
+    early_end();
+    lagging();
+    too_much();
+    given_up();
+    restored();
+    clock_end();
+    started();
+    fallen_counter();
+    seems_closed();
+    refusals();
+    return 0;
+}

@@ -1,0 +1,112 @@
+#!/usr/bin/env bash
+# docs/FIRMWARE.md against the archive: its listing is taken out of the page, compiled, and run on a board played by tools/firmware_test.c,
+# which also calls what the page says of records. Then the listing is spoilt in ways that the test must notice. Last, the archive's code is
+# looked through for what the page says of variables and the header of bare boards.
+# Needs gcc, g++, objdump, python3 and the archive that `rt staticlib jasminebrace` writes.
+set -euo pipefail
+cd "$(dirname "$0")/.."
+archive=target/staticlib/libjasminebrace.a
+built=$(mktemp -d)
+trap 'rm -rf "$built"' EXIT
+
+fail() { echo "firmware page: $*" >&2; exit 1; }
+
+[ -f "$archive" ] || fail "there is no $archive; rt staticlib jasminebrace writes it"
+
+# The listing: the page's one C listing.
+[ "$(grep -c '^```c$' docs/FIRMWARE.md)" -eq 1 ] || fail "the page has not exactly one C listing"
+sed -n '/^```c$/,/^```$/p' docs/FIRMWARE.md | sed '1d;$d' >"$built/listing.c"
+
+warnings='-Wall -Wextra -Werror -pedantic -Wmissing-prototypes'
+gcc -std=c11 $warnings -O2 -Ic -c -o "$built/test.o" tools/firmware_test.c
+gcc -std=c11 $warnings -O2 -Ic -c -o "$built/listing.o" "$built/listing.c"
+gcc -o "$built/test" "$built/test.o" "$built/listing.o" "$archive"
+"$built/test" || fail "the listing, or what the page says, fails"
+
+# It needs no C library, and is C++ too.
+gcc -std=c11 $warnings -O2 -Ic -ffreestanding -nostdinc -isystem "$(gcc -print-file-name=include)" -fsyntax-only "$built/listing.c"
+g++ -std=c++11 -Wall -Wextra -Werror -pedantic -Ic -fsyntax-only -x c++ "$built/listing.c"
+
+# Spoilt listings fail.
+spoilt=0
+spoil() { # what is replaced, by what
+    grep -qF -- "$1" "$built/listing.c" || fail "the listing has no '$1' to spoil"
+    python3 - "$built/listing.c" "$built/spoilt.c" "$1" "$2" <<'PYTHON'
+import sys
+source, target, old, new = sys.argv[1:]
+text = open(source, encoding="utf-8").read()
+open(target, "w", encoding="utf-8").write(text.replace(old, new))
+PYTHON
+    gcc -std=c11 -w -O2 -Ic -c -o "$built/spoilt.o" "$built/spoilt.c"
+    gcc -o "$built/spoilt" "$built/test.o" "$built/spoilt.o" "$archive"
+    if "$built/spoilt" >"$built/said" 2>&1; then
+        fail "the test does not notice '$2' in place of '$1'"
+    fi
+    grep -q '^not so: ' "$built/said" || fail "'$2' in place of '$1' is not refused by a claim"
+    spoilt=$((spoilt + 1))
+}
+spoil 'return run->table.work[row - 1];' 'return board_units(row) - before;'
+spoil 'return units < before ? 0 : units - before;' 'return units + 0 * before;'
+spoil 'return units < before ? 0 : units - before;' 'return units - before;'
+spoil 'board_run_until_tick(row);
+' 'board_run_until_tick(run->order[0]);
+'
+spoil 'if (jb_is_done(run, row) && !board_ended(row)) {' 'if (0) {'
+spoil '&& !jb_is_late(run, row)' ''
+spoil '        if (jb_is_open(run, row)) {' '        if (row == 1 && jb_is_open(run, row)) {'
+spoil '    if (number != JB_OK) {
+        return number;
+    }
+    const' '    const'
+# Started never, before the record is fresh, or for a table that is refused.
+spoil '    board_start();
+' ''
+spoil '        number = jb_fresh_run(table, order, run);
+    }
+    if (number != JB_OK) {
+        return number; /* nothing was begun */
+    }
+    board_start();' '        board_start();
+        number = jb_fresh_run(table, order, run);
+    }'
+spoil '    if (number != JB_OK) {
+        return number; /* nothing was begun */
+    }
+    board_start();' '    board_start();'
+# Endless on a damaged row count, 0 for a damaged record, 8 where every row is closed.
+spoil ' && row <= JB_ROWS' ''
+spoil 'if (number == JB_OK && jb_coming_row(run, &row) == JB_UNSOUND) {' 'if (0) {'
+spoil 'if (number == JB_OK && jb_coming_row(run, &row) == JB_UNSOUND) {
+        number = JB_UNSOUND;
+    }' 'if (number == JB_OK) {
+        number = jb_coming_row(run, &row);
+    }'
+
+# The archive has no variables of its own, and is x86-64 Linux code.
+objdump -h "$archive" | awk '$2 ~ /^\.(data|bss|tdata|tbss)/ && $3 !~ /^0+$/ { print $2, $3; found = 1 } END { exit found }' >"$built/variables" ||
+    fail "the archive has variables: $(tr '\n' ' ' <"$built/variables")"
+objdump -f "$archive" | grep -q 'file format elf64-x86-64' || fail "the archive is not x86-64 code"
+
+# What the header says under "Bare boards": xmm registers and nothing beyond SSE2, and nothing kept below the stack pointer.
+code() { objdump -d --no-show-raw-insn "$1" | sed -nE 's/^ *[0-9a-f]+:[[:space:]]+//p'; }
+below_stack() { grep -E -- '-0x[0-9a-f]+\(%rsp|^mov +%rsp,%rbp' "$1"; } # a frame pointer would hide the offsets
+code "$archive" >"$built/code"
+[ "$(wc -l <"$built/code")" -gt 1000 ] || fail "the archive's code is not found"
+grep -q '%xmm' "$built/code" || fail "the header says that xmm registers are used, and none is"
+if grep -E '%(ymm|zmm|mm|st|k)[0-9(]|%st\b' "$built/code" >"$built/found"; then
+    fail "the archive uses other registers than the header says: $(head -n 1 "$built/found")"
+fi
+later='lddqu|addsub|hadd|hsub|mov(d|sh|sl)dup|pshufb|palignr|pabs|psign|ph(add|sub)|pmaddubsw|pmulhrsw|p?blend|pinsr[bdq]|pextr[bdq]|pextrw .*\('
+later="$later|extractps|insertps|pm(in|ax)(sb|sd|uw|ud)|pmul(ld|dq)|pmov[sz]x|ptest|round|packusdw|pcmp(eqq|gtq|[ei]str)|crc32|popcnt|[lt]zcnt|andn |bextr|bls|v[a-z]+ "
+if grep -E "^($later)" "$built/code" >"$built/found"; then
+    fail "the archive has instructions beyond SSE2: $(head -n 1 "$built/found")"
+fi
+if below_stack "$built/code" >"$built/found"; then
+    fail "the archive may keep values below the stack pointer: $(head -n 1 "$built/found")"
+fi
+echo 'int leaf(int x); int leaf(int x) { volatile int a[4]; a[x & 3] = x; return a[0]; }' >"$built/leaf.c"
+gcc -std=c11 -O2 -mred-zone -fomit-frame-pointer -c -o "$built/leaf.o" "$built/leaf.c"
+code "$built/leaf.o" >"$built/leaf"
+below_stack "$built/leaf" >/dev/null || fail "a red zone in use is not noticed"
+echo "the archive's code uses xmm registers, nothing beyond SSE2, and keeps nothing below the stack pointer"
+echo "firmware page: every claim holds, $spoilt spoilt listings noticed"
