@@ -1,14 +1,17 @@
 /*
- * The command tools/jasminebrace: plans, judges, runs and explains sheets.
+ * The command tools/jasminebrace: plans, judges, runs, explains and writes sheets.
  *
- * It has no check, no limit and no planner of its own: what it says of a sheet,
- * an order or a run is what the archive answered. It knows how a sheet is laid
- * out, in fields of 8 bytes, to cut it into parts and to ask the archive's
- * reader about each part inside a sheet that is right everywhere else.
+ * It has no check, no limit, no planner and no writer of its own: what it says of
+ * a sheet, an order or a run is what the archive answered, and a sheet, and each
+ * field of 8 bytes of a plain form, is written by the archive. It knows how a
+ * sheet is laid out, in such fields, to cut it into parts and to ask the archive's
+ * reader about each part inside a sheet that is right everywhere else. Rows files
+ * and rows as words are in table.h.
  *
  * Exit status: see enum status.
  */
 #include "jasminebrace.h"
+#include "table.h"
 
 #include <errno.h>
 #include <inttypes.h>
@@ -59,9 +62,16 @@ static int status_of(uint32_t number) {
     return number == JB_OK ? FINE : number == JB_NO_ORDER ? NO : REFUSED;
 }
 
-/* A figure below 100,000,000 as a field of 8 bytes. */
+/*
+ * A figure as a field of 8 bytes, which holds it: all that are put are below
+ * 100,000,000. The largest are worst finishes, and slots after a deadline. A
+ * finish is at most the latest release, 999,999 slots, and the needs of 64 rows,
+ * 1,000,000 slots each: below 65,000,000 slots.
+ */
 static void put_field(uint32_t figure) {
-    printf("%8" PRIu32, figure);
+    uint8_t field[JB_FIELD];
+    jb_field(figure, field);
+    fwrite(field, 1, sizeof field, stdout);
 }
 
 /* A slack in two fields: the slots before the deadline and the slots after it; at least one is 0. */
@@ -389,12 +399,22 @@ static void explain_no_order(FILE *to, uint64_t left) {
     put_remedy(to, JB_NO_ORDER);
 }
 
+/* Says what to do with a rows file that was given for a sheet. */
+static void put_hint(FILE *to, const sheet_file *sheet) {
+    sheet_file copy = *sheet;
+    const text_piece text = {copy.bytes, copy.length};
+    if (begins_as_rows_file(text)) {
+        fputs("hint: this is a rows file; 'jasminebrace sheet ROWS.csv' makes a sheet of it\n", to);
+    }
+}
+
 /* Says why a sheet was answered with a number other than 0. */
 static void explain_number(FILE *to, uint32_t number, const sheet_file *sheet, uint64_t left) {
     if (number == JB_NO_ORDER) {
         explain_no_order(to, left);
     } else {
         explain_refusal(to, number, sheet->bytes, sheet->length);
+        put_hint(to, sheet);
     }
 }
 
@@ -408,18 +428,22 @@ static uint32_t how_many(uint64_t left) {
 
 /* ---- what is read ---- */
 
-/* Reads as much of a file as the reader has to see. Gives FINE, or NOT_USABLE with the reason said. */
-static int read_sheet(const char *name, sheet_file *sheet) {
+static const char *name_of_file(const char *name) {
+    return strcmp(name, "-") == 0 ? "standard input" : name;
+}
+
+/* Reads up to so many bytes of a file. Gives FINE, or NOT_USABLE with the reason said. */
+static int read_file(const char *name, const char *kind, uint8_t *bytes, size_t room, size_t *length) {
     const bool standard = strcmp(name, "-") == 0;
     if (*name == '\0') {
-        return not_usable("the name of the sheet is empty");
+        return not_usable("the name of the %s is empty", kind);
     }
     errno = 0;
     FILE *file = standard ? stdin : fopen(name, "rb");
     if (file == NULL) {
         return not_usable("%s cannot be opened: %s", name, strerror(errno));
     }
-    sheet->length = fread(sheet->bytes, 1, JB_PROGRAM_INPUT, file);
+    *length = fread(bytes, 1, room, file);
     const bool failed = ferror(file) != 0;
     const int reason = errno;
     if (!standard) {
@@ -429,9 +453,14 @@ static int read_sheet(const char *name, sheet_file *sheet) {
         return not_usable("standard input is closed");
     }
     if (failed) {
-        return not_usable("%s cannot be read: %s", standard ? "standard input" : name, strerror(reason));
+        return not_usable("%s cannot be read: %s", name_of_file(name), strerror(reason));
     }
     return FINE;
+}
+
+/* Reads as much of a sheet as the reader has to see. Gives FINE, or NOT_USABLE with the reason said. */
+static int read_sheet(const char *name, sheet_file *sheet) {
+    return read_file(name, "sheet", sheet->bytes, sizeof sheet->bytes, &sheet->length);
 }
 
 /* A decimal number up to a limit that ends at one of these bytes, or at the end of the text. */
@@ -925,82 +954,145 @@ static int explain(const request *asked) {
     return status_of(number);
 }
 
-/* ---- writing a sheet ---- */
+/* ---- writing a sheet, and the rows of one ---- */
 
-/* A sheet in the making; room is made for the words as they are counted before. */
-typedef struct {
-    uint8_t *bytes;
-    size_t length;
-} sheet_text;
-
-/* Pads a word of at most 8 bytes to a field. */
-static bool add_field(sheet_text *text, const char *word, size_t length) {
-    if (length > JB_FIELD) {
-        return false;
-    }
-    memset(text->bytes + text->length, ' ', JB_FIELD - length);
-    memcpy(text->bytes + text->length + JB_FIELD - length, word, length);
-    text->length += JB_FIELD;
-    return true;
+/* The file begins as a sheet does: the reader finds nothing malformed in its first line. */
+static bool begins_as_sheet(text_piece text) {
+    return text.length >= JB_FIRST_LINE && ask_probe(0, text.bytes, JB_FIRST_LINE) != JB_MALFORMED;
 }
 
-static int add_row(sheet_text *text, const char *word) {
-    const char *at = word;
-    for (uint32_t field = 1; field <= ROW_FIELDS; field++) {
-        const size_t length = strcspn(at, ",");
-        if ((at[length] == ',') != (field < ROW_FIELDS)) {
-            return not_usable("a row is release,work,deadline,level with three commas between: '%s'", word);
-        }
-        if (!add_field(text, at, length)) {
-            return not_usable("%s of '%s' has more than the %d bytes of a field", field_name(1, field), word, JB_FIELD);
-        }
-        at += length + 1;
+/* Why a file is no rows file, as far as its first bytes and its length tell; NULL if they do not. */
+static const char *no_rows_file(text_piece text) {
+    const char *other = other_kind_of_file(text);
+    if (other == NULL && begins_as_sheet(text)) {
+        return "this is a sheet and not a rows file; 'jasminebrace rows SHEET' makes a rows file of it";
     }
-    text->bytes[text->length++] = LINE_END;
+    _Static_assert(MOST_ROWS_BYTES == 16777216, "as is said here");
+    if (other == NULL && text.length > MOST_ROWS_BYTES) {
+        return "the file has more than 16,777,216 bytes, which is the most that is allowed; delete the empty rows below the "
+               "last row and save it again";
+    }
+    return other;
+}
+
+/* Takes the text of a rows file. Gives FINE, or NOT_USABLE with the reason said. */
+static int take_rows_file(const char *name, text_piece text, written_table *written) {
+    const char *other = no_rows_file(text);
+    char place[128];
+    trouble found;
+    if (other != NULL) {
+        return not_usable("%s: %s", name, other);
+    }
+    if (read_rows(text, written, &found)) {
+        written->file = name;
+        return FINE;
+    }
+    name_place(found.line, found.column, place, sizeof place);
+    return not_usable("%s%s%s: %s", name, found.line == 0 ? "" : ", ", place, found.what);
+}
+
+static int load_rows_file(const char *name, written_table *written) {
+    const size_t room = MOST_ROWS_BYTES + 1;
+    text_piece text = {(uint8_t *)malloc(room), 0};
+    if (text.bytes == NULL) {
+        return not_usable("there is no memory for a rows file");
+    }
+    int status = read_file(name, "rows file", text.bytes, room, &text.length);
+    if (status == FINE) {
+        status = take_rows_file(name_of_file(name), text, written);
+    }
+    free(text.bytes);
+    return status;
+}
+
+/* Takes the speeds from the first two words. Gives FINE, or NOT_USABLE with the reason said. */
+static int take_speed_words(char **words, jb_table *table) {
+    text_piece cells[SPEED_COLUMNS];
+    uint32_t speeds[SPEED_COLUMNS];
+    char what[320];
+    for (size_t index = 0; index < SPEED_COLUMNS; index++) {
+        const text_piece word = {(uint8_t *)words[index], strlen(words[index])};
+        cells[index] = without_blanks(word);
+    }
+    const size_t wrong = read_cells(cells, SPEED_KINDS, SPEED_COLUMNS, speeds, what, sizeof what);
+    if (wrong != 0) {
+        const char *more = wrong == 1 && is_text(cells[0]) ? "; a rows file is given alone, without other arguments" : "";
+        return not_usable("%s: %s%s", SPEED_KINDS[wrong - 1].name, what, more);
+    }
+    table->normal = speeds[0];
+    table->degraded = speeds[1];
     return FINE;
 }
 
-static int add_first_line(sheet_text *text, size_t rows, const char *normal, const char *degraded) {
-    char n[32];
-    snprintf(n, sizeof n, "%zu", rows);
-    const char *const words[] = {n, normal, degraded};
-    for (uint32_t field = 1; field <= FIRST_LINE_FIELDS; field++) {
-        if (!add_field(text, words[field - 1], strlen(words[field - 1]))) {
-            return not_usable("%s '%s' has more than the %d bytes of a field", field_name(0, field), words[field - 1],
-                              JB_FIELD);
-        }
+/* Takes a row, counted from 1, from a word. Gives FINE, or NOT_USABLE with the reason said. */
+static int take_row_word(char *word, size_t row, jb_table *table) {
+    text_piece cells[ROW_COLUMNS];
+    uint32_t figures[ROW_COLUMNS];
+    char what[320];
+    char *at = word;
+    size_t commas = 0;
+    for (const char *byte = word; *byte != '\0'; byte++) {
+        commas += *byte == ',';
     }
-    text->bytes[text->length++] = LINE_END;
+    if (commas != ROW_COLUMNS - 1) {
+        return not_usable("a row is release,work,deadline,level with three commas between: '%s'", word);
+    }
+    for (size_t index = 0; index < ROW_COLUMNS; index++) {
+        const text_piece part = {(uint8_t *)at, strcspn(at, ",")};
+        cells[index] = without_blanks(part);
+        at += part.length + 1;
+    }
+    const size_t wrong = read_cells(cells, ROW_KINDS, ROW_COLUMNS, figures, what, sizeof what);
+    if (wrong != 0) {
+        return not_usable("row %zu, %s: %s", row, ROW_KINDS[wrong - 1].name, what);
+    }
+    append_row(table, figures);
     return FINE;
 }
 
-/* Pads the words to a sheet. Gives FINE, or NOT_USABLE with the reason said. */
-static int add_all(sheet_text *text, const request *asked) {
-    const size_t rows = asked->count - 2;
-    int status = add_first_line(text, rows, asked->words[0], asked->words[1]);
-    for (size_t index = 0; index < rows && status == FINE; index++) {
-        status = add_row(text, asked->words[index + 2]);
+/* Takes a table from words: N, G and the rows. Gives FINE, or NOT_USABLE with the reason said. */
+static int take_table_words(char **words, size_t count, written_table *written) {
+    memset(written, 0, sizeof *written);
+    written->file = NULL;
+    int status = take_speed_words(words, &written->table);
+    for (size_t index = SPEED_COLUMNS; index < count && status == FINE; index++) {
+        status = take_row_word(words[index], index - SPEED_COLUMNS + 1, &written->table);
     }
     return status;
 }
 
+/* Writes the sheet of a table, or says why the archive's writer refused it. */
+static int write_sheet(const written_table *written) {
+    uint8_t sheet[JB_LONGEST_SHEET];
+    uint32_t length;
+    const uint32_t number = jb_write_table(&written->table, sheet, sizeof sheet, &length);
+    if (number == JB_OK) {
+        fwrite(sheet, 1, length, stdout);
+    } else {
+        put_words(stderr, number);
+        put_refused_place(stderr, number, written);
+        put_remedy(stderr, number);
+    }
+    return status_of(number);
+}
+
 static int sheet(const request *asked) {
-    const size_t rows = asked->count - 2;
-    sheet_text text = {(uint8_t *)malloc(JB_FIRST_LINE + rows * JB_ROW_LINE), 0};
-    if (text.bytes == NULL) {
-        return not_usable("there is no memory for %zu rows", rows);
-    }
-    int status = add_all(&text, asked);
+    written_table written;
+    const int status = asked->count == 1 ? load_rows_file(asked->words[0], &written)
+                                         : take_table_words(asked->words, asked->count, &written);
+    return status == FINE ? write_sheet(&written) : status;
+}
+
+/* The rows file has no plain form, so that a refusal puts nothing on standard output. */
+static int rows(const request *asked) {
+    sheet_file sheet;
+    jb_table table;
+    request in_words = *asked;
+    in_words.plain = false;
+    const int status = load_table(&in_words, &sheet, &table);
     if (status == FINE) {
-        const uint32_t number = ask_reader(text.bytes, text.length);
-        if (number == JB_OK) {
-            fwrite(text.bytes, 1, text.length, stdout);
-        } else {
-            explain_refusal(stderr, number, text.bytes, text.length);
-            status = status_of(number);
-        }
+        put_rows(stdout, &table);
     }
-    free(text.bytes);
     return status;
 }
 
@@ -1074,12 +1166,40 @@ static const char EXPLAIN_HELP[] =
     "1 (0 for none), line of that byte. After 7 a line for each row left: row.\n";
 
 static const char SHEET_HELP[] =
-    "writes a sheet, if the proved reader accepts it\n"
+    "writes the sheet of a rows file, or of rows as words, by the proved writer\n"
     "\n"
-    "N and G are the normal and the degraded speed in work units per slot; RELEASE and\n"
-    "DEADLINE are in slots, WORK in work units, LEVEL is 0 (LO) or 1 (HI).\n"
+    "ROWS.csv is a rows file, or - for standard input: what jasminebrace rows writes,\n"
+    "and what a spreadsheet program saves of it as CSV, with commas:\n"
     "\n"
+    "  normal speed N (work units per slot),degraded speed G (work units per slot),,\n"
+    "  5,2,,\n"
+    "  release (slots),work (work units),deadline (slots),level (HI or LO)\n"
+    "  0,20,10,HI\n"
+    "  5,15,10,LO\n"
+    "\n"
+    "The headings stay as they are, upper or lower case; they say the order of the\n"
+    "columns and their units. A figure is a whole number with digits alone: no sign,\n"
+    "point, comma or zero before it. A level is HI or LO, or 1 or 0. Cells may stand in\n"
+    "double quotes with blanks around; lines may end with LF, CR LF or CR; a UTF-8 byte\n"
+    "order mark and empty cells and lines at the end do no harm. There is no row count:\n"
+    "a file that is cut off at a line end is taken as fewer rows. A file may have up to\n"
+    "16,777,216 bytes.\n"
+    "\n"
+    "Without a file: N and G are the normal and the degraded speed in work units per\n"
+    "slot; RELEASE and DEADLINE are in slots, WORK in work units, LEVEL is as above.\n"
+    "\n"
+    "What cannot be taken for a figure, a level or a heading ends with status 3, what\n"
+    "the archive refuses with status 2; both name the place and what is allowed.\n"
     "--plain changes nothing: a sheet has no words in it.\n";
+
+static const char ROWS_HELP[] =
+    "writes the rows of a sheet as comma-separated text for a spreadsheet program\n"
+    "\n"
+    "The first line has the headings of the speeds, the second N and G, the third the\n"
+    "headings of the rows with their units; then a line for each row. From this text\n"
+    "jasminebrace sheet makes the same sheet again.\n"
+    "\n"
+    "--plain changes nothing: there is one form.\n";
 
 static const command COMMANDS[] = {
     {"plan", plan, 1, 1, "plan SHEET", PLAN_HELP},
@@ -1087,7 +1207,8 @@ static const command COMMANDS[] = {
     {"finishes", finishes, 1, 0, "finishes SHEET [ROW..]", FINISHES_HELP},
     {"run", run, 2, 0, "run SHEET [--order ROW,ROW..] [--stretches] SUPPLY..", RUN_HELP},
     {"explain", explain, 1, 1, "explain SHEET", EXPLAIN_HELP},
-    {"sheet", sheet, 2, 0, "sheet N G RELEASE,WORK,DEADLINE,LEVEL..", SHEET_HELP},
+    {"sheet", sheet, 1, 0, "sheet {ROWS.csv | N G RELEASE,WORK,DEADLINE,LEVEL..}", SHEET_HELP},
+    {"rows", rows, 1, 1, "rows SHEET", ROWS_HELP},
 };
 enum { COMMAND_COUNT = sizeof COMMANDS / sizeof COMMANDS[0] };
 
@@ -1113,16 +1234,17 @@ static int put_help(const command *of) {
     if (of != NULL) {
         printf("usage: jasminebrace %s\n\n%s %s", of->usage, of->name, of->help);
         if (of->does == explain) {
-            for (uint32_t number = JB_LENGTH; number <= JB_UNSOUND; number++) {
+            for (uint32_t number = JB_LENGTH; number <= JB_NO_ROOM; number++) {
                 printf("\nnumber %" PRIu32 ": %s\nremedy: %s\n", number, jb_words(number), jb_remedy(number));
             }
         }
         return FINE;
     }
     put_usage(stdout);
-    fputs("\nSHEET is a file, or - for standard input. --plain writes figures alone, each in a\n"
-          "field of 8 bytes, for scripts. What was asked for goes to standard output, the\n"
-          "explanation of a refusal to standard error (that of explain to standard output).\n"
+    fputs("\nSHEET and ROWS.csv are files, or - for standard input. --plain writes figures\n"
+          "alone, each in a field of 8 bytes, for scripts. What was asked for goes to standard\n"
+          "output, the explanation of a refusal to standard error (that of explain to standard\n"
+          "output).\n"
           "\n"
           "Exit status: 0 an order, or yes, or done; 1 no correct order exists (number 7),\n"
           "or no; 2 refused by another number; 3 cannot be used (arguments, a file, standard\n"

@@ -1,5 +1,6 @@
 /*
  * An example for firmware writers: plan a sheet once, then run it slot by slot.
+ * On the way the sheet is written back from the table that was read.
  *
  *     example [SHEET [SUPPLY ...]]
  *
@@ -134,6 +135,18 @@ static int run_until_closed(jb_run *run, const supplies *from) {
     return ALL_CLOSED;
 }
 
+/* Writes the table's sheet, as firmware does to store or send it, and says whether it is the one that was read. */
+static uint32_t write_back(const jb_table *table, const uint8_t *sheet, size_t length) {
+    static uint8_t written[JB_LONGEST_SHEET];
+    uint32_t bytes;
+    uint32_t number = jb_write_table(table, written, sizeof written, &bytes);
+    if (number == JB_OK) {
+        bool same = bytes == length && memcmp(written, sheet, length) == 0;
+        printf("sheet: %" PRIu32 " bytes, %sthe same as were read\n", bytes, same ? "" : "not ");
+    }
+    return number;
+}
+
 /* Reads, plans and runs a sheet. supplied holds count supplies in work units per slot. */
 static int plan_and_run(const uint8_t *sheet, size_t length, const uint32_t *supplied, size_t count) {
     static jb_table table;
@@ -141,6 +154,10 @@ static int plan_and_run(const uint8_t *sheet, size_t length, const uint32_t *sup
     uint8_t order[JB_ROWS];
     uint64_t left;
     uint32_t number = jb_read_table(sheet, length, &table);
+    if (number != JB_OK) {
+        return refused(number);
+    }
+    number = write_back(&table, sheet, length);
     if (number != JB_OK) {
         return refused(number);
     }

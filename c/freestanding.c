@@ -1,7 +1,8 @@
 /*
  * The library without a C library: the two functions that the archive needs, an
- * entry of its own, and a run of case P1 from its sheet to its last row. It shows
- * what a board has to provide. Build and run it on x86-64 Linux:
+ * entry of its own, and a run of case P1 from its sheet to its last row; then the
+ * sheet is written back. It shows what a board has to provide. Build and run it on
+ * x86-64 Linux:
  *
  *     gcc -std=c11 -O2 -ffreestanding -nostdlib -static -fno-tree-loop-distribute-patterns \
  *         -o freestanding c/freestanding.c target/staticlib/libjasminebrace.a
@@ -39,15 +40,30 @@ static const char SHEET[] = "       4       5       2\n"
 
 static jb_table table;
 static jb_run run;
+static uint8_t written[JB_LONGEST_SHEET];
 
 /* The supply of a slot in work units: between G and N, as a warming processor has it. */
 static uint32_t supply_of(uint32_t slot) {
     return 2 + slot % 4;
 }
 
+/* The bytes written are those of SHEET. */
+static int same_sheet(uint32_t length) {
+    if (length != sizeof SHEET - 1) {
+        return 0;
+    }
+    for (uint32_t index = 0; index < length; index++) {
+        if (written[index] != (uint8_t)SHEET[index]) {
+            return 0;
+        }
+    }
+    return 1;
+}
+
 static int steps(void) {
     uint8_t order[JB_ROWS];
     uint64_t left;
+    uint32_t length;
     if (!jb_fits()) {
         return 1;
     }
@@ -76,6 +92,9 @@ static int steps(void) {
     /* Every slot supplied at least G, so both HI rows are done, neither of them late. */
     if (!jb_is_done(&run, 1) || jb_is_late(&run, 1) || !jb_is_done(&run, 3) || jb_is_late(&run, 3)) {
         return 7;
+    }
+    if (jb_write_table(&table, written, sizeof written, &length) != JB_OK || !same_sheet(length)) {
+        return 8;
     }
     return 0;
 }

@@ -23,8 +23,9 @@
 #include <unistd.h>
 
 enum {
-    DEFAULT_ROUNDS = 100000, /* of twelve calls or so each */
-    NUMBERS = 10,
+    DEFAULT_ROUNDS = 100000, /* of fourteen calls or so each */
+    NUMBERS = JB_NO_ROOM + 1,
+    END = -1,          /* of a list of numbers */
     GUARD = 0xC5,      /* the pattern around a buffer */
     GUARD_SIZE = 256,  /* bytes of it that are checked */
     MOST_SUPPLIES = 40,
@@ -206,47 +207,37 @@ static void fill_state(jb_run *run) {
     }
 }
 
-static void write_field(uint8_t *field, uint32_t number) {
-    char text[16];
-    snprintf(text, sizeof text, "%8" PRIu32, number % 100000000);
-    memcpy(field, text, 8);
-}
-
-/* Writes the sheet of a table; gives its length in bytes. */
-static size_t write_sheet(uint8_t *sheet, const jb_table *table) {
-    const uint32_t first[] = {table->n, table->normal, table->degraded};
-    size_t length = 0;
-    for (size_t index = 0; index < 3; index++, length += 8) {
-        write_field(sheet + length, first[index]);
-    }
-    sheet[length++] = '\n';
-    for (uint32_t index = 0; index < table->n && index < JB_ROWS; index++) {
-        const uint32_t row[] = {table->release[index], table->work[index], table->deadline[index], table->level[index]};
-        for (size_t field = 0; field < 4; field++, length += 8) {
-            write_field(sheet + length, row[field]);
-        }
-        sheet[length++] = '\n';
-    }
-    return length;
+/* Puts a well-formed figure, often outside its limits, into some field of a sheet of n rows. */
+static void change_field(uint8_t *sheet, uint32_t n) {
+    static const char *const fields[] = {"       0", "       1", "       2", "       7", "      64", "      65",
+                                         "    1000", "    1001", " 1000000", " 1000001", "12345678", "99999999"};
+    uint32_t row = once_in(3) ? 0 : between(1, n);
+    uint32_t line = row == 0 ? 0 : JB_FIRST_LINE + (row - 1) * JB_ROW_LINE;
+    uint32_t field = between(0, row == 0 ? 2 : 3);
+    memcpy(sheet + line + field * JB_FIELD, fields[between(0, sizeof fields / sizeof *fields - 1)], JB_FIELD);
 }
 
 /* A sheet, often damaged, or any bytes; gives its length. */
 static size_t fill_input(uint8_t *input) {
     jb_table table;
+    uint32_t length;
     if (once_in(8)) {
-        size_t length = once_in(2) ? between(0, 60) : between(0, LONGEST_INPUT);
+        length = once_in(2) ? between(0, 60) : between(0, LONGEST_INPUT);
         fill_with_any(input, length);
         return length;
     }
-    fill_table(&table);
-    size_t length = write_sheet(input, &table);
+    fill_accepted(&table);
+    expect(jb_write_table(&table, input, LONGEST_INPUT, &length) == JB_OK, "an accepted table has a sheet");
+    for (uint32_t changes = once_in(3) ? between(1, 3) : 0; changes > 0; changes--) {
+        change_field(input, table.n);
+    }
     if (once_in(3)) {
-        input[between(0, (uint32_t)length - 1)] = (uint8_t)"\n 0129x"[between(0, 6)];
+        input[between(0, length - 1)] = (uint8_t)"\n 0129x"[between(0, 6)];
     }
     if (once_in(8)) {
-        length = between(0, (uint32_t)length);
+        length = between(0, length);
     } else if (once_in(8)) {
-        size_t longer = length + between(1, LONGEST_INPUT - JB_LONGEST_SHEET);
+        uint32_t longer = length + between(1, LONGEST_INPUT - JB_LONGEST_SHEET);
         memset(input + length, '1', longer - length);
         length = longer;
     }
@@ -255,16 +246,58 @@ static size_t fill_input(uint8_t *input) {
 
 /* ---- the calls ---- */
 
-static buffer input_at, table_at, order_at, run_at, supplies_at, text_at, left_at, word_at, row_at, slack_at, out_at, one_at;
+static buffer input_at, sheet_at, table_at, order_at, run_at, supplies_at, text_at, left_at, word_at, row_at, slack_at, out_at, one_at;
 
-enum { READ, PLAN, JUDGE, FINISHES, FRESH, COMING, SLOT, FORWARD, PROGRAM, FUNCTIONS };
-static const char *const names[FUNCTIONS] = {"read", "plan", "judge", "finishes", "fresh", "coming", "slot", "forward", "program"};
+/* The functions, and the numbers that each can give. */
+enum { READ, WRITE, PLAN, JUDGE, FINISHES, FRESH, COMING, SLOT, FORWARD, PROGRAM, FUNCTIONS };
+static const struct {
+    const char *name;
+    int numbers[NUMBERS];
+} functions[FUNCTIONS] = {
+    [READ] = {"read", {0, 1, 2, 3, 4, 5, END}},
+    [WRITE] = {"write", {0, 3, 4, 5, 10, END}},
+    [PLAN] = {"plan", {0, 3, 4, 5, 7, END}},
+    [JUDGE] = {"judge", {0, 3, 4, 5, 6, END}},
+    [FINISHES] = {"finishes", {0, 3, 4, 5, 6, END}},
+    [FRESH] = {"fresh", {0, 3, 4, 5, 6, END}},
+    [COMING] = {"coming", {0, 8, 9, END}},
+    [SLOT] = {"slot", {0, 8, 9, END}},
+    [FORWARD] = {"forward", {0, 8, 9, END}},
+    [PROGRAM] = {"program", {0, 1, 2, 3, 4, 5, 7, END}},
+};
 static uint64_t counts[FUNCTIONS][NUMBERS];
 
-/* Counts an answer and checks that its number is one of those allowed, given as digits. */
-static void count(int function, uint32_t number, const char *allowed) {
-    expect(number < NUMBERS && strchr(allowed, (int)('0' + number)) != NULL, names[function]);
+/* Counts an answer, whose number is one that the function can give. */
+static void count(int function, uint32_t number) {
+    const int *can = functions[function].numbers;
+    while (*can != END && *can != (int)number) {
+        can++;
+    }
+    expect(*can != END, functions[function].name);
     counts[function][number]++;
+}
+
+/* Lends room bytes of any values for the sheet of a table; gives the number. */
+static uint32_t write_into(size_t room, const jb_table *table, uint32_t **length) {
+    uint8_t *sheet = (uint8_t *)place(&sheet_at, room);
+    fill_with_any(sheet, room);
+    lend(&sheet_at);
+    *length = (uint32_t *)place(&word_at, sizeof **length);
+    uint32_t number = jb_write(jb_table_words(table), sheet, room, *length);
+    count(WRITE, number);
+    expect_guards(&sheet_at);
+    expect_guards(&word_at);
+    expect(number == JB_OK || **length == 0, "no length with a refusal");
+    expect(**length <= room, "a sheet within the room");
+    expect(memcmp(sheet + **length, sheet_at.copy + **length, room - **length) == 0, "bytes after the sheet stay");
+    return number;
+}
+
+/* A sheet that was read comes back byte for byte from memory of just its length. */
+static void expect_written_back(const jb_table *table, const uint8_t *sheet, size_t length) {
+    uint32_t *written;
+    expect(write_into(length, table, &written) == JB_OK, "the table of a sheet has a sheet");
+    expect(*written == length && memcmp(sheet_at.start, sheet, length) == 0, "a sheet comes back byte for byte");
 }
 
 static void try_read(void) {
@@ -275,10 +308,13 @@ static void try_read(void) {
     lend(&input_at);
     jb_table *table = (jb_table *)place(&table_at, sizeof *table);
     uint32_t number = jb_read_table(sheet, length, table);
-    count(READ, number, "012345");
+    count(READ, number);
     expect_unwritten(&input_at);
     expect_guards(&table_at);
     expect(number == JB_OK || all_zero(table, sizeof *table), "a refused sheet leaves a table of zeros");
+    if (number == JB_OK) {
+        expect_written_back(table, sheet, length);
+    }
 
     uint8_t *text = (uint8_t *)place(&text_at, JB_PROGRAM_TEXT);
     uint32_t written = jb_program(sheet, length, text);
@@ -287,7 +323,7 @@ static void try_read(void) {
     expect(written >= 17 && written <= JB_PROGRAM_TEXT && (written - 17) % 25 == 0, "the text's length");
     expect(all_zero(text + written, JB_PROGRAM_TEXT - written), "zeros after the text");
     uint32_t said = (uint32_t)(text[7] - '0');
-    count(PROGRAM, said, "0123457");
+    count(PROGRAM, said);
     expect(number == JB_OK ? said == JB_OK || said == JB_NO_ORDER : said == number, "the program says what the reader says");
 }
 
@@ -301,12 +337,48 @@ static void fill_lent(void) {
     lend(&order_at);
 }
 
+/* Memory of no byte, of about the length of a table's sheet, and of any length. */
+static size_t any_room(const jb_table *table) {
+    size_t length = JB_FIRST_LINE + JB_ROW_LINE * (size_t)(table->n <= JB_ROWS ? table->n : JB_ROWS);
+    switch (between(0, 4)) {
+    case 0: return 0;
+    case 1: return length - 1;
+    case 2: return length;
+    case 3: return length + 1;
+    default: return between(0, LONGEST_INPUT);
+    }
+}
+
+/* The writer refuses what the planner refuses, and then whatever does not fit. */
+static void try_write(void) {
+    const jb_table *table = (const jb_table *)table_at.start;
+    size_t room = any_room(table);
+    uint32_t *length;
+    uint32_t number = write_into(room, table, &length);
+    expect_unwritten(&table_at);
+    uint8_t order[JB_ROWS];
+    uint64_t left;
+    uint32_t planned = jb_plan_table(table, order, &left);
+    if (planned != JB_OK && planned != JB_NO_ORDER) {
+        expect(number == planned, "writer and planner refuse the same tables");
+        return;
+    }
+    size_t needed = JB_FIRST_LINE + JB_ROW_LINE * (size_t)table->n;
+    expect(number == (room < needed ? JB_NO_ROOM : JB_OK), "10 exactly if the room is short");
+    if (number == JB_OK) {
+        jb_table again;
+        expect(*length == needed, "a line for each row");
+        expect(jb_read_table(sheet_at.start, *length, &again) == JB_OK, "what is written is read");
+        expect(memcmp(&again, table, sizeof again) == 0, "the sheet's table is the one written");
+    }
+}
+
 static void try_plan(void) {
     const jb_table *table = (const jb_table *)table_at.start;
     uint8_t *order = (uint8_t *)place(&out_at, JB_ROWS);
     uint64_t *left = (uint64_t *)place(&left_at, sizeof *left);
     uint32_t number = jb_plan_table(table, order, left);
-    count(PLAN, number, "03457");
+    count(PLAN, number);
     expect_unwritten(&table_at);
     expect_guards(&out_at);
     expect_guards(&left_at);
@@ -342,7 +414,7 @@ static void try_judge(void) {
     uint32_t *row = (uint32_t *)place(&row_at, sizeof *row);
     int32_t *slack = (int32_t *)place(&slack_at, sizeof *slack);
     uint32_t number = jb_judge_order(table, order, yes, row, slack);
-    count(JUDGE, number, "03456");
+    count(JUDGE, number);
     expect_unwritten(&table_at);
     expect_unwritten(&order_at);
     expect_guards(&word_at);
@@ -351,7 +423,7 @@ static void try_judge(void) {
     try_judge_list(table, order, number, *yes, *row, *slack);
     uint32_t *finishes = (uint32_t *)place(&out_at, JB_ROWS * sizeof *finishes);
     uint32_t other = jb_worst_finishes(table, order, finishes);
-    count(FINISHES, other, "03456");
+    count(FINISHES, other);
     expect_unwritten(&table_at);
     expect_unwritten(&order_at);
     expect_guards(&out_at);
@@ -371,7 +443,7 @@ static void try_fresh(void) {
     const jb_table *table = (const jb_table *)table_at.start;
     jb_run *run = (jb_run *)place(&run_at, sizeof *run);
     uint32_t number = jb_fresh_run(table, order_at.start, run);
-    count(FRESH, number, "03456");
+    count(FRESH, number);
     expect_unwritten(&table_at);
     expect_unwritten(&order_at);
     expect_guards(&run_at);
@@ -412,13 +484,13 @@ static void try_slot(void) {
     jb_run *run = fill_run();
     uint32_t *coming = (uint32_t *)place(&word_at, sizeof *coming);
     uint32_t expected = jb_coming_row(run, coming);
-    count(COMING, expected, "089");
+    count(COMING, expected);
     expect_unwritten(&run_at);
     expect_guards(&word_at);
     uint32_t supply = any_figure();
     uint32_t *row = (uint32_t *)place(&row_at, sizeof *row);
     uint32_t number = jb_work_slot(run, supply, row);
-    count(SLOT, number, "089");
+    count(SLOT, number);
     expect_guards(&row_at);
     expect(number == expected && *row == *coming, "the slot answers as the coming slot did");
     expect_slot(run, number, *row);
@@ -448,7 +520,7 @@ static void try_forward(void) {
     bool unsound = jb_coming_row(run, &row) == JB_UNSOUND;
     uint32_t *worked = (uint32_t *)place(&word_at, sizeof *worked);
     uint32_t number = jb_work_forward(run, supplies, length, worked);
-    count(FORWARD, number, "089");
+    count(FORWARD, number);
     expect((number == JB_UNSOUND) == unsound, "forward and the coming slot find the same records unsound");
     expect_unwritten(&supplies_at);
     expect_guards(&word_at);
@@ -528,8 +600,23 @@ static void try_numbers(void) {
     expect(yes == 0 && row == 0 && slack == 0, "all zero on a refusal");
 }
 
+/* Room above 4 GiB, which a length of 32 bits does not hold; only the pages of the sheet are ever touched. */
+static void try_far_room(void) {
+    const size_t room = ((size_t)1 << 32) + 7;
+    const int kind = MAP_PRIVATE | MAP_ANONYMOUS | MAP_NORESERVE;
+    uint8_t *sheet = (uint8_t *)mmap(NULL, room, PROT_READ | PROT_WRITE, kind, -1, 0);
+    jb_table table;
+    uint32_t length;
+    expect(sheet != MAP_FAILED, "addresses for a large room");
+    fill_accepted(&table);
+    expect(jb_write_table(&table, sheet, room, &length) == JB_OK, "room above 4 GiB");
+    expect(length == JB_FIRST_LINE + JB_ROW_LINE * table.n && sheet[length] == 0, "the sheet and no byte more");
+    munmap(sheet, room);
+}
+
 static void make_buffers(void) {
     input_at = new_buffer(LONGEST_INPUT);
+    sheet_at = new_buffer(LONGEST_INPUT);
     table_at = new_buffer(sizeof(jb_table));
     order_at = new_buffer(JB_ROWS);
     run_at = new_buffer(sizeof(jb_run));
@@ -545,12 +632,11 @@ static void make_buffers(void) {
 
 /* Prints how often each function gave each number; every number that it can give has come up. */
 static void print_counts(void) {
-    static const char *const all[FUNCTIONS] = {"012345", "03457", "03456", "03456", "03456", "089", "089", "089", "0123457"};
     for (int function = 0; function < FUNCTIONS; function++) {
-        printf("%-9s", names[function]);
-        for (const char *number = all[function]; *number != '\0'; number++) {
-            printf(" %c: %" PRIu64, *number, counts[function][*number - '0']);
-            expect(counts[function][*number - '0'] > 0, "every number comes up");
+        printf("%-9s", functions[function].name);
+        for (const int *number = functions[function].numbers; *number != END; number++) {
+            printf(" %d: %" PRIu64, *number, counts[function][*number]);
+            expect(counts[function][*number] > 0, "every number comes up");
         }
         printf("\n");
     }
@@ -562,9 +648,11 @@ int main(int argc, char **argv) {
     make_buffers();
     try_limits();
     try_numbers();
+    try_far_room();
     for (unsigned long round = 0; round < rounds; round++) {
         try_read();
         fill_lent();
+        try_write();
         try_plan();
         try_judge();
         try_fresh();

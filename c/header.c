@@ -1,8 +1,9 @@
 /*
  * Tests of the header's own functions, in what C11 and C++11 have in common:
- * the interface's number, the words for every number, lists of no entries, where
- * a row of a run stands, and the packed verdict taken apart. It says how many
- * things it looked at; exit status 1 if one is not as it should be.
+ * the interface's number, the words for every number, lists of no entries, a
+ * sheet written back, where a row of a run stands, and the packed verdict taken
+ * apart. It says how many things it looked at; exit status 1 if one is not as it
+ * should be.
  */
 #include "jasminebrace.h"
 
@@ -26,14 +27,14 @@ static const char P3[] = "       2       2       1\n"
                          "       0       4       4       1\n";
 
 static void look_at_words(void) {
-    for (uint32_t number = JB_OK; number <= JB_UNSOUND + 1; number++) {
+    for (uint32_t number = JB_OK; number <= JB_NO_ROOM + 1; number++) {
         look(strlen(jb_words(number)) > 0, "words for", number);
         look(strlen(jb_remedy(number)) > 0, "remedy for", number);
         for (uint32_t other = JB_OK; other < number; other++) {
             look(strcmp(jb_words(number), jb_words(other)) != 0, "words of its own for", number);
         }
     }
-    look(strcmp(jb_words(JB_UNSOUND + 1), jb_words(UINT32_MAX)) == 0, "one text for all other numbers", UINT32_MAX);
+    look(strcmp(jb_words(JB_NO_ROOM + 1), jb_words(UINT32_MAX)) == 0, "one text for all other numbers", UINT32_MAX);
 }
 
 /* Null goes with a length of 0, and the answer is that of an empty list. */
@@ -46,12 +47,53 @@ static void look_at_empty_lists(void) {
     uint32_t row;
     int32_t slack;
     uint32_t worked = 7;
+    uint32_t length = 7;
     look(jb_read_table(NULL, 0, &table) == JB_LENGTH, "no sheet", 0);
     look(jb_program_text(NULL, 0, text) == 17 && memcmp(text, "       1       0\n", 17) == 0, "no input", 0);
     look(jb_judge_list(NULL, 0, 2, 1, order, &yes, &row, &slack) == JB_ROW_COUNT && yes == 0 && row == 0 && slack == 0, "no rows", 0);
     look(jb_read_table((const uint8_t *)P3, sizeof P3 - 1, &table) == JB_OK, "P3", 0);
+    look(jb_write_table(&table, NULL, 0, &length) == JB_NO_ROOM && length == 0, "no room", 0);
     look(jb_fresh_run(&table, order, &run) == JB_OK, "fresh", 0);
     look(jb_work_forward(&run, NULL, 0, &worked) == JB_OK && worked == 0 && run.clock == 0, "no supplies", 0);
+}
+
+static int all_are(const uint8_t *bytes, size_t count, uint8_t byte) {
+    for (size_t index = 0; index < count; index++) {
+        if (bytes[index] != byte) {
+            return 0;
+        }
+    }
+    return 1;
+}
+
+/* P3 comes back byte for byte, nothing is written after it, and the table is looked at before the room. */
+static void look_at_sheet(void) {
+    jb_table table;
+    uint8_t sheet[JB_LONGEST_SHEET];
+    uint32_t length = 7;
+    memset(sheet, 'x', sizeof sheet);
+    look(jb_read_table((const uint8_t *)P3, sizeof P3 - 1, &table) == JB_OK, "P3", 0);
+    look(jb_write_table(&table, sheet, sizeof P3 - 2, &length) == JB_NO_ROOM && length == 0, "a byte too few for", length);
+    look(all_are(sheet, sizeof sheet, 'x'), "no byte is written without room", length);
+    look(jb_write_table(&table, sheet, sizeof sheet, &length) == JB_OK && length == sizeof P3 - 1, "length of P3", length);
+    look(memcmp(sheet, P3, sizeof P3 - 1) == 0, "the bytes of P3", length);
+    look(all_are(sheet + sizeof P3 - 1, sizeof sheet - (sizeof P3 - 1), 'x'), "the bytes after P3", length);
+    table.n = JB_ROWS + 1;
+    look(jb_write_table(&table, NULL, 0, &length) == JB_ROW_COUNT && length == 0, "no sheet of rows", table.n);
+}
+
+/* Numbers as fields, up to the largest that a field holds, and one more. */
+static void look_at_fields(void) {
+    const struct {
+        uint32_t figure;
+        uint32_t whole;
+        const char *field;
+    } fields[] = {{0, 1, "       0"}, {1023, 1, "    1023"}, {99999999, 1, "99999999"}, {100000000, 0, "00000000"}, {UINT32_MAX, 0, "94967295"}};
+    for (size_t index = 0; index < sizeof fields / sizeof fields[0]; index++) {
+        uint8_t field[JB_FIELD];
+        look(jb_field(fields[index].figure, field) == fields[index].whole, "field of", fields[index].figure);
+        look(memcmp(field, fields[index].field, JB_FIELD) == 0, "bytes of", fields[index].figure);
+    }
 }
 
 static void look_at_row(const jb_run *run, uint32_t row, int open, int done, int dropped, int late) {
@@ -119,6 +161,8 @@ int main(void) {
     look(jb_version() == JB_VERSION, "interface", jb_version());
     look_at_words();
     look_at_empty_lists();
+    look_at_sheet();
+    look_at_fields();
     look_at_run();
     look_at_lists();
     printf("header: %u things looked at, %u not as they should be\n", looked_at, wrong);

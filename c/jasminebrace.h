@@ -21,7 +21,9 @@
  * Memory that a call writes does not overlap other memory handed to the same
  * call. What is lent as const is never written. Results are written whole with
  * every answer, so that their memory need not be cleared before; what stands in
- * them after a refusal is said at each function.
+ * them after a refusal is said at each function. The one exception is the memory
+ * for a sheet, which may have any length: jb_write writes just the sheet's bytes,
+ * and none with a refusal.
  *
  * Threads and interrupts. A call touches what it is handed and its own stack,
  * and nothing else. Calls on different memory may run at the same time, and so
@@ -32,6 +34,8 @@
  * 1 and 64 rows, and not proved: the most that each call took, and some bytes
  * more (512 stands for less); docs/BENCHMARKS.md says how:
  *     jb_read          5,632
+ *     jb_write         3,584
+ *     jb_field           512
  *     jb_plan          8,448
  *     jb_judge         5,888
  *     jb_judge_rows    7,680
@@ -71,8 +75,10 @@
 
 /*
  * The number of the interface that this header describes: sizes, layouts and
- * what the numbers mean. It is raised whenever one of them changes. jb_fits()
- * says whether the archive that was linked is of the same number.
+ * what the numbers mean. It is raised whenever one of them changes, and not for
+ * a function that is new, with a number that only it gives: an archive without
+ * it does not link. jb_fits() says whether the archive that was linked is of the
+ * same number.
  */
 #define JB_VERSION 1u
 
@@ -112,8 +118,8 @@ enum jb_level {
 
 /*
  * The number that a call returns. jb_words and jb_remedy say what each means and
- * what to do about it. jb_program, jb_program_text and jb_version return no such
- * number, and jb_judge_rows returns a word in which it is packed.
+ * what to do about it. jb_field, jb_program, jb_program_text and jb_version return
+ * no such number, and jb_judge_rows returns a word in which it is packed.
  */
 enum jb_number {
     JB_OK = 0,           /* success */
@@ -125,7 +131,8 @@ enum jb_number {
     JB_NOT_AN_ORDER = 6, /* the order is no order of the table */
     JB_NO_ORDER = 7,     /* no correct order exists */
     JB_CLOCK_OVER = 8,   /* the clock is at its end, and no further slot is worked */
-    JB_UNSOUND = 9       /* the run record cannot come from a run */
+    JB_UNSOUND = 9,      /* the run record cannot come from a run */
+    JB_NO_ROOM = 10      /* the memory lent is shorter than what has to be written */
 };
 
 /* What a number means, in words. The text lasts as long as the program. */
@@ -143,6 +150,7 @@ static inline const char *jb_words(uint32_t number) {
     case JB_NO_ORDER: return "no correct order exists";
     case JB_CLOCK_OVER: return "the clock is 2,000,000 slots, and no further slot is worked";
     case JB_UNSOUND: return "the run record cannot come from a run";
+    case JB_NO_ROOM: return "the memory lent has fewer bytes than have to be written";
     default: return "this number is never returned";
     }
 }
@@ -162,6 +170,7 @@ static inline const char *jb_remedy(uint32_t number) {
     case JB_NO_ORDER: return "give the rows left later deadlines or less work, or the processor more speed";
     case JB_CLOCK_OVER: return "begin a new run with a fresh record";
     case JB_UNSOUND: return "the record's memory was damaged: drop it and begin with a fresh record";
+    case JB_NO_ROOM: return "lend more memory: 2,137 bytes hold the sheet of every table";
     default: return "compare the header with the archive by jb_fits()";
     }
 }
@@ -226,6 +235,14 @@ JB_STATIC_ASSERT(JB_PROGRAM_TEXT == 17 + 25 * JB_ROWS, "a text is a first line o
  * null here, not even where a length is 0.
  */
 uint32_t jb_read(const uint8_t *sheet, size_t length, uint32_t table[259]);
+uint32_t jb_write(const uint32_t table[259], uint8_t *sheet, size_t room, uint32_t *length);
+
+/* Writes a number as a field of a sheet: right-justified in 8 bytes with spaces
+   before it. Gives 1 if the field holds the number, which is so below
+   100,000,000; of a larger number the field has the last eight digits, and it
+   gives 0. */
+uint32_t jb_field(uint32_t figure, uint8_t field[8]);
+
 uint32_t jb_plan(const uint32_t table[259], uint8_t order[64], uint64_t *left);
 uint32_t jb_judge(const uint32_t table[259], const uint8_t order[64], uint32_t *yes, uint32_t *row, int32_t *slack);
 
@@ -274,6 +291,22 @@ static inline uint32_t *jb_state_words(jb_run *run) {
 static inline uint32_t jb_read_table(const uint8_t *sheet, size_t length, jb_table *table) {
     const uint8_t none = 0;
     return jb_read(length == 0 ? &none : sheet, length, (uint32_t *)(void *)table);
+}
+
+/*
+ * Writes the sheet of a table: the one sheet that jb_read_table reads as this
+ * table. A sheet that was read comes out again byte for byte.
+ * In:      table, any values; sheet, memory of room bytes, any length (JB_LONGEST_SHEET
+ *          is enough for every table) and any values; null is allowed with 0.
+ * Out:     0; length is the sheet's length in bytes, 25 + 33 for each row, and
+ *          the first length bytes of sheet are the sheet. The bytes after
+ *          them are as they were.
+ * Refused: 3, 4 or 5 for the table, else 10 if room is below the sheet's length;
+ *          length is then 0 and no byte of sheet is written.
+ */
+static inline uint32_t jb_write_table(const jb_table *table, uint8_t *sheet, size_t room, uint32_t *length) {
+    uint8_t none = 0;
+    return jb_write(jb_table_words(table), room == 0 ? &none : sheet, room, length);
 }
 
 /*

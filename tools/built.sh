@@ -79,14 +79,19 @@ sed -i 's/jasminebrace, interface/changed, interface/' "$copy/c/command.c"
 try --version
 grep -q '^changed, interface' "$there/out" || fail "the changed C source does not show"
 asked 1
-echo '#error this does not compile' >>"$copy/c/jasminebrace.h"
-try --version
-[ "$status" -eq 3 ] || fail "a header that does not compile: status $status"
-said 'jasminebrace: c/command.c does not compile' err
-[ ! -s "$there/out" ] || fail "an old program answered"
-sed -i '$d' "$copy/c/jasminebrace.h"
-try --version
-[ "$status" -eq 0 ] || fail "the header as it was"
+# Every file that it is compiled from counts: those that gcc names.
+included=$(cd "$copy" && gcc -MM c/command.c | grep -o '[^ ]*\.h')
+[ "$(wc -l <<<"$included")" -eq 3 ] || fail "the command includes not three headers but these: $included"
+for header in $included; do
+    echo '#error this does not compile' >>"$copy/$header"
+    try --version
+    [ "$status" -eq 3 ] || fail "$header does not compile: status $status"
+    said 'jasminebrace: c/command.c does not compile' err
+    [ ! -s "$there/out" ] || fail "an old program answered"
+    sed -i '$d' "$copy/$header"
+    try --version
+    [ "$status" -eq 0 ] || fail "$header as it was"
+done
 
 # Every other source, and another kit, make the library anew.
 made=1

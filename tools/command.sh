@@ -3,13 +3,15 @@
 # Usage: tools/command.sh COMMAND MODEL    COMMAND: the program to test; MODEL: the model's program `paper`.
 # It ends with how many cases were looked at, and with status 1 if one of them was not as it should be.
 set -euo pipefail
+# A case at the end of a pipe is counted as others are: it runs in this shell.
+shopt -s lastpipe
 command=$(realpath "$1")
 paper=$(realpath "$2")
 root=$(realpath "$(dirname "$0")/..")
 there=$(mktemp -d)
 trap 'rm -rf "$there"' EXIT
 cd "$there"
-cp "$root"/samples/*.sheet .
+cp "$root"/samples/*.sheet "$root"/samples/*.csv .
 
 cases=0
 wrong=0
@@ -66,6 +68,8 @@ refused_at() {
     case_is "$status" '' "$place" finishes "$file"
     case_is "$status" "$(printf '%8s%8s' "$number" 0)" "$place" finishes --plain "$file"
     case_is "$status" '' "$place" run "$file" 5
+    case_is "$status" '' "$place" rows --plain "$file"
+    case_is "$status" '' "$place" rows "$file"
     also_err "$words"
 }
 
@@ -168,6 +172,14 @@ case_is 0 'from slot 984375, 15625 slots: row 1, done at clock 1000000' '' run -
 line 1 1 1 >one.sheet && line 0 1000000 1000000 1 >>one.sheet
 case_is 0 'from slot 0, 1000000 slots: row 1, done at clock 1000000' '' run --stretches one.sheet 1000000x1
 
+# The largest figures of a plain form: 64 rows of 1,000,000 slots each, the last of them 63,000,000 slots late.
+slow=()
+for ((row = 0; row < 64; row++)); do slow+=("0,1000000,1000000,1"); done
+"$command" sheet 1 1 "${slow[@]}" >slow.sheet
+in_order=$(seq -s , 64)
+case_is 0 '      6464000000 1000000       063000000' '' finishes --plain slow.sheet "$in_order"
+case_is 1 '       0       0      64       063000000' '' judge --plain slow.sheet "$in_order"
+
 # ---- refusals with their places ----
 : >empty.sheet
 refused_at empty.sheet 1 '0 0 1 1' 'where: byte 1 (line 1, byte 1 of it): the sheet ends before this byte'
@@ -246,18 +258,377 @@ case_is 0 '*' '' sheet 5 2 0,20,10,1 5,15,10,0 5,11,19,1 0,5,5,0
 cmp -s out p1.sheet || complain "the sheet written is P1"
 case_is 0 '*' '' sheet --plain 5 2 0,20,10,1 5,15,10,0 5,11,19,1 0,5,5,0
 cmp -s out p1.sheet || complain "the sheet written is P1"
-case_is 2 '' 'where: row 1, release, byte 26 (line 2, byte 1 of it): the figure is 4' sheet 5 2 4,20,4,1
-case_is 2 '' 'number 5: a row has work not 1 to 1,000,000 work units, a deadline over 1,000,000 slots, a release not below its deadline or a level not 0 or 1, or a row after the last is not zero' sheet 5 2 0,20,10,7
-case_is 2 '' "where: row 1, work, byte 40 (line 2, byte 15 of it): 'x' (byte 120) where a space or a digit belongs" sheet 5 2 0,x0,10,1
-case_is 2 '' 'where: row 1, work, byte 41 (line 2, byte 16 of it): a space (byte 32) where a digit belongs' sheet 5 2 0,,10,1
-case_is 2 '' 'where: first line, normal speed N, byte 9 (line 1, byte 9 of it): the figure is 1001' sheet 1001 2 0,1,1,1
-case_is 2 '' 'where: first line, row count n, byte 1 (line 1, byte 1 of it): the figure is 0' sheet 5 2
+case_is 0 '*' '' sheet 5 2 '0, 20 ,10,HI' ' 5,15,10,lo' 5,11,19,Hi "$(printf '0,5,\t5,LO')"
+cmp -s out p1.sheet || complain "the sheet written is P1"
+case_is 2 '' 'where: row 1, release: the figure is 4' sheet 5 2 4,20,4,1
+also_err 'number 5: a row has work not 1 to 1,000,000 work units, a deadline over 1,000,000 slots, a release not below its deadline or a level not 0 or 1, or a row after the last is not zero'
+also_err 'allowed: 0 to 3 slots, below the deadline'
+also_err 'remedy: correct the row'
+case_is 2 '' 'where: row 1, release: the figure is 1' sheet 5 2 1,20,1,1
+also_err 'allowed: only 0 (slots), below the deadline'
+case_is 2 '' 'where: row 2, work: the figure is 0' sheet 5 2 0,20,10,1 0,0,10,1 9,9,9,9
+also_err 'allowed: 1 to 1,000,000 work units'
+case_is 2 '' 'where: row 1, work: the figure is 123456789' sheet 5 2 0,123456789,10,1
+case_is 2 '' 'where: row 1, deadline: the figure is 0' sheet 5 2 0,1,0,1
+also_err 'allowed: 1 to 1,000,000 slots, above the release'
+case_is 2 '' 'where: row 1, level: the figure is 7' sheet 5 2 0,20,10,7
+also_err 'allowed: HI or LO (or 1 or 0)'
+case_is 2 '' 'where: normal speed N: the figure is 1001' sheet 1001 2 0,1,1,1
+also_err 'allowed: 1 to 1,000 work units per slot'
+case_is 2 '' 'where: normal speed N: the figure is 4294967295' sheet 4294967295 2 0,1,1,1
+case_is 2 '' 'where: degraded speed G: the figure is 6' sheet 5 6 0,1,1,1
+also_err 'allowed: 1 to 5 work units per slot, at most N'
+case_is 2 '' 'where: degraded speed G: the figure is 2' sheet 1 2 0,1,1,1
+also_err 'allowed: only 1 (work units per slot), at most N'
+also_err 'remedy: correct the speeds'
+case_is 2 '' 'where: after G: there is no row' sheet 5 2
+also_err 'number 3: the row count is not 1 to 64'
+also_err 'allowed: 1 to 64 rows'
 rows+=("0,1,1,1")
-case_is 2 '' 'where: first line, row count n, byte 1 (line 1, byte 1 of it): the figure is 65' sheet 5 2 "${rows[@]}"
+case_is 2 '' 'where: row 65: there are 65 rows' sheet 5 2 "${rows[@]}"
+also_err 'number 3: the row count is not 1 to 64'
+case_is 2 '' 'where: row 65: there are 130 rows' sheet 0 0 "${rows[@]}" "${rows[@]}"
+no_figure='is not a whole number written with digits alone, as 1000'
+case_is 3 '' "jasminebrace: row 1, work: 'x0' $no_figure; allowed: 1 to 1,000,000 work units" sheet 5 2 0,x0,10,1
+case_is 3 '' 'jasminebrace: row 2, work: nothing stands here; allowed: 1 to 1,000,000 work units' sheet 5 2 0,20,10,1 0,,10,1
+case_is 3 '' "jasminebrace: row 1, release: '-1' $no_figure; allowed: 0 to 9 slots, below the deadline" sheet 5 2 -1,20,10,1
+case_is 3 '' "jasminebrace: row 1, deadline: '010' has a zero before its other digits; write it without; allowed: 1 to 1,000,000 slots, above the release" sheet 5 2 0,20,010,1
+case_is 3 '' "jasminebrace: row 1, level: 'H' is not a level; allowed: HI or LO (or 1 or 0)" sheet 5 2 0,20,10,H
+case_is 3 '' "jasminebrace: normal speed N: '4294967296' is above 4294967295, the largest figure that can be read; allowed: 1 to 1,000 work units per slot" sheet 4294967296 2 0,1,1,1
+case_is 3 '' 'jasminebrace: degraded speed G: nothing stands here; allowed: 1 to 5 work units per slot, at most N' sheet 5 ''
+case_is 3 '' "jasminebrace: degraded speed G: '0x2' $no_figure; allowed: 1 to 5 work units per slot, at most N" sheet 5 0x2
+# A first word that is no number may be meant as a rows file, which is given alone.
+alone="$no_figure; allowed: 1 to 1,000 work units per slot; a rows file is given alone, without other arguments"
+case_is 3 '' "jasminebrace: normal speed N: 'p1.csv' $alone" sheet p1.csv p1-saved.csv
+case_is 3 '' "jasminebrace: normal speed N: 'p1.csv' $alone" sheet p1.csv 5 2 0,20,10,1
+case_is 3 '' "jasminebrace: normal speed N: '-' $alone" sheet - p1.csv
+case_is 3 '' "jasminebrace: normal speed N: '05' has a zero before its other digits; write it without; allowed: 1 to 1,000 work units per slot" sheet 05 2 0,20,10,1
+case_is 3 '' 'jasminebrace: normal speed N: nothing stands here; allowed: 1 to 1,000 work units per slot' sheet '' p1.csv
 case_is 3 '' "jasminebrace: a row is release,work,deadline,level with three commas between: '0,20,10'" sheet 5 2 0,20,10
 case_is 3 '' "jasminebrace: a row is release,work,deadline,level with three commas between: '0,20,10,1,'" sheet 5 2 0,20,10,1,
-case_is 3 '' "jasminebrace: work of '0,123456789,10,1' has more than the 8 bytes of a field" sheet 5 2 0,123456789,10,1
-case_is 3 '' "jasminebrace: normal speed N '123456789' has more than the 8 bytes of a field" sheet 123456789 2 0,1,1,1
+case_is 3 '' "jasminebrace: a row is release,work,deadline,level with three commas between: ''" sheet 5 2 ''
+
+# ---- rows files ----
+speed_headings='normal speed N (work units per slot),degraded speed G (work units per slot),,'
+row_headings='release (slots),work (work units),deadline (slots),level (HI or LO)'
+# A rows file with the speeds of P1 and these rows.
+rows_file() { lines "$speed_headings" 5,2,, "$row_headings" "$@"; }
+rows_file 0,20,10,HI 5,15,10,LO 5,11,19,HI 0,5,5,LO >expected
+for words in 'rows p1.sheet' 'rows --plain p1.sheet' 'rows - --plain'; do
+    case_in=p1.sheet
+    # shellcheck disable=SC2086 # several words
+    case_is 0 '*' '' $words
+    cmp -s out expected || complain "$words: not the rows of P1"
+done
+case_in=/dev/null
+cmp -s p1.csv expected || complain "samples/p1.csv is not what rows writes of P1"
+# From a sheet to rows and back, and from these rows to a sheet and back, nothing changes.
+for sheet in p1.sheet p2.sheet p3.sheet rows64.sheet million.sheet limits.sheet; do
+    case_is 0 '*' '' rows "$sheet"
+    cp out there.csv
+    case_is 0 '*' '' sheet there.csv
+    cmp -s out "$sheet" || complain "$sheet to rows and back"
+    cp out again.sheet
+    case_is 0 '*' '' rows again.sheet
+    cmp -s out there.csv || complain "the rows of $sheet to a sheet and back"
+done
+
+# What spreadsheet programs and hands may make of the same rows: always the sheet P1.
+same_sheet() {
+    cat >variant.csv
+    case_is 0 '*' '' sheet variant.csv
+    cmp -s out p1.sheet || complain "$1: not the sheet P1"
+    case_in=variant.csv
+    case_is 0 '*' '' sheet --plain -
+    cmp -s out p1.sheet || complain "$1, from standard input: not the sheet P1"
+    case_in=/dev/null
+}
+same_sheet 'as written' <p1.csv
+same_sheet 'samples/p1-saved.csv' <p1-saved.csv
+[ "$(head -c 4 p1-saved.csv | od -An -tu1)" = ' 239 187 191  34' ] || complain "samples/p1-saved.csv has a mark and quotes"
+[ "$(grep -c $'\r$' p1-saved.csv)" -eq 8 ] || complain "samples/p1-saved.csv has eight lines with CR LF"
+mark() { printf '\357\273\277'; }
+quoted() { sed 's/[^,]*/"&"/g' "$@"; }
+blanks() { sed $'s/,/ \t,\t /g; s/^/  /; s/$/\t/' "$@"; }
+tr '\n' '\r' <p1.csv | same_sheet 'CR'
+sed 's/$/\r/' p1.csv | same_sheet 'CR LF'
+sed '2~2s/$/\r/' p1.csv | same_sheet 'LF and CR LF'
+{ head -n 4 p1.csv | tr '\n' '\r' && tail -n 3 p1.csv; } | same_sheet 'CR and LF'
+head -c -1 p1.csv | same_sheet 'no last line end'
+tr '\n' '\r' <p1.csv | head -c -1 | same_sheet 'CR and no last line end'
+sed 's/$/\r/' p1.csv | head -c -1 | same_sheet 'CR LF and half the last line end'
+sed 's/$/\r/' p1.csv | head -c -2 | same_sheet 'CR LF and no last line end'
+{ mark && cat p1.csv; } | same_sheet 'a byte order mark'
+quoted p1.csv | same_sheet 'quotes'
+{ mark && quoted p1.csv | sed 's/$/\r/'; } | same_sheet 'a mark, quotes and CR LF'
+{ mark && quoted p1.csv | tr '\n' '\r'; } | same_sheet 'a mark, quotes and CR'
+blanks p1.csv | same_sheet 'blanks around'
+quoted p1.csv | blanks | same_sheet 'blanks around quotes'
+sed 's/[^,]*/" &\t"/g' p1.csv | same_sheet 'blanks in quotes'
+tr '[:lower:]' '[:upper:]' <p1.csv | same_sheet 'upper case'
+tr '[:upper:]' '[:lower:]' <p1.csv | same_sheet 'lower case'
+sed 's/HI$/1/; s/LO$/0/' p1.csv | same_sheet 'levels as figures'
+sed 's/$/,,,,/' p1.csv | same_sheet 'empty cells at the end'
+sed 's/$/," ",""/' p1.csv | same_sheet 'empty quoted cells at the end'
+sed '1,2s/,,$//' p1.csv | same_sheet 'speeds without empty cells'
+{ cat p1.csv && printf '\n\n , ,\t,\r\n\r""\n,,,,,,,,\n"\t"\n \t '; } | same_sheet 'empty lines at the end'
+{ cat p1.csv && awk 'BEGIN { for (line = 8; line <= 1048576; line++) printf ",,,\r\n" }'; } | same_sheet '1,048,576 lines, as a spreadsheet program saves empty rows'
+# The longest file that is looked at, and one byte more.
+longest=16777216
+{ cat p1.csv && head -c $((longest - $(wc -c <p1.csv))) /dev/zero | tr '\0' ' '; } | same_sheet 'the longest file'
+
+# What cannot be read as a rows file: status 3 and one line with the place, what stands there and what belongs there.
+untaken() {
+    cat >bad.csv
+    case_is 3 '' "jasminebrace: bad.csv$1" sheet bad.csv
+    [ "$(wc -l <err)" -eq 1 ] || complain "sheet bad.csv: not one line"
+    case_in=bad.csv
+    case_is 3 '' "jasminebrace: standard input$1" sheet -
+    case_in=/dev/null
+}
+most_work='allowed: 1 to 1,000,000 work units'
+for bad in '1,000' 1.000 1.5 1e3 +5 -5 0x5 "1'000" '1 000' x five 20u '20"' '=5' ½ NaN; do
+    rows_file 0,20,10,HI "5,\"${bad//\"/\"\"}\",10,LO" | untaken ", line 5, column 2 (work, in work units): '$bad' $no_figure; $most_work"
+done
+for bad in '' ' ' '""' '" "'; do
+    rows_file 0,20,10,HI "5,$bad,10,LO" | untaken ", line 5, column 2 (work, in work units): nothing stands here; $most_work"
+done
+for bad in 00 020 0000000000000000000000020; do
+    rows_file "0,$bad,10,HI" | untaken ", line 4, column 2 (work, in work units): '$bad' has a zero before its other digits; write it without; $most_work"
+done
+for bad in 4294967296 18446744073709551617 99999999999999999999999999999999; do
+    rows_file "0,$bad,10,HI" | untaken ", line 4, column 2 (work, in work units): '$bad' is above 4294967295, the largest figure that can be read; $most_work"
+done
+# A release is named with the deadline that stands beside it, a deadline with the release, if that can be one.
+while IFS='|' read -r row allowed; do
+    rows_file "$row" | untaken ", line 4, column 1 (release, in slots): 'x' $no_figure; allowed: $allowed, below the deadline"
+done <<'ROWS'
+x,20,10,HI|0 to 9 slots
+x,20,2,HI|0 to 1 slots
+x,20,1,HI|only 0 (slots)
+x,20,0,HI|0 to 999,999 slots
+x,20,,HI|0 to 999,999 slots
+x,20,010,HI|0 to 999,999 slots
+x,20,y,z|0 to 999,999 slots
+x,20,999999,HI|0 to 999,998 slots
+x,20,1000000,HI|0 to 999,999 slots
+x,20,1000001,HI|0 to 999,999 slots
+x,20,4294967295,HI|0 to 999,999 slots
+ROWS
+while IFS='|' read -r row allowed; do
+    rows_file "$row" | untaken ", line 4, column 3 (deadline, in slots): 'ten' $no_figure; allowed: $allowed, above the release"
+done <<'ROWS'
+0,20,ten,HI|1 to 1,000,000 slots
+7,20,ten,HI|8 to 1,000,000 slots
+999998,20,ten,HI|999,999 to 1,000,000 slots
+999999,20,ten,HI|only 1,000,000 (slots)
+1000000,20,ten,HI|1 to 1,000,000 slots
+4294967295,20,ten,HI|1 to 1,000,000 slots
+ROWS
+levels='allowed: HI or LO (or 1 or 0)'
+for bad in high H L lO1 'HI LO' -1 1.0 yes; do
+    rows_file "0,20,10,$bad" | untaken ", line 4, column 4 (level): '$bad' is not a level; $levels"
+done
+rows_file 0,20,10,01 | untaken ", line 4, column 4 (level): '01' has a zero before its other digits; write it without; $levels"
+rows_file 0,20,10 | untaken ", line 4, column 4 (level): nothing stands here; $levels"
+rows_file 0,20,10,HI 7 | untaken ", line 5, column 2 (work, in work units): nothing stands here; $most_work"
+lines "$speed_headings" 5.5,2,, "$row_headings" 0,20,10,HI | untaken ", line 2, column 1 (normal speed N, in work units per slot): '5.5' $no_figure; allowed: 1 to 1,000 work units per slot"
+while IFS='|' read -r normal allowed; do
+    lines "$speed_headings" "$normal" "$row_headings" 0,20,10,HI |
+        untaken ", line 2, column 2 (degraded speed G, in work units per slot): nothing stands here; allowed: $allowed, at most N"
+done <<'SPEEDS'
+5|1 to 5 work units per slot
+1|only 1 (work units per slot)
+1000|1 to 1,000 work units per slot
+0|1 to 1,000 work units per slot
+1001|1 to 1,000 work units per slot
+SPEEDS
+# Cells after the last column; a figure with a comma in it moves others there.
+two='stands here; the speeds use 2 of the 4 columns, and nothing is allowed after column 2'
+four='stands here; a rows file has 4 columns, and nothing is allowed after column 4'
+many='delete the cell that is one too many; if a figure was written with a comma, as 1,000, write 1000'
+for row in 0,1,000,10,HI 1,000,20,10,HI 0,20,1,000,HI 0,1,500,10,HI ,1,000,10,HI; do
+    rows_file "$row" | untaken ", line 4, column 5: 'HI' $four: $many"
+done
+rows_file 0,1,000,000,10,HI | untaken ", line 4, column 5: '10' $four: $many"
+rows_file 0,20,10,HI 5,15,10,LO,,,a,b | untaken ", line 5, column 7: 'a' $four: $many"
+lines "$speed_headings" 5,2,3 | untaken ", line 2, column 3: '3' $two: $many"
+lines "$speed_headings" 1,000,2,, | untaken ", line 2, column 3: '2' $two: $many"
+lines "$speed_headings" '5,2,,measured in May' | untaken ", line 2, column 4: 'measured in May' $two: $many"
+lines "$speed_headings" 5,2,,,x | untaken ", line 2, column 5: 'x' $four: $many"
+lines "${speed_headings}n" 5,2 | untaken ", line 1, column 4: 'n' $two: delete this cell"
+lines "$speed_headings,notes" 5,2 | untaken ", line 1, column 5: 'notes' $four: delete this column"
+sed 's/$/,note/' p1.csv | untaken ", line 1, column 5: 'note' $four: delete this column"
+lines "$speed_headings" 5,2 "$row_headings,comment" | untaken ", line 3, column 5: 'comment' $four: delete this column"
+# Row numbers and names of jobs beside the rows alone.
+rows_file 1,0,20,10,HI | untaken ", line 4, column 5: 'HI' $four: $many"
+rows_file pen,0,20,10,HI | untaken ", line 4, column 1 (release, in slots): 'pen' $no_figure; allowed: 0 to 19 slots, below the deadline"
+rows_file 0,20,10,HI,pen | untaken ", line 4, column 5: 'pen' $four: $many"
+# Headings: other columns, moved ones, other units, none.
+no_speeds="stands where the heading 'normal speed N (work units per slot)' belongs"
+moved() { echo "; that heading stands in column $1: move its column here, or delete what stands before it"; }
+sed 's/^/,/' p1.csv | untaken ", line 1, column 1: nothing $no_speeds$(moved 2)"
+sed 's/^/job,/' p1.csv | untaken ", line 1, column 1: 'job' $no_speeds$(moved 2)"
+sed 's/^/,,,,,/' p1.csv | untaken ", line 1, column 1: nothing $no_speeds$(moved 6)"
+sed 's/\(.*\),\(.*\)/\2,\1/' p1.csv | untaken ", line 1, column 1: nothing $no_speeds$(moved 2)"
+sed '3,$s/^/job,/' p1.csv | untaken ", line 3, column 1: 'job' stands where the heading 'release (slots)' belongs$(moved 2)"
+lines "$speed_headings" 5,2 'release (slots),deadline (slots),work (work units),level (HI or LO)' 0,10,20,HI |
+    untaken ", line 3, column 2: 'deadline (slots)' stands where the heading 'work (work units)' belongs$(moved 3)"
+lines "$speed_headings" 5,2 'level (HI or LO),release (slots),work (work units),deadline (slots)' HI,0,20,10 |
+    untaken ", line 3, column 1: 'level (HI or LO)' stands where the heading 'release (slots)' belongs$(moved 2)"
+lines "$speed_headings" 5,2 'release (slots),work (ms),deadline (slots),level (HI or LO)' |
+    untaken ", line 3, column 2: 'work (ms)' stands where the heading 'work (work units)' belongs"
+lines "$speed_headings" 5,2 'release (slots),work (work units),deadline (slots)' |
+    untaken ", line 3, column 4: nothing stands where the heading 'level (HI or LO)' belongs"
+lines 'normal speed N (work units per slot)' 5,2 | untaken ", line 1, column 2: nothing stands where the heading 'degraded speed G (work units per slot)' belongs"
+lines "$row_headings" 0,20,10,HI | untaken ", line 1, column 1: 'release (slots)' $no_speeds"
+{ echo '# jobs of May' && cat p1.csv; } | untaken ", line 1, column 1: '# jobs of May' $no_speeds"
+lines 'N,G' 5,2 | untaken ", line 1, column 1: 'N' $no_speeds"
+lines 'normal speed N (work units per slot)s,x' | untaken ", line 1, column 1: 'normal speed N (work units per slot)s' $no_speeds"
+lines "$speed_headings" 5,2,, 0,20,10,HI | untaken ", line 3, column 1: '0' stands where the heading 'release (slots)' belongs"
+sed 2d p1.csv | untaken ", line 2, column 1 (normal speed N, in work units per slot): 'release (slots)' $no_figure; allowed: 1 to 1,000 work units per slot"
+# Empty lines before others, and files that end too early.
+rows_file 0,20,10,HI ' ,"",' '' 5,15,10,LO | untaken ', line 5: this line is empty, and line 7 is not; delete the empty line'
+{ echo && cat p1.csv; } | untaken ', line 1: this line is empty, and line 2 is not; delete the empty line'
+sed 's/$/\n/' p1.csv | untaken ', line 2: this line is empty, and line 3 is not; delete the empty line'
+sed 's/$/\r\r/' p1.csv | untaken ', line 2: this line is empty, and line 3 is not; delete the empty line'
+lines "$speed_headings" | untaken ', line 2: the file ends where the speeds N and G belong, as 5,2 (work units per slot)'
+lines "$speed_headings" 5,2 '' ,, | untaken ", line 3: the file ends where the headings of the rows belong: $row_headings"
+for text in '' '\n' '\r\n,,,\r\n' '\357\273\277' '\357\273\277\n'; do
+    # shellcheck disable=SC2059 # escapes are meant
+    printf "$text" | untaken ": the file is empty; 'jasminebrace rows SHEET' shows what a rows file looks like"
+done
+# Quotes; a line break in a cell, as spreadsheet programs take it.
+open='the double quote that opens this cell is not closed in its line, or a line break stands inside the cell; write the cell in one line, with both its quotes or with none'
+rows_file '0,"20,10,HI' | untaken ", line 4, column 2 (work, in work units): $open"
+rows_file '0,20,10,"HI' '5,15,10,"LO' | untaken ", line 4, column 4 (level): $open"
+rows_file '0,"2""0,10,HI' | untaken ", line 4, column 2 (work, in work units): $open"
+rows_file '0,20,10,"HI' '"' | untaken ", line 4, column 4 (level): $open"
+sed '3s/work (/work\n(/; 3s/[^,]*/"&"/g' p1.csv | untaken ", line 3, column 2: $open"
+rows_file '0,20,10,"' | untaken ", line 4, column 4 (level): $open"
+rows_file '0,"2"0,10,HI' | untaken ', line 4, column 2 (work, in work units): text follows the closing double quote; write a double quote inside a quoted cell twice'
+rows_file '0,20,10,"HI" "LO"' | untaken ', line 4, column 4 (level): text follows the closing double quote; write a double quote inside a quoted cell twice'
+rows_file '0,"2""0",10,HI' | untaken ", line 4, column 2 (work, in work units): '2\"0' $no_figure; $most_work"
+lines "\"$speed_headings" | untaken ", line 1, column 1: $open"
+# Other separators, other kinds of files.
+separated='save the file with commas between the cells'
+tr ',' ';' <p1.csv | untaken ", line 1: the cells are separated by ';'; $separated"
+{ mark && quoted p1.csv | sed 's/,/;/g; s/$/\r/'; } | untaken ", line 1: the cells are separated by ';'; $separated"
+tr ',' '\t' <p1.csv | untaken ", line 1: the cells are separated by tabs; $separated"
+rows_file 0,20,10,HI '5;15;10;LO' | untaken ", line 5: the cells are separated by ';'; $separated"
+{ printf '\377\376' && sed 's/./&\x00/g; s/$/\x00/' p1.csv; } | untaken ': this is text in UTF-16; save it as CSV in UTF-8, with commas between the cells'
+{ printf '\376\377' && sed 's/./\x00&/g' p1.csv; } | untaken ': this is text in UTF-16; save it as CSV in UTF-8, with commas between the cells'
+wide='this is text in UTF-32; save it as CSV in UTF-8, with commas between the cells'
+{ printf '\377\376\0\0' && sed 's/./&\x00\x00\x00/g; s/$/\x00\x00\x00/' p1.csv; } | untaken ": $wide"
+{ printf '\0\0\376\377' && sed 's/./\x00\x00\x00&/g' p1.csv; } | untaken ": $wide"
+sed 's/./&\x00/g' p1.csv | untaken ', line 1, column 1: a byte 0 stands here, which no text has; save the file as CSV in UTF-8'
+rows_file 0,20,10,HI | sed '4s/20/2\x000/' | untaken ', line 4, column 2 (work, in work units): a byte 0 stands here, which no text has; save the file as CSV in UTF-8'
+own="this is a spreadsheet program's own file, or an archive; save it as CSV, with commas between the cells"
+{ printf 'PK\003\004' && head -c 2000000 /dev/zero; } | untaken ": $own"
+printf '\320\317\021\340\241\261\032\341' | untaken ": $own"
+for sheet in p1.sheet rows64.sheet two-rows.sheet row-after.sheet count.sheet letter.sheet; do
+    untaken ": this is a sheet and not a rows file; 'jasminebrace rows SHEET' makes a rows file of it" <"$sheet"
+done
+{ cat p1.csv && head -c $((longest + 1 - $(wc -c <p1.csv))) /dev/zero | tr '\0' ' '; } |
+    untaken ': the file has more than 16,777,216 bytes, which is the most that is allowed; delete the empty rows below the last row and save it again'
+# What stands in a cell is shown so that nothing in it is lost or does harm; of a long text the beginning.
+rows_file $'0,\e[2J20,10,HI' | untaken ", line 4, column 2 (work, in work units): '<byte 27>[2J20' $no_figure; $most_work"
+rows_file $'0,1\302\240000,10,HI' | untaken ", line 4, column 2 (work, in work units): '1<U+00A0>000' $no_figure; $most_work"
+rows_file $'0,1\342\200\257000,10,HI' | untaken ", line 4, column 2 (work, in work units): '1<U+202F>000' $no_figure; $most_work"
+rows_file $'0,2\3510\300\257,10,HI' | untaken ", line 4, column 2 (work, in work units): '2<byte 233>0<byte 192><byte 175>' $no_figure; $most_work"
+rows_file $'0,\340\200\257\360\237\230,10,HI' | untaken ", line 4, column 2 (work, in work units): '<byte 224><byte 128><byte 175><byte 240><byte 159><byte 152>' $no_figure; $most_work"
+rows_file '0,zwanzig für Ärger 漢 😀,10,HI' | untaken ", line 4, column 2 (work, in work units): 'zwanzig für Ärger 漢 😀' $no_figure; $most_work"
+long=$(printf '9%.0s' {1..70})
+rows_file "0,$long,10,HI" | untaken ", line 4, column 2 (work, in work units): '${long:0:61}..' is above 4294967295, the largest figure that can be read; $most_work"
+
+# What the archive refuses: status 2, its number, the place, what is allowed and the remedy.
+refused_rows() { # NUMBER PLACE ALLOWED
+    cat >refused.csv
+    case_is 2 '' "where: refused.csv, $2" sheet refused.csv
+    also_err "allowed: $3"
+    grep -q "^number $1: " err || complain "sheet refused.csv: not number $1"
+    grep -q '^remedy: ' err || complain "sheet refused.csv: no remedy"
+    [ "$(wc -l <err)" -eq 4 ] || complain "sheet refused.csv: not four lines"
+    case_in=refused.csv
+    case_is 2 '' "where: standard input, $2" sheet -
+    case_in=/dev/null
+}
+while IFS='|' read -r row place allowed; do
+    rows_file 0,20,10,HI "$row" 9,9,9,9 | refused_rows 5 "line 5, $place" "$allowed"
+done <<'ROWS'
+4,20,4,HI|column 1 (release, in slots): the figure is 4|0 to 3 slots, below the deadline
+1,20,1,HI|column 1 (release, in slots): the figure is 1|only 0 (slots), below the deadline
+4294967295,20,1000000,LO|column 1 (release, in slots): the figure is 4294967295|0 to 999,999 slots, below the deadline
+0,0,10,HI|column 2 (work, in work units): the figure is 0|1 to 1,000,000 work units
+0,1000001,10,LO|column 2 (work, in work units): the figure is 1000001|1 to 1,000,000 work units
+0,4294967295,10,LO|column 2 (work, in work units): the figure is 4294967295|1 to 1,000,000 work units
+0,20,1000001,HI|column 3 (deadline, in slots): the figure is 1000001|1 to 1,000,000 slots, above the release
+7,20,1000001,HI|column 3 (deadline, in slots): the figure is 1000001|8 to 1,000,000 slots, above the release
+999999,20,1000001,HI|column 3 (deadline, in slots): the figure is 1000001|only 1,000,000 (slots), above the release
+1000000,20,1000001,HI|column 3 (deadline, in slots): the figure is 1000001|1 to 1,000,000 slots, above the release
+0,20,0,HI|column 3 (deadline, in slots): the figure is 0|1 to 1,000,000 slots, above the release
+7,20,0,HI|column 3 (deadline, in slots): the figure is 0|8 to 1,000,000 slots, above the release
+0,20,10,2|column 4 (level): the figure is 2|HI or LO (or 1 or 0)
+ROWS
+while IFS='|' read -r speeds place allowed; do
+    lines "$speed_headings" "$speeds" "$row_headings" 9,9,9,9 | refused_rows 4 "line 2, $place" "$allowed"
+done <<'SPEEDS'
+0,1|column 1 (normal speed N, in work units per slot): the figure is 0|1 to 1,000 work units per slot
+1001,1|column 1 (normal speed N, in work units per slot): the figure is 1001|1 to 1,000 work units per slot
+1001,1001|column 1 (normal speed N, in work units per slot): the figure is 1001|1 to 1,000 work units per slot
+5,6|column 2 (degraded speed G, in work units per slot): the figure is 6|1 to 5 work units per slot, at most N
+5,0|column 2 (degraded speed G, in work units per slot): the figure is 0|1 to 5 work units per slot, at most N
+1000,1001|column 2 (degraded speed G, in work units per slot): the figure is 1001|1 to 1,000 work units per slot, at most N
+1,2|column 2 (degraded speed G, in work units per slot): the figure is 2|only 1 (work units per slot), at most N
+SPEEDS
+lines "$speed_headings" 0,0 "$row_headings" | refused_rows 3 'line 4: there is no row' '1 to 64 rows'
+lines "$speed_headings" 5,2 "$row_headings" ,,, '' | refused_rows 3 'line 4: there is no row' '1 to 64 rows'
+many=()
+for ((row = 1; row <= 64; row++)); do many+=("$((row - 1)),$row,$((1000000 - row)),$([ $((row % 2)) -eq 0 ] && echo HI || echo LO)"); done
+rows_file "${many[@]}" >many.csv
+case_is 0 '      64       5       2' '' sheet many.csv
+case_is 0 '*' '' rows <("$command" sheet many.csv)
+cmp -s out many.csv || complain "64 rows to a sheet and back"
+rows_file "${many[@]}" 0,20,10,HI | refused_rows 3 'line 68: this is row 65, and there are 65 rows' '1 to 64 rows'
+rows_file "${many[@]}" "${many[@]}" 9,9,9,9 | refused_rows 3 'line 68: this is row 65, and there are 129 rows' '1 to 64 rows'
+rows_file "${many[@]}" "${many[@]}" 9,9,9,x | untaken ", line 132, column 4 (level): 'x' is not a level; $levels"
+lines "$speed_headings" 1000,1000 "$row_headings" 999999,1000000,1000000,LO 0,1,1,HI >limits.csv
+case_is 0 '  999999 1000000 1000000       0' '' sheet limits.csv
+
+# A rows file where a sheet belongs: the refusal is that of other bytes, and a line beside it says what to do.
+hint="hint: this is a rows file; 'jasminebrace sheet ROWS.csv' makes a sheet of it"
+hinted() { # BYTE of the sheet that is at fault
+    cat >given.csv
+    case_is 2 "$hint" '' explain given.csv
+    grep -q '^number 2: ' out || complain "explain given.csv: not number 2"
+    [ "$(tail -n 1 out)" = "$hint" ] || complain "explain given.csv: the hint is not last"
+    case_is 2 "       2       0       1$(printf '%8s' "$1")       1" '' explain --plain given.csv
+    [ "$(wc -l <out)" -eq 1 ] || complain "explain --plain given.csv: not one line"
+    case_is 2 '' "$hint" plan given.csv
+    case_is 2 '       2       0' "$hint" plan --plain given.csv
+    case_is 2 '' "$hint" rows given.csv
+    case_is 2 '' "$hint" judge given.csv 1
+    case_is 2 '       2       0' "$hint" finishes --plain given.csv
+    case_is 2 '' "$hint" run given.csv 5
+}
+hinted 1 <p1.csv
+hinted 1 <p1-saved.csv
+hinted 1 <many.csv
+quoted p1.csv | hinted 1
+quoted p1.csv | sed 's/"/" /g' | hinted 1
+{ mark && cat p1.csv; } | hinted 1
+tr '[:lower:]' '[:upper:]' <p1.csv | hinted 1
+tr '[:upper:]' '[:lower:]' <p1.csv | tr ',' ';' | hinted 1
+sed 's/^/  /' p1.csv | hinted 3
+lines "$speed_headings" | hinted 1
+# No other refusal has the hint: not that of a sheet, of other text, or of the beginning of a heading alone.
+printf '%s' "${speed_headings:0:35}" >heading.csv
+for file in letter.sheet mark.sheet empty.sheet heading.csv; do
+    case_is 2 '*' '' explain "$file"
+    ! grep -q '^hint: ' out || complain "explain $file: a hint"
+done
+case_is 1 '*' '' explain p3.sheet
+! grep -q '^hint: ' out || complain "explain p3.sheet: a hint"
 
 # ---- standard input ----
 case_in=p1.sheet
@@ -285,12 +656,15 @@ case_is 3 '' "jasminebrace: unknown command: ''" ''
 case_is 3 '' "jasminebrace: unknown command: 'plans'" plans p1.sheet
 case_is 3 '' "jasminebrace: unknown option: '--plian'" plan --plian p1.sheet
 case_is 3 '' "jasminebrace: not a supply from 0 to 4294967295, nor a count from 1 and a supply as 1000x5: '-x'" run p1.sheet -x
-for name in plan explain; do
+for name in plan explain rows; do
     case_is 3 '' "jasminebrace: $name takes 1 argument; 0 given" "$name"
     also_err "usage: jasminebrace $name SHEET"
     case_is 3 '' "jasminebrace: $name takes 1 argument; 2 given" "$name" p1.sheet p2.sheet
 done
-for name in plan explain finishes; do
+case_is 3 '' 'jasminebrace: the name of the rows file is empty' sheet ''
+case_is 3 '' 'jasminebrace: . cannot be read: Is a directory' sheet .
+case_is 3 '' 'jasminebrace: nowhere.csv cannot be opened: No such file or directory' sheet nowhere.csv
+for name in plan explain finishes rows; do
     case_is 3 '' 'jasminebrace: the name of the sheet is empty' "$name" ''
     case_is 3 '' 'jasminebrace: . cannot be read: Is a directory' "$name" .
     case_is 3 '' 'jasminebrace: nowhere.sheet cannot be opened: No such file or directory' "$name" nowhere.sheet
@@ -298,7 +672,8 @@ for name in plan explain finishes; do
 done
 case_is 3 '' 'jasminebrace: judge takes at least 2 arguments; 1 given' judge p1.sheet
 case_is 3 '' 'jasminebrace: run takes at least 2 arguments; 1 given' run p1.sheet
-case_is 3 '' 'jasminebrace: sheet takes at least 2 arguments; 1 given' sheet 5
+case_is 3 '' 'jasminebrace: sheet takes at least 1 argument; 0 given' sheet
+also_err 'usage: jasminebrace sheet {ROWS.csv | N G RELEASE,WORK,DEADLINE,LEVEL..}'
 case_is 3 '' 'jasminebrace: finishes takes at least 1 argument; 0 given' finishes
 case_is 3 '' 'jasminebrace: --order and --stretches belong to run' plan p1.sheet --stretches
 case_is 3 '' 'jasminebrace: --order and --stretches belong to run' judge p1.sheet --order 1,2,3,4 1
@@ -320,7 +695,7 @@ if [ "$(id -u)" -ne 0 ]; then
     case_is 3 '' 'jasminebrace: shut.sheet cannot be opened: Permission denied' plan shut.sheet
 fi
 for words in 'plan p1.sheet' 'plan --plain p1.sheet' 'judge p1.sheet 1 2 3 4' 'finishes p1.sheet' 'run p1.sheet 5' \
-    'run p1.sheet 2000000x5' 'explain p1.sheet' 'explain p3.sheet' 'sheet 5 2 0,20,10,1' '--help' '--version'; do
+    'run p1.sheet 2000000x5' 'explain p1.sheet' 'explain p3.sheet' 'sheet 5 2 0,20,10,1' 'sheet p1.csv' 'rows p1.sheet' '--help' '--version'; do
     cases=$((cases + 1))
     for full in /dev/full closed; do
         status=0
@@ -336,7 +711,7 @@ done
 # ---- help and version ----
 case_is 0 'usage: jasminebrace COMMAND [--plain] ARGUMENTS' '' --help
 case_is 0 "jasminebrace, interface $(sed -n 's/^#define JB_VERSION \([0-9]*\)u$/\1/p' "$root/c/jasminebrace.h")" '' --version
-for name in plan judge finishes run explain sheet; do
+for name in plan judge finishes run explain sheet rows; do
     case_is 0 '*' '' "$name" --help
     grep -q "^usage: jasminebrace $name " out || complain "$name --help: no usage"
     grep -q -- '--plain' out || complain "$name --help: nothing on --plain"
@@ -348,9 +723,10 @@ for name in plan judge finishes run explain sheet; do
     done
 done
 # The table of refusals in the README says what the header says.
-"$command" explain --help | sed -n 's/^number \([0-9]\): /\1|/p; s/^remedy: //p' | paste -d '|' - - >numbers
-sed -n 's/^| \([1-9]\) | \(.*\) | \(.*\) |$/\1|\2|\3/p' "$root/README.md" >readme.numbers
+"$command" explain --help | sed -n 's/^number \([0-9]*\): /\1|/p; s/^remedy: //p' | paste -d '|' - - >numbers
+sed -n 's/^| \([1-9][0-9]*\) | \(.*\) | \(.*\) |$/\1|\2|\3/p' "$root/README.md" >readme.numbers
 cases=$((cases + 1))
+[ "$(wc -l <numbers)" -eq "$(sed -n 's/^    JB_NO_ROOM = \([0-9]*\) .*/\1/p' "$root/c/jasminebrace.h")" ] || complain "explain --help has not every number"
 cmp -s numbers readme.numbers || { diff numbers readme.numbers >out || true; complain "README's table of refusals is not the header's"; }
 
 echo "command: $cases cases, $wrong not as they should be"

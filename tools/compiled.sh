@@ -75,7 +75,7 @@ bash tools/few_calls.sh "$built/counted"
 bash tools/built.sh "$archive"
 # Compiled for another interface than the archive's, it does nothing but say so.
 mkdir "$built/other"
-cp c/command.c "$built/other"
+cp c/command.c c/table.h c/csv.h "$built/other"
 sed 's/^#define JB_VERSION .*/#define JB_VERSION 99u/' c/jasminebrace.h >"$built/other/jasminebrace.h"
 gcc -std=c11 "${warned[@]}" -O2 -o "$built/other/command" "$built/other/command.c" "$archive"
 status=0

@@ -18,6 +18,8 @@ a fault if
   - an entry, a function that C calls, a `main`, or a public function of the crate `conclusions` has a `requires`;
   - an entry does not exist, or a function that C calls is not among the entries;
   - a public function has no `ensures`;
+  - a function of the crate `conclusions` is not public, or its `ensures` neither names a record of that crate's Conclusions.antt
+    nor gives its result as a figure;
   - a public function has a `requires` and does not stand in the second table;
   - a function in the second table does not exist, is not public, or has no `requires`;
   - the crates beside it are not those that call it.
@@ -38,6 +40,7 @@ OWN = "Public functions between crates that ask for something"
 ASKING = "| function | asks for | called by |"
 # Its functions do what callers do: one that asked for something would conclude less.
 CONCLUSIONS = "conclusions"
+CONCLUDED = Path("crates/conclusions/specs/Conclusions.antt")
 
 # Comments, texts and characters, whose braces and words are none. A lifetime such as 'a is no character.
 NO_CODE = re.compile(r"""//[^\n]*|/\*.*?\*/|b?"(?:\\.|[^"\\])*"|b?'(?:\\[^\n]|[^'\\\n])'""", re.S)
@@ -79,7 +82,7 @@ class Function:
         self.plain = head.group(3)
         self.name = self.plain if self.extern else f"{owner or crate}::{self.plain}"
         self.method = owner is not None
-        self.parts = {}
+        self.parts, self.texts = {}, {}
         # From the parameters on: what the function hands back, its contract, and its body or a semicolon.
         at = after_group(code, code.index("(", head.end()))
         while True:
@@ -87,6 +90,7 @@ class Function:
             if part is not None:
                 at = after_group(code, part.end())
                 self.parts.setdefault(part.group(1), (part.start(), at))
+                self.texts.setdefault(part.group(1), code[part.start() : at])
             elif at >= len(code) or code[at] in "{;":
                 break
             elif code[at] in CLOSING:
@@ -131,6 +135,7 @@ class Entries:
         self.functions, self.codes = functions_of(root)
         self.named = {function.name: function for function in self.functions}
         self.text = (root / GUARANTEES).read_text(encoding="utf-8")
+        self.records = set(re.findall(r"^pub record (\w+)", (root / CONCLUDED).read_text(encoding="utf-8"), re.M))
         self.faults = []
 
     def fault(self, where, what):
@@ -167,6 +172,15 @@ class Entries:
                 self.fault(where, f"{name} is public, has a requires, and is not under '{OWN}' in {GUARANTEES}")
         if (function.public or function.extern) and not function.has("ensures"):
             self.fault(where, f"{name} is public and has no ensures")
+        if function.crate == CONCLUSIONS:
+            self.check_conclusion(function)
+
+    def check_conclusion(self, function):
+        promise = function.texts.get("ensures", "")
+        if not function.public:
+            self.fault(function.where(), f"{function.name} is a conclusion and not public")
+        if not self.records & set(re.findall(r"\w+", promise)) and re.search(r"⌜ r ≡ \d+ ⌝", promise) is None:
+            self.fault(function.where(), f"{function.name} concludes nothing that {CONCLUDED} states")
 
     def check_asking(self, name, callers):
         function = self.named.get(name)
@@ -209,7 +223,7 @@ class Entries:
 
 def copied(root, folder):
     """A copy of all that is checked."""
-    for path in [*sorted(root.glob("crates/*/src/**/*.rt")), root / GUARANTEES]:
+    for path in [*sorted(root.glob("crates/*/src/**/*.rt")), root / GUARANTEES, root / CONCLUDED]:
         copy = folder / path.relative_to(root)
         copy.parent.mkdir(parents=True, exist_ok=True)
         shutil.copyfile(path, copy)
@@ -244,6 +258,15 @@ def edits(root):
     def without(name, part):
         return source(name, lambda text, function: text[: function.parts[part][0]] + text[function.parts[part][1] :])
 
+    def promises(name, contract):
+        def change(text, function):
+            start, end = function.parts["ensures"]
+            return text[:start] + contract + text[end:]
+        return source(name, change)
+
+    def hidden(text, function):
+        return text.replace(f"pub fn {function.plain}(", f"fn {function.plain}(")
+
     def said(old, new):
         def put(folder):
             text = (folder / GUARANTEES).read_text(encoding="utf-8")
@@ -258,6 +281,8 @@ def edits(root):
         ("a requires on a method", asks(method), f"{method} is an entry for outside callers and has a requires"),
         ("a requires on a program", asks(program), f"{program} is a program and has a requires"),
         ("a requires on a conclusion", asks(concluded), f"{concluded} draws a conclusion and has a requires"),
+        ("a conclusion that says nothing", promises(concluded, "ensures { λ r. ⌜ r ≡ r ⌝ }"), f"{concluded} concludes nothing"),
+        ("a conclusion that nobody can call", source(concluded, hidden), f"{concluded} is a conclusion and not public"),
         ("a public function with a requires that is not listed", asks(free), f"{free} is public, has a requires, and is not under"),
         ("an ensures removed from an entry", without("planner::plan", "ensures"), "planner::plan is public and has no ensures"),
         ("an ensures removed between crates", without(asked, "ensures"), f"{asked} is public and has no ensures"),

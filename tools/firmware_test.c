@@ -542,6 +542,25 @@ static void restored(void) {
     puts("restoring: replayed supplies give the same bytes; 9 leaves the record, and lets pass what no run makes");
 }
 
+/* The sheet of a record's table: it reads as that table, and is written again from what was read; 10 writes nothing. */
+static void sheet_of_record(void) {
+    for (int trial = 0; trial < TABLES; trial++) {
+        uint8_t planned[JB_ROWS], sheet[JB_LONGEST_SHEET], again[JB_LONGEST_SHEET];
+        uint32_t row, length, other;
+        jb_table table = planned_table(planned), read;
+        jb_run run = fresh_run(&table, planned);
+        must(jb_work_slot(&run, table.normal, &row) == JB_OK, "a slot is refused");
+        must(jb_write_table(&run.table, sheet, sizeof sheet, &length) == JB_OK, "the record's table is not written");
+        must(jb_read_table(sheet, length, &read) == JB_OK && memcmp(&read, &table, sizeof read) == 0, "it reads as another table");
+        memset(again, 'x', sizeof again);
+        must(jb_write_table(&read, again, length - 1, &other) == JB_NO_ROOM && other == 0, "a byte too few is not 10");
+        must(again[0] == 'x' && memchr(again, '\n', sizeof again) == NULL, "10 writes a byte");
+        must(jb_write_table(&read, again, sizeof again, &other) == JB_OK && other == length, "another length");
+        must(memcmp(again, sheet, length) == 0, "a sheet that was read is not written byte for byte");
+    }
+    puts("a record's table gives its sheet, byte for byte as it was read; 10 writes nothing");
+}
+
 /* The end of the clock: 8, nothing changes, and the loop begins no slot. Missed slots reported as 0 drop a LO row. */
 static void clock_end(void) {
     static const uint8_t order[JB_ROWS] = {2, 1};
@@ -674,6 +693,7 @@ int main(void) {
     too_much();
     given_up();
     restored();
+    sheet_of_record();
     clock_end();
     started();
     fallen_counter();

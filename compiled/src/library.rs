@@ -11,10 +11,16 @@ use model::judge::Verdict;
 use model::order::Order;
 use model::plan::Plan;
 use model::record::{Forward, OneSlot, Record};
+use model::sheet::LONGEST_SHEET;
 use model::table::{Row, Table, ROWS};
 
 const RUBBISH: u32 = 0xA5A5_A5A5;
 const RUBBISH_BYTE: u8 = 0xA5;
+
+/// Bytes of rubbish on either side of lent memory that the library may write:
+/// no fewer than a sheet has, so that one written in the wrong place stays
+/// between them.
+const GUARD: usize = LONGEST_SHEET;
 
 /// The reader: number and table.
 pub fn read(sheet: &[u8]) -> (u32, Table) {
@@ -24,6 +30,36 @@ pub fn read(sheet: &[u8]) -> (u32, Table) {
     let number = unsafe { raw::jb_read(sheet.as_ptr(), sheet.len(), &mut table) };
     assert_eq!(sheet, before, "the sheet was written");
     (number, raw::table_of(&table))
+}
+
+/// The writer: number and length of the sheet in bytes. The lent bytes are then
+/// as the library has left them: all but the sheet's as they were, and with a
+/// refusal every one (rules 15.3 and 15.5).
+pub fn write(table: &Table, lent: &mut [u8]) -> (u32, u32) {
+    let words = raw::table_words(table);
+    let mut memory = Guarded::around(lent);
+    let mut length = RUBBISH;
+    // SAFETY: as in `read`.
+    let number = unsafe { raw::jb_write(&words, memory.start(), lent.len(), &mut length) };
+    assert_eq!(words, raw::table_words(table), "the table was written");
+    let left = memory.between_guards();
+    let written = if number == 0 { length as usize } else { 0 };
+    assert!(written <= lent.len(), "{written} of {} bytes", lent.len());
+    assert!(
+        left[written..] == lent[written..],
+        "a byte that is none of the sheet's was written"
+    );
+    lent.copy_from_slice(left);
+    (number, length)
+}
+
+/// A number as a field, and whether it holds the number.
+pub fn field(number: u32) -> (bool, [u8; 8]) {
+    let mut field = [RUBBISH_BYTE; 8];
+    // SAFETY: as in `read`.
+    let whole = unsafe { raw::jb_field(number, &mut field) };
+    assert!(whole <= 1, "jb_field gave {whole}");
+    (whole == 1, field)
 }
 
 /// The planner.
@@ -184,6 +220,35 @@ impl Lent {
     fn assert_unwritten(&self, table: &Table, order: &Order) {
         assert_eq!(self.table, raw::table_words(table), "the table was written");
         assert_eq!(self.order, *order, "the order was written");
+    }
+}
+
+/// Lent bytes that the library may write, with rubbish on either side.
+struct Guarded {
+    memory: Vec<u8>,
+}
+
+impl Guarded {
+    fn around(lent: &[u8]) -> Guarded {
+        let guard = [RUBBISH_BYTE; GUARD];
+        Guarded {
+            memory: [&guard, lent, &guard].concat(),
+        }
+    }
+
+    /// Where the lent bytes start.
+    fn start(&mut self) -> *mut u8 {
+        self.memory[GUARD..].as_mut_ptr()
+    }
+
+    /// The lent bytes, after a look at the guards.
+    fn between_guards(&self) -> &[u8] {
+        let (below, rest) = self.memory.split_at(GUARD);
+        let (lent, above) = rest.split_at(rest.len() - GUARD);
+        let is_whole = |guard: &[u8]| guard.iter().all(|&byte| byte == RUBBISH_BYTE);
+        assert!(is_whole(below), "a byte before the lent ones was written");
+        assert!(is_whole(above), "a byte behind the lent ones was written");
+        lent
     }
 }
 

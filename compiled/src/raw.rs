@@ -23,6 +23,9 @@ pub type Finishes = [u32; ROWS];
 
 extern "C" {
     pub fn jb_read(sheet: *const u8, length: usize, table: *mut TableWords) -> u32;
+    pub fn jb_write(table: *const TableWords, sheet: *mut u8, room: usize, length: *mut u32)
+        -> u32;
+    pub fn jb_field(figure: u32, field: *mut [u8; 8]) -> u32;
     pub fn jb_plan(table: *const TableWords, order: *mut Order, left: *mut u64) -> u32;
     pub fn jb_judge(
         table: *const TableWords,

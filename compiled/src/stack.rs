@@ -6,7 +6,7 @@ use crate::raw::{self, StateWords, TableWords};
 use crate::sheets::{easy, hard, largest, longest_windows};
 use model::order::{order_of, Order};
 use model::record::Record;
-use model::sheet::sheet_of;
+use model::sheet::{sheet_of, LONGEST_SHEET};
 use model::table::Table;
 use std::ffi::{c_int, c_void};
 use std::hint::black_box;
@@ -169,10 +169,21 @@ type Call = fn(&Inputs);
 
 /// Every export with the memory that it is lent. What is written lies outside
 /// the measured stack, in `Results`.
-const CALLS: [(&str, Call); 11] = [
+const CALLS: [(&str, Call); 13] = [
     ("jb_read", |on| {
         with_results(|out| unsafe {
             raw::jb_read(on.sheet.as_ptr(), on.sheet.len(), &mut out.table);
+        })
+    }),
+    ("jb_write", |on| {
+        with_results(|out| unsafe {
+            let (sheet, room) = (out.sheet.as_mut_ptr(), out.sheet.len());
+            raw::jb_write(&on.table, sheet, room, &mut out.words[0]);
+        })
+    }),
+    ("jb_field", |_| {
+        with_results(|out| unsafe {
+            raw::jb_field(12_345_678, &mut out.field);
         })
     }),
     ("jb_plan", |on| {
@@ -243,6 +254,8 @@ static SUPPLIES: [u32; 3_000] = [2; 3_000];
 
 /// Memory for the results of every call.
 struct Results {
+    sheet: [u8; LONGEST_SHEET],
+    field: [u8; 8],
     table: TableWords,
     order: Order,
     state: StateWords,
@@ -256,6 +269,8 @@ struct Results {
 fn with_results(call: impl FnOnce(&mut Results)) {
     use std::sync::Mutex;
     static RESULTS: Mutex<Results> = Mutex::new(Results {
+        sheet: [0; LONGEST_SHEET],
+        field: [0; 8],
         table: [0; raw::TABLE_WORDS],
         order: [0; 64],
         state: [0; raw::STATE_WORDS],

@@ -1,5 +1,6 @@
 //! The command's figures (`--plain`) against the model, on samples and random
-//! sheets. The program is the one that JASMINEBRACE_COMMAND names, or
+//! sheets, and its rows files against a reading of them by their description.
+//! The program is the one that JASMINEBRACE_COMMAND names, or
 //! tools/jasminebrace.
 
 mod common;
@@ -13,8 +14,10 @@ use model::plain;
 use model::program::planning_program;
 use model::random::Random;
 use model::run::{kept_deadline, State};
-use model::sheet::{read_field, read_sheet, sheet_of, write_line, FIRST_LINE, ROW_LINE};
-use model::table::{Row, Table, HI};
+use model::sheet::{
+    read_field, read_sheet, sheet_of, write_line, write_sheet, FIRST_LINE, ROW_LINE,
+};
+use model::table::{check_table, Row, Table, HI, LATEST_DEADLINE, ROWS};
 use std::io::Write;
 use std::process::{Command, Stdio};
 
@@ -22,18 +25,27 @@ const SHIPPED: &str = concat!(env!("CARGO_MANIFEST_DIR"), "/../tools/jasminebrac
 
 /// What the command wrote on standard output, and its exit status.
 fn command(words: &[&str], input: &[u8]) -> (Vec<u8>, i32) {
+    let (output, _, status) = command_with_errors(words, input);
+    (output, status)
+}
+
+/// What the command wrote on standard output and standard error, and its exit
+/// status.
+fn command_with_errors(words: &[&str], input: &[u8]) -> (Vec<u8>, String, i32) {
     let program = std::env::var("JASMINEBRACE_COMMAND").unwrap_or_else(|_| SHIPPED.to_string());
     let mut child = Command::new(program)
         .args(words)
         .stdin(Stdio::piped())
         .stdout(Stdio::piped())
-        .stderr(Stdio::null())
+        .stderr(Stdio::piped())
         .spawn()
         .expect("the command is built");
     // It may end before a long input is written whole: what it keeps is enough.
     let _ = child.stdin.take().expect("a pipe").write_all(input);
     let output = child.wait_with_output().expect("its output");
-    (output.stdout, output.status.code().expect("a status"))
+    let errors = String::from_utf8(output.stderr).expect("text without broken characters");
+    let status = output.status.code().expect("a status");
+    (output.stdout, errors, status)
 }
 
 fn text(bytes: &[u8]) -> &str {
@@ -89,7 +101,9 @@ fn sample_sheets() -> Vec<Vec<u8>> {
     let folder = concat!(env!("CARGO_MANIFEST_DIR"), "/../samples");
     let files = std::fs::read_dir(folder).expect("the samples");
     let mut sheets: Vec<_> = files
-        .map(|file| std::fs::read(file.expect("a sample").path()).expect("a sample"))
+        .map(|file| file.expect("a sample").path())
+        .filter(|path| path.extension().is_some_and(|end| end == "sheet"))
+        .map(|path| std::fs::read(path).expect("a sample"))
         .collect();
     assert!(sheets.len() >= 4, "the samples");
     sheets.extend([sheet_of(&easy(64)), sheet_of(&hard(64))]);
@@ -405,45 +419,176 @@ fn lengths() {
     tally.assert_common(&[false, true], 150);
 }
 
-/// Sheets written by the command are the model's, and read back the same.
-#[test]
-fn sheets_written() {
-    let mut random = Random::seeded(706);
-    let mut tally = Tally::new("command sheet");
-    for round in 0..400 {
-        let mut table = if round % 3 == 0 {
-            large_table(&mut random)
-        } else {
-            small_table(&mut random)
-        };
-        if round % 4 == 0 {
-            let number = random.between(4, 5);
-            spoil_table(&mut random, &mut table, number);
-        }
-        let rows: Vec<String> = table.rows().iter().map(row_word).collect();
-        let speeds = [table.normal.to_string(), table.degraded.to_string()];
-        let fits = table.rows().iter().all(|row| {
-            [row.release, row.work, row.deadline, row.level]
-                .iter()
-                .all(|&figure| figure < 100_000_000)
-        }) && table.normal < 100_000_000
-            && table.degraded < 100_000_000;
-        let mut words = vec!["sheet", &speeds[0], &speeds[1]];
-        words.extend(rows.iter().map(String::as_str));
-        let answer = command(&words, b"");
-        let expected = if !fits {
-            (Vec::new(), 3)
-        } else {
-            let sheet = sheet_of(&table);
-            match read_sheet(&sheet).0 {
-                0 => (sheet, 0),
-                _ => (Vec::new(), 2),
-            }
-        };
-        assert_eq!(answer, expected, "{words:?}");
-        tally.saw(answer.1);
+/// A small table or, once in three times, a large one.
+fn a_table(random: &mut Random) -> Table {
+    if random.once_in(3) {
+        large_table(random)
+    } else {
+        small_table(random)
     }
-    tally.assert_common(&[0, 2, 3], 10);
+}
+
+/// A table in the making, with any figures and any number of rows.
+#[derive(Clone, Debug, PartialEq)]
+struct Written {
+    normal: u32,
+    degraded: u32,
+    rows: Vec<Row>,
+}
+
+impl Written {
+    fn of(table: &Table) -> Written {
+        Written {
+            normal: table.normal,
+            degraded: table.degraded,
+            rows: table.rows(),
+        }
+    }
+
+    /// A random table, once in two times changed so that a check refuses it.
+    fn random(random: &mut Random) -> Written {
+        let mut table = a_table(random);
+        match random.between(0, 7) {
+            0 => spoil_table(random, &mut table, 4),
+            1..=2 => spoil_table(random, &mut table, 5),
+            _ => {}
+        }
+        let mut written = Written::of(&table);
+        if random.once_in(8) {
+            let count = random.one_of(&[0, 65, 66, 90]);
+            let row = written.rows[0];
+            written.rows.resize(count, row);
+        }
+        written
+    }
+
+    /// The number by which the archive refuses the table, or 0.
+    fn number(&self) -> u32 {
+        match self.rows.len() {
+            1..=ROWS => check_table(&Table::of(self.normal, self.degraded, &self.rows)),
+            _ => 3,
+        }
+    }
+
+    /// The sheet and status that the command has to answer with.
+    fn sheet_and_status(&self) -> (Vec<u8>, i32) {
+        match self.number() {
+            0 => {
+                let table = Table::of(self.normal, self.degraded, &self.rows);
+                (sheet_of(&table), 0)
+            }
+            _ => (Vec::new(), 2),
+        }
+    }
+
+    /// The line and the column of the figure that the archive refuses, in a
+    /// rows file; column 0 where it refuses the number of rows.
+    fn place(&self) -> Place {
+        let capped = |figure: u32| figure.min(99_999_999);
+        let rows: Vec<Row> = self.rows.iter().map(|row| row.with(capped)).collect();
+        let (n, normal, degraded) = (
+            rows.len() as u32,
+            capped(self.normal),
+            capped(self.degraded),
+        );
+        let place =
+            place_of_fault(&write_sheet(n, normal, degraded, &rows)).expect("it is refused");
+        match (self.number(), place.row) {
+            (3, _) => (if n == 0 { 4 } else { 4 + ROWS }, 0),
+            (_, 0) => (2, place.field as usize - 1),
+            (_, row) => (3 + row as usize, place.field as usize),
+        }
+    }
+
+    /// A table of one row with this figure in place of the one that is refused,
+    /// beside the figure that limits it; the other figures are right.
+    fn with_figure(&self, (line, column): Place, figure: u32) -> Table {
+        let mut speeds = [1, 1];
+        let mut cells = [0, 1, LATEST_DEADLINE, 0];
+        if line == 2 {
+            speeds[0] = self.normal;
+            speeds[column - 1] = figure;
+        } else {
+            let row = self.rows[line - 4];
+            match column {
+                1 => cells[2] = row.deadline,
+                3 if row.release < LATEST_DEADLINE => cells[0] = row.release,
+                _ => {}
+            }
+            cells[column - 1] = figure;
+        }
+        let [release, work, deadline, level] = cells;
+        let row = Row {
+            release,
+            work,
+            deadline,
+            level,
+        };
+        Table::of(speeds[0], speeds[1], &[row])
+    }
+
+    /// What is said to be allowed in a place is what the check accepts there: the
+    /// figures at both ends, and none beyond them.
+    fn assert_allowed(&self, place: Place, allowed: &str) {
+        match place {
+            (_, 0) => assert_eq!(allowed, "1 to 64 rows"),
+            (4.., 4) => assert_eq!(allowed, "HI or LO (or 1 or 0)"),
+            _ => {
+                let [least, most] = ends_of(allowed);
+                let accepts = |figure| check_table(&self.with_figure(place, figure)) == 0;
+                assert!(accepts(least) && accepts(most), "{place:?} {allowed}");
+                assert!(least == 0 || !accepts(least - 1), "{place:?} {allowed}");
+                assert!(!accepts(most + 1), "{place:?} {allowed}");
+            }
+        }
+    }
+}
+
+/// A row with each of its figures changed.
+trait With {
+    fn with(&self, change: impl Fn(u32) -> u32) -> Row;
+}
+
+impl With for Row {
+    fn with(&self, change: impl Fn(u32) -> u32) -> Row {
+        Row {
+            release: change(self.release),
+            work: change(self.work),
+            deadline: change(self.deadline),
+            level: change(self.level),
+        }
+    }
+}
+
+/// Sheets of words are the model's; a table that a check refuses ends with
+/// status 2, a word that is no figure with 3.
+#[test]
+fn sheets_of_words() {
+    let mut random = Random::seeded(706);
+    let mut tally = Tally::new("command sheet, from words");
+    for _ in 0..500 {
+        let written = Written::random(&mut random);
+        let mut words = vec![
+            "sheet".to_string(),
+            written.normal.to_string(),
+            written.degraded.to_string(),
+        ];
+        words.extend(written.rows.iter().map(row_word));
+        let mut expected = written.sheet_and_status();
+        if random.once_in(6) {
+            let place = random.between(1, words.len() as u32 - 1) as usize;
+            let bad = random.one_of(&["x", "-1", "1.5", "+1", "", "01", "1e3", "4294967296"]);
+            words[place] = match place {
+                1 | 2 => bad.to_string(),
+                _ => spoiled_word(&mut random, &words[place], bad),
+            };
+            expected = (Vec::new(), 3);
+        }
+        let words: Vec<&str> = words.iter().map(String::as_str).collect();
+        assert_eq!(command(&words, b""), expected, "{words:?}");
+        tally.saw(expected.1);
+    }
+    tally.assert_common(&[0, 2, 3], 50);
 }
 
 fn row_word(row: &Row) -> String {
@@ -451,6 +596,494 @@ fn row_word(row: &Row) -> String {
         "{},{},{},{}",
         row.release, row.work, row.deadline, row.level
     )
+}
+
+/// The word of a row with one figure replaced, or with a comma more or less.
+fn spoiled_word(random: &mut Random, word: &str, bad: &str) -> String {
+    let mut figures: Vec<&str> = word.split(',').collect();
+    match random.between(0, 9) {
+        0 => figures.push(""),
+        1 => _ = figures.pop(),
+        _ => figures[random.between(0, 3) as usize] = bad,
+    }
+    figures.join(",")
+}
+
+const SPEED_HEADINGS: [&str; 2] = [
+    "normal speed N (work units per slot)",
+    "degraded speed G (work units per slot)",
+];
+const ROW_HEADINGS: [&str; 4] = [
+    "release (slots)",
+    "work (work units)",
+    "deadline (slots)",
+    "level (HI or LO)",
+];
+
+/// The cells of a rows file, line by line; a level that is none as its figure.
+fn cells_of(written: &Written) -> Vec<Vec<String>> {
+    let texts = |headings: &[&str]| headings.iter().map(|text| text.to_string()).collect();
+    let mut lines: Vec<Vec<String>> = vec![
+        texts(&SPEED_HEADINGS),
+        vec![written.normal.to_string(), written.degraded.to_string()],
+        texts(&ROW_HEADINGS),
+    ];
+    for row in &written.rows {
+        let figures = [row.release, row.work, row.deadline];
+        let mut cells: Vec<String> = figures.iter().map(u32::to_string).collect();
+        cells.push(match row.level {
+            0 => "LO".to_string(),
+            1 => "HI".to_string(),
+            other => other.to_string(),
+        });
+        lines.push(cells);
+    }
+    lines
+}
+
+/// The rows file as the command writes it.
+fn rows_text(written: &Written) -> Vec<u8> {
+    let mut text = String::new();
+    for (index, cells) in cells_of(written).iter().enumerate() {
+        text += &cells.join(",");
+        text += if index < 2 { ",,\n" } else { "\n" };
+    }
+    text.into_bytes()
+}
+
+/// From a sheet to rows and back, and from these rows to a sheet and back.
+#[test]
+fn rows_and_back() {
+    let mut random = Random::seeded(707);
+    let mut tally = Tally::new("command rows and sheet, by rows");
+    let mut there_and_back = |sheet: Vec<u8>| {
+        let (number, table) = read_sheet(&sheet);
+        assert_eq!(number, 0);
+        let rows = command(&["rows", "-"], &sheet);
+        assert_eq!(rows, (rows_text(&Written::of(&table)), 0), "{table:?}");
+        assert_eq!(command(&["sheet", "-"], &rows.0), (sheet, 0), "{table:?}");
+        tally.saw(table.n.ilog2());
+    };
+    sample_sheets().into_iter().for_each(&mut there_and_back);
+    for _ in 0..400 {
+        there_and_back(sheet_of(&a_table(&mut random)));
+    }
+    tally.assert_common(&[0, 1, 2, 3, 4, 5], 10);
+}
+
+/// A sheet that is refused has no rows, and the explanation is that of the
+/// other commands.
+#[test]
+fn rows_of_refused_sheets() {
+    let mut random = Random::seeded(708);
+    let mut tally = Tally::new("command rows, by the reader's number");
+    for _ in 0..200 {
+        for sheet in sheets(&mut random) {
+            let number = read_sheet(&sheet).0;
+            let plain = if random.once_in(2) { "--plain" } else { "--" };
+            let (rows, errors, status) = command_with_errors(&["rows", plain, "-"], &sheet);
+            assert_eq!(status, status_of(number), "{}", text_or_bytes(&sheet));
+            assert_eq!(rows.is_empty(), number != 0);
+            if number != 0 {
+                let explained = command(&["explain", "-"], &sheet).0;
+                assert_eq!(errors.as_bytes(), explained);
+            }
+            tally.saw(number);
+        }
+    }
+    tally.assert_common(&[0, 1, 2, 3, 4, 5], 20);
+}
+
+/// A cell as a spreadsheet program or a hand may write it.
+fn spelled(random: &mut Random, cell: &str) -> String {
+    let blanks = ["", "", "", " ", "\t", "  \t "];
+    let mut text: String = cell
+        .chars()
+        .map(|letter| match random.between(0, 3) {
+            0 => letter.to_ascii_uppercase(),
+            1 => letter.to_ascii_lowercase(),
+            _ => letter,
+        })
+        .collect();
+    match cell {
+        "HI" if random.once_in(4) => text = "1".to_string(),
+        "LO" if random.once_in(4) => text = "0".to_string(),
+        _ => {}
+    }
+    if random.once_in(3) {
+        let inside = [random.one_of(&blanks), random.one_of(&blanks)];
+        text = format!("\"{}{text}{}\"", inside[0], inside[1]);
+    }
+    format!("{}{text}{}", random.one_of(&blanks), random.one_of(&blanks))
+}
+
+/// The rows file in another spelling: a mark, quotes, blanks, upper and lower
+/// case, empty cells and lines at the end, line ends of three kinds, or of one.
+fn spelled_rows(random: &mut Random, written: &Written) -> Vec<u8> {
+    let mut lines = cells_of(written);
+    for line in &mut lines {
+        let empty = random.one_of(&[0, 0, 1, 2, 5]);
+        line.resize(line.len() + empty, String::new());
+    }
+    for _ in 0..random.one_of(&[0, 0, 0, 1, 3]) {
+        lines.push(vec![String::new(); random.between(1, 6) as usize]);
+    }
+    let ends = ["\n", "\r\n", "\r"];
+    let same = random.one_of(&ends);
+    let mixed = random.once_in(3);
+    let mut text = random.one_of(&["", "\u{feff}"]).to_string();
+    let mut end = "";
+    for line in &lines {
+        let cells: Vec<String> = line.iter().map(|cell| spelled(random, cell)).collect();
+        end = if mixed { random.one_of(&ends) } else { same };
+        text += &cells.join(",");
+        text += end;
+    }
+    if random.once_in(3) {
+        text.truncate(text.len() - end.len());
+    }
+    text.into_bytes()
+}
+
+/// Every spelling of the same rows gives the same sheet, and one that a check
+/// refuses is named by its line and column, with what is allowed there.
+#[test]
+fn spellings_of_rows() {
+    let mut random = Random::seeded(709);
+    let mut tally = Tally::new("command sheet, spellings, by number");
+    for _ in 0..700 {
+        let written = Written::random(&mut random);
+        let text = spelled_rows(&mut random, &written);
+        assert_eq!(
+            read_rows(&text),
+            Ok(written.clone()),
+            "the test's own reading"
+        );
+        let (sheet, errors, status) = command_with_errors(&["sheet", "-"], &text);
+        let shown = text_or_bytes(&text);
+        assert_eq!((sheet, status), written.sheet_and_status(), "{shown}");
+        let number = written.number();
+        if number == 0 {
+            assert_eq!(errors, "", "{shown}");
+        } else {
+            let said: Vec<&str> = errors.lines().collect();
+            assert!(
+                said[0].starts_with(&format!("number {number}: ")),
+                "{errors}"
+            );
+            let place = written.place();
+            assert!(
+                names_place(said[1], "where: standard input", place),
+                "{errors}{shown}"
+            );
+            let allowed = said[2].strip_prefix("allowed: ").expect("what is allowed");
+            written.assert_allowed(place, allowed);
+            assert!(said[3].starts_with("remedy: "), "{errors}");
+        }
+        tally.saw(number);
+    }
+    tally.assert_common(&[0, 3, 4, 5], 40);
+}
+
+/// A line and a column of a rows file, from 1; 0 for the line, or the file, as a
+/// whole.
+type Place = (usize, usize);
+
+/// The text says what it says of this place.
+fn names_place(text: &str, begin: &str, (line, column): Place) -> bool {
+    let place = match (line, column) {
+        (0, _) => String::new(),
+        (_, 0) => format!(", line {line}"),
+        _ => format!(", line {line}, column {column}"),
+    };
+    let rest = text.strip_prefix(&format!("{begin}{place}"));
+    let named = column != 0 && rest.is_some_and(|rest| rest.starts_with(" ("));
+    named || rest.is_some_and(|rest| rest.starts_with(": "))
+}
+
+/// The smallest and the largest figure of "1 to 1,000 slots" or "only 1 (slots)".
+fn ends_of(allowed: &str) -> [u32; 2] {
+    let plain = allowed.replace(',', "");
+    let words: Vec<&str> = plain.split(' ').collect();
+    let figure = |index: usize| words[index].parse::<u32>().expect("a figure");
+    match words[..2] {
+        ["only", _] => [figure(1); 2],
+        [_, "to"] => [figure(0), figure(2)],
+        _ => panic!("not a range: {allowed}"),
+    }
+}
+
+/// Damaged rows files: the command takes those, and only those, that its
+/// description takes, names the place in others, never crashes, and writes
+/// nothing but a whole sheet.
+#[test]
+fn damaged_rows() {
+    let mut random = Random::seeded(710);
+    let mut tally = Tally::new("command sheet, damaged rows, by status");
+    let mut places = Tally::new("command sheet, damaged rows, by column");
+    for round in 0..3_000 {
+        let written = Written::random(&mut random);
+        let mut text = match round % 3 {
+            0 => rows_text(&written),
+            _ => spelled_rows(&mut random, &written),
+        };
+        for _ in 0..random.one_of(&[1, 1, 1, 2, 3]) {
+            damage_rows(&mut random, &mut text);
+        }
+        let read = read_rows(&text);
+        let expected = match &read {
+            Ok(written) => written.sheet_and_status(),
+            Err(_) => (Vec::new(), 3),
+        };
+        let (sheet, errors, status) = command_with_errors(&["sheet", "-"], &text);
+        assert_eq!((sheet, status), expected, "{}", text_or_bytes(&text));
+        assert_eq!(errors.is_empty(), status == 0);
+        if let Err(place) = read {
+            assert!(
+                names_place(&errors, "jasminebrace: standard input", place),
+                "{place:?} {errors}{}",
+                text_or_bytes(&text)
+            );
+            assert_eq!(errors.lines().count(), 1, "{errors}");
+            places.saw(place.1);
+        }
+        tally.saw(status);
+    }
+    tally.assert_common(&[0, 2, 3], 200);
+    places.assert_common(&[0, 1, 2, 3, 4, 5], 20);
+}
+
+fn damage_rows(random: &mut Random, text: &mut Vec<u8>) {
+    let bytes = b"\",\n\r\t ;019HhLo.-\0\xEF\xBB\xBF\xFFP";
+    if text.is_empty() {
+        return text.push(random.one_of(bytes));
+    }
+    let place = random.between(0, text.len() as u32 - 1) as usize;
+    let digits = text.iter().filter(|byte| byte.is_ascii_digit()).count() as u32;
+    match random.between(0, 12) {
+        0..=2 => text[place] = random.one_of(bytes),
+        3..=4 => text.insert(place, random.one_of(bytes)),
+        5 => _ = text.remove(place),
+        6 => text[place] = random.word() as u8,
+        7 => text.truncate(place),
+        8..=11 if digits > 0 => {
+            let chosen = random.between(0, digits - 1) as usize;
+            let mut figures = text.iter_mut().filter(|byte| byte.is_ascii_digit());
+            *figures.nth(chosen).expect("a digit") = random.one_of(b"0123456789 ");
+        }
+        _ => {
+            let end = (place + random.between(1, 40) as usize).min(text.len());
+            let copied = text[place..end].to_vec();
+            let to = random.between(0, text.len() as u32) as usize;
+            text.splice(to..to, copied);
+        }
+    }
+}
+
+/// How files begin that are no text in UTF-8.
+const OTHER_BEGINNINGS: [&[u8]; 5] = [
+    b"\xFF\xFE",
+    b"\xFE\xFF",
+    b"\0\0\xFE\xFF",
+    b"PK",
+    b"\xD0\xCF\x11\xE0",
+];
+
+/// A rows file read by its description in README.md and the command's help; the
+/// place of the first fault if it cannot be taken.
+fn read_rows(text: &[u8]) -> Result<Written, Place> {
+    if OTHER_BEGINNINGS.iter().any(|begin| text.starts_with(begin)) {
+        return Err((0, 0));
+    }
+    let text = text.strip_prefix(b"\xEF\xBB\xBF").unwrap_or(text);
+    let mut written = Written {
+        normal: 0,
+        degraded: 0,
+        rows: Vec::new(),
+    };
+    let (mut filled, mut empty) = (0, None);
+    for (index, line) in lines_of_text(text).into_iter().enumerate() {
+        let number = index + 1;
+        let at = |column| (number, column);
+        let cells = cells_of_line(line).map_err(at)?;
+        if cells.is_empty() {
+            empty = empty.or(Some(number));
+        } else if let Some(empty) = empty {
+            return Err((empty, 0));
+        } else {
+            take_line(&mut written, number, &cells).map_err(at)?;
+            filled = number;
+        }
+    }
+    match filled {
+        0 => Err((0, 0)),
+        1..=2 => Err((filled + 1, 0)),
+        _ => Ok(written),
+    }
+}
+
+/// Takes a filled line for what its number makes it, or gives the column at
+/// fault.
+fn take_line(written: &mut Written, number: usize, cells: &[Vec<u8>]) -> Result<(), usize> {
+    match number {
+        1 => take_headings(cells, &SPEED_HEADINGS)?,
+        2 => [written.normal, written.degraded] = take_figures(cells)?,
+        3 => take_headings(cells, &ROW_HEADINGS)?,
+        _ => {
+            let [release, work, deadline, level] = take_figures(cells)?;
+            written.rows.push(Row {
+                release,
+                work,
+                deadline,
+                level,
+            });
+        }
+    }
+    Ok(())
+}
+
+/// The lines of a text, whatever ends them.
+fn lines_of_text(text: &[u8]) -> Vec<&[u8]> {
+    let mut lines = Vec::new();
+    let mut rest = text;
+    while !rest.is_empty() {
+        let length = rest.iter().position(|byte| b"\r\n".contains(byte));
+        let (line, after) = rest.split_at(length.unwrap_or(rest.len()));
+        lines.push(line);
+        let end = if after.starts_with(b"\r\n") { 2 } else { 1 };
+        rest = &after[end.min(after.len())..];
+    }
+    lines
+}
+
+fn trimmed(mut text: &[u8]) -> &[u8] {
+    while let [b' ' | b'\t', rest @ ..] | [rest @ .., b' ' | b'\t'] = text {
+        text = rest;
+    }
+    text
+}
+
+/// The cells of a line up to the last that is filled, or the column that is
+/// malformed; 0 if something else than commas separates them.
+fn cells_of_line(line: &[u8]) -> Result<Vec<Vec<u8>>, usize> {
+    let other_separator = |byte| !line.contains(&b',') && trimmed(line).contains(&byte);
+    if other_separator(b';') || other_separator(b'\t') && !is_empty_cell(line) {
+        return Err(0);
+    }
+    let mut cells = Vec::new();
+    // Commas outside quotes separate: there the number of quotes before is even,
+    // since a cell's quotes open at its beginning.
+    let mut begin = 0;
+    loop {
+        let cell = &line[begin..];
+        let quoted = trimmed_before(cell).first() == Some(&b'"');
+        let mut inside = false;
+        let length = cell.iter().position(|&byte| {
+            inside ^= quoted && byte == b'"';
+            byte == b',' && !inside
+        });
+        let end = length.unwrap_or(cell.len());
+        cells.push(text_of_cell(trimmed(&cell[..end])).ok_or(cells.len() + 1)?);
+        match length {
+            Some(length) => begin += length + 1,
+            None => break,
+        }
+    }
+    while cells.last().is_some_and(|cell| cell.is_empty()) {
+        cells.pop();
+    }
+    Ok(cells)
+}
+
+/// Nothing but blanks, in quotes or not.
+fn is_empty_cell(line: &[u8]) -> bool {
+    text_of_cell(trimmed(line)).is_some_and(|text| text.is_empty())
+}
+
+fn trimmed_before(mut text: &[u8]) -> &[u8] {
+    while let [b' ' | b'\t', rest @ ..] = text {
+        text = rest;
+    }
+    text
+}
+
+/// A cell's text without its quotes; none if a quote is not closed or does not
+/// stand twice inside, and for a byte 0.
+fn text_of_cell(cell: &[u8]) -> Option<Vec<u8>> {
+    if cell.contains(&0) {
+        return None;
+    }
+    let Some(inside) = cell.strip_prefix(b"\"") else {
+        return Some(cell.to_vec());
+    };
+    let inside = inside.strip_suffix(b"\"")?;
+    let mut text = Vec::new();
+    let mut bytes = inside.iter();
+    while let Some(&byte) = bytes.next() {
+        if byte == b'"' && bytes.next() != Some(&b'"') {
+            return None;
+        }
+        text.push(byte);
+    }
+    Some(trimmed(&text).to_vec())
+}
+
+fn cell_at(cells: &[Vec<u8>], column: usize) -> &[u8] {
+    cells.get(column - 1).map_or(&[], |cell| cell)
+}
+
+/// The column of the first filled cell after these columns.
+fn filled_after(cells: &[Vec<u8>], columns: usize) -> Option<usize> {
+    (columns + 1..=cells.len()).find(|&column| !cell_at(cells, column).is_empty())
+}
+
+/// Headings are looked at from the left, and then what stands after them.
+fn take_headings(cells: &[Vec<u8>], headings: &[&str]) -> Result<(), usize> {
+    let wrong = (1..=headings.len()).find(|&column| {
+        !cell_at(cells, column).eq_ignore_ascii_case(headings[column - 1].as_bytes())
+    });
+    match wrong.or(filled_after(cells, headings.len())) {
+        Some(column) => Err(column),
+        None => Ok(()),
+    }
+}
+
+/// Figures are looked at from the left. A cell too many counts before a cell at
+/// fault that is empty or has digits alone, and after one with other text.
+fn take_figures<const COLUMNS: usize>(cells: &[Vec<u8>]) -> Result<[u32; COLUMNS], usize> {
+    let mut figures = [0; COLUMNS];
+    for column in 1..=COLUMNS {
+        let cell = cell_at(cells, column);
+        let read = match column {
+            4 => level_of_cell(cell),
+            _ => figure_of_cell(cell),
+        };
+        let Some(figure) = read else {
+            let has_text = !cell.iter().all(u8::is_ascii_digit);
+            let beyond = filled_after(cells, COLUMNS);
+            return Err(if has_text {
+                column
+            } else {
+                beyond.unwrap_or(column)
+            });
+        };
+        figures[column - 1] = figure;
+    }
+    filled_after(cells, COLUMNS).map_or(Ok(figures), Err)
+}
+
+fn figure_of_cell(cell: &[u8]) -> Option<u32> {
+    let digits = std::str::from_utf8(cell).ok()?;
+    let figure: u32 = digits.parse().ok()?;
+    (figure.to_string() == digits).then_some(figure)
+}
+
+fn level_of_cell(cell: &[u8]) -> Option<u32> {
+    match &cell.to_ascii_uppercase()[..] {
+        b"HI" => Some(1),
+        b"LO" => Some(0),
+        other => figure_of_cell(other),
+    }
 }
 
 /// An order of another number of rows is refused with 6.

@@ -2,7 +2,8 @@
 
 mod common;
 
-use common::{large_table, refused_sheet, small_table, Tally};
+use common::sheets::{damaged, long, small_sheets};
+use common::{large_table, Tally};
 use compiled::library;
 use compiled::sheets::{easy, hard};
 use model::cases::{p1, P1_TEXT};
@@ -29,38 +30,6 @@ fn compare(input: &[u8], tally: &mut Tally<u8>) {
     let text = library::program(input);
     assert_eq!(text, plain::program(input), "{input:?}");
     tally.saw(number_of(&text));
-}
-
-fn damaged(random: &mut Random, mut sheet: Vec<u8>) -> Vec<u8> {
-    let place = random.between(0, sheet.len() as u32 - 1) as usize;
-    match random.between(0, 3) {
-        0 => sheet.truncate(place),
-        1 => sheet.push(random.word() as u8),
-        2 => sheet[place] = random.one_of(b"\n 0129x"),
-        _ => sheet[place] = random.word() as u8,
-    }
-    sheet
-}
-
-/// The sheet followed by bytes up to more than the program keeps.
-fn long(random: &mut Random, mut sheet: Vec<u8>) -> Vec<u8> {
-    let length = KEPT + random.between(0, 4_000) as usize;
-    let byte = random.one_of(b"\n 1");
-    sheet.resize(length.max(sheet.len()), byte);
-    sheet
-}
-
-/// The sheet of a small table as it is, damaged, outside its limits, and with
-/// more bytes after it than the program keeps.
-fn small_sheets(random: &mut Random) -> [Vec<u8>; 4] {
-    let table = small_table(random);
-    let sheet = sheet_of(&table);
-    [
-        damaged(random, sheet.clone()),
-        refused_sheet(random, &table),
-        long(random, sheet.clone()),
-        sheet,
-    ]
 }
 
 #[test]

@@ -21,7 +21,7 @@
 //! | `record`  | the run record, check 9, one slot and forward on a record    |
 //! | `plan`    | worst finish, slack, the planner's choice                    |
 //! | `judge`   | the judge of orders                                          |
-//! | `sheet`   | the sheet's fields, its reader, and a writer for tests       |
+//! | `sheet`   | the sheet's fields, its reader and its writer                |
 //! | `place`   | where a refused sheet is at fault                           |
 //! | `program` | the planning program from input bytes to output bytes        |
 //! | `cases`   | the tables and answers of cases P1 to P4                     |

@@ -11,7 +11,7 @@ use crate::judge::Verdict;
 use crate::order::{Order, NO_ORDER};
 use crate::plan::Plan;
 use crate::record::Record;
-use crate::sheet::{read_sheet, write_line};
+use crate::sheet::{read_sheet, write_field, write_line, FIELD, FIRST_LINE, LINE_END, ROW_LINE};
 use crate::table::{check_table, need, Table, HI, LO, ROWS};
 
 /// What a row can take in its worst runs, and the rows by release.
@@ -273,6 +273,34 @@ pub fn forward(record: &mut Record, supplies: &[u32]) -> (u32, u32) {
         worked += 1;
     }
     (0, worked)
+}
+
+/// The writer: number and length of the sheet in bytes. It allocates nothing.
+pub fn write_back(table: &Table, lent: &mut [u8]) -> (u32, u32) {
+    let refusal = check_table(table);
+    if refusal != 0 {
+        return (refusal, 0);
+    }
+    let length = FIRST_LINE + ROW_LINE * table.n as usize;
+    let Some(sheet) = lent.get_mut(..length) else {
+        return (10, 0);
+    };
+    let (first, rows) = sheet.split_at_mut(FIRST_LINE);
+    put_line(first, &[table.n, table.normal, table.degraded]);
+    for (index, line) in rows.chunks_exact_mut(ROW_LINE).enumerate() {
+        let (release, work) = (table.release[index], table.work[index]);
+        let (deadline, level) = (table.deadline[index], table.level[index]);
+        put_line(line, &[release, work, deadline, level]);
+    }
+    (0, length as u32)
+}
+
+/// These numbers as fields, and the line end in the last byte.
+fn put_line(line: &mut [u8], numbers: &[u32]) {
+    for (field, &number) in line.chunks_exact_mut(FIELD).zip(numbers) {
+        field.copy_from_slice(&write_field(number));
+    }
+    line[FIELD * numbers.len()] = LINE_END;
 }
 
 /// What the planning program writes: the model's reader and writer around this

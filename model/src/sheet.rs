@@ -1,7 +1,8 @@
-//! The sheet: its fields, its reader, and a writer of sheets for tests (section
-//! 6 of the rules).
+//! The sheet: its fields, its reader (section 6 of the rules), and the writer
+//! that gives a table's sheet back (section 15). Tests also write sheets that
+//! are refused.
 
-use crate::table::{check_table, count_is_within_limit, Row, Table};
+use crate::table::{check_table, count_is_within_limit, Row, Table, ROWS};
 
 /// Bytes in a field (rule 6.1).
 pub const FIELD: usize = 8;
@@ -11,6 +12,9 @@ pub const FIRST_LINE: usize = 25;
 
 /// Bytes in the line of a row: a, c, d, level and the line end (rule 6.6).
 pub const ROW_LINE: usize = 33;
+
+/// Bytes in the longest sheet, which has 64 rows (rules 6.7 and 15.8).
+pub const LONGEST_SHEET: usize = FIRST_LINE + ROWS * ROW_LINE;
 
 /// The last byte of every line (rule 6.4).
 pub const LINE_END: u8 = 10;
@@ -89,10 +93,28 @@ fn read_or_refuse(bytes: &[u8]) -> Result<Table, u32> {
 
 /// A number below 100,000,000 as a field (rules 6.1 and 6.2).
 pub fn write_field(number: u32) -> [u8; FIELD] {
-    let text = format!("{number:>8}");
-    text.as_bytes()
-        .try_into()
-        .expect("a field holds a number below 100,000,000")
+    assert!(number < 100_000_000, "{number} has more than eight digits");
+    let mut field = [b' '; FIELD];
+    let mut rest = number;
+    for byte in field.iter_mut().rev() {
+        *byte = b'0' + (rest % 10) as u8;
+        rest /= 10;
+        if rest == 0 {
+            break;
+        }
+    }
+    field
+}
+
+/// A number of 32 bits as eight bytes, and whether they hold all of it: its
+/// field below 100,000,000, from there on its last eight digits (rule 15.9).
+pub fn field_of(number: u32) -> (bool, [u8; FIELD]) {
+    if number < 100_000_000 {
+        return (true, write_field(number));
+    }
+    let digits = format!("{:08}", number % 100_000_000);
+    let last = digits.as_bytes().try_into().expect("eight digits");
+    (false, last)
 }
 
 /// One line: these numbers as fields, and the line end.
@@ -120,7 +142,24 @@ pub fn write_sheet(n: u32, normal: u32, degraded: u32, rows: &[Row]) -> Vec<u8> 
     sheet
 }
 
-/// The sheet of a table with at most 64 rows.
+/// The sheet of a table with at most 64 rows (rule 15.1).
 pub fn sheet_of(table: &Table) -> Vec<u8> {
     write_sheet(table.n, table.normal, table.degraded, &table.rows())
+}
+
+/// The writer: the number, and the length in bytes of the sheet, which then
+/// stands at the start of the lent bytes (rule 15.2). The table is checked
+/// before the room (rules 15.4 and 11.6). Bytes after the sheet stay as they
+/// were, and with a refusal all do (rules 15.3 and 15.5).
+pub fn write_back(table: &Table, lent: &mut [u8]) -> (u32, u32) {
+    let refusal = check_table(table);
+    if refusal != 0 {
+        return (refusal, 0);
+    }
+    let sheet = sheet_of(table);
+    if lent.len() < sheet.len() {
+        return (10, 0);
+    }
+    lent[..sheet.len()].copy_from_slice(&sheet);
+    (0, sheet.len() as u32)
 }

@@ -1,5 +1,6 @@
 //! Every number of section 10 of the rules: its example there, its neighbours,
-//! and the order of the checks on a table (rule 11.4). Number 7 is case P3.
+//! and the order of the checks on a table (rules 11.4 and 11.6). Number 7 is
+//! case P3.
 
 mod common;
 
@@ -10,7 +11,7 @@ use model::order::{check_order, order_of, NO_ORDER};
 use model::plan::plan;
 use model::program::planning_program;
 use model::record::Record;
-use model::sheet::{read_sheet, sheet_of, write_sheet};
+use model::sheet::{read_sheet, sheet_of, write_back, write_sheet};
 use model::table::{check_table, Table};
 
 #[test]
@@ -164,6 +165,58 @@ fn number_9_clock_above_two_million() {
             (forward.number, forward.worked, forward.record),
             (9, 0, broken)
         );
+    }
+}
+
+/// The writer's answer for lent bytes that it must leave as they are.
+fn refused_writing(table: &Table, room: usize) -> (u32, u32) {
+    let mut lent = vec![165; room];
+    let answer = write_back(table, &mut lent);
+    assert!(lent.iter().all(|&byte| byte == 165), "a byte was written");
+    answer
+}
+
+#[test]
+fn number_10_a_byte_less_than_the_sheet() {
+    for room in [0, 1, 25, 156] {
+        assert_eq!(refused_writing(&p1(), room), (10, 0), "{room} bytes");
+    }
+    let mut lent = [165; 158];
+    assert_eq!(write_back(&p1(), &mut lent[..157]), (0, 157));
+    assert_eq!((&lent[..157], lent[157]), (&sheet_of(&p1())[..], 165));
+    assert_eq!(write_back(&p1(), &mut lent), (0, 157));
+    assert_eq!((&lent[..157], lent[157]), (&sheet_of(&p1())[..], 165));
+}
+
+/// 3, 4 and 5 come before 10, however few the lent bytes (rule 11.6).
+#[test]
+fn checks_of_the_writer_come_in_their_order() {
+    let mut wrong = Table {
+        n: 0,
+        normal: 0,
+        ..table(1, 1, &[[4, 1, 4, 0]])
+    };
+    for room in [0, 57, 58, 3_000] {
+        for n in [0, 65, u32::MAX] {
+            wrong.n = n;
+            assert_eq!(refused_writing(&wrong, room), (3, 0), "n {n}");
+        }
+        let counted = Table { n: 1, ..wrong };
+        assert_eq!(refused_writing(&counted, room), (4, 0));
+        let mut paced = Table {
+            normal: 1,
+            ..counted
+        };
+        assert_eq!(refused_writing(&paced, room), (5, 0));
+        paced.deadline[0] = 5;
+        let mut behind = paced;
+        behind.level[63] = 1;
+        assert_eq!(refused_writing(&behind, room), (5, 0));
+        if room < 58 {
+            assert_eq!(refused_writing(&paced, room), (10, 0));
+        } else {
+            assert_eq!(write_back(&paced, &mut vec![165; room]), (0, 58));
+        }
     }
 }
 

@@ -1,11 +1,15 @@
 //! The sheet reader: the field rule, the order of its checks, damaged sheets and
-//! inputs longer than any sheet.
+//! inputs longer than any sheet. The writer: what was read comes back, and lent
+//! bytes of every length (section 15 of the rules).
 
 use model::cases::{p1, p2, row, table};
 use model::program::{planning_program, KEPT};
 use model::random::{table_in, Random, Ranges};
-use model::sheet::{read_field, read_sheet, sheet_of, write_field, write_line, write_sheet};
-use model::table::Table;
+use model::sheet::{
+    read_field, read_sheet, sheet_of, write_back, write_field, write_line, write_sheet,
+    LONGEST_SHEET,
+};
+use model::table::{check_table, Table};
 
 #[test]
 fn fields_of_the_rule() {
@@ -72,18 +76,20 @@ fn a_field_is_read_exactly_if_it_is_how_a_number_is_written() {
     );
 }
 
+/// Figures up to their limits.
+const WIDE: Ranges = Ranges {
+    rows: 64,
+    speed: 1_000,
+    release: 900_000,
+    need: 1_000,
+    window: 100_000,
+};
+
 #[test]
 fn sheets_are_read_back_whole() {
-    let ranges = Ranges {
-        rows: 64,
-        speed: 1_000,
-        release: 900_000,
-        need: 1_000,
-        window: 100_000,
-    };
     let mut random = Random::seeded(12);
     for _ in 0..500 {
-        let table = table_in(&mut random, ranges);
+        let table = table_in(&mut random, WIDE);
         let sheet = sheet_of(&table);
         assert_eq!(sheet.len(), 25 + 33 * table.n as usize);
         assert_eq!(read_sheet(&sheet), (0, table));
@@ -202,4 +208,130 @@ fn bytes_after_those_kept_change_no_answer() {
     }
     assert_eq!(seen[0], 0);
     assert!(seen[1] > 20 && seen[2] > 20 && seen[3] > 20, "{seen:?}");
+}
+
+/// Bytes that no sheet has, each other than its neighbours.
+fn rubbish(length: usize) -> Vec<u8> {
+    (0..length).map(|index| 128 | index as u8).collect()
+}
+
+/// Writes an accepted table into just enough bytes, and reads it again (rules
+/// 15.2 and 15.6).
+fn written(table: &Table) -> Vec<u8> {
+    let mut lent = rubbish(25 + 33 * table.n as usize);
+    assert_eq!(write_back(table, &mut lent), (0, lent.len() as u32));
+    assert_eq!(read_sheet(&lent), (0, *table));
+    lent
+}
+
+/// Where a number gets a digit more: 0, 1, 9, 10, 99, 100 and so on up to
+/// 1,000,000.
+fn figures_of_every_length() -> Vec<u32> {
+    let powers = (0..=6).map(|digits| 10u32.pow(digits));
+    powers.flat_map(|power| [power - 1, power]).collect()
+}
+
+/// Right-justified in eight places, as Rust's own formatting has it.
+#[test]
+fn a_number_is_written_as_formatting_gives_it() {
+    let near_powers = (0..8).flat_map(|power| {
+        let ten = 10u32.pow(power);
+        [ten - 1, ten, ten + 1, 9 * ten + 9]
+    });
+    let spread = (0..100_000_000).step_by(9_973);
+    for number in (0..200_000).chain(spread).chain(near_powers) {
+        let text = format!("{number:>8}");
+        assert_eq!(write_field(number).as_slice(), text.as_bytes());
+    }
+}
+
+#[test]
+fn figures_of_every_length_come_back() {
+    let figures = figures_of_every_length();
+    let mut accepted = 0;
+    for &release in &figures {
+        for &work in &figures {
+            for &deadline in &figures {
+                for level in [0, 1] {
+                    let one = table(10, 9, &[[release, work, deadline, level]]);
+                    if check_table(&one) == 0 {
+                        let sheet = sheet_of(&one);
+                        assert_eq!(written(&one), sheet);
+                        accepted += 1;
+                    }
+                }
+            }
+        }
+    }
+    // A release below the deadline, a work above 0, two levels.
+    assert_eq!(accepted, 14 * 13 / 2 * 13 * 2);
+    for normal in 1..=1_000 {
+        for degraded in [1, 9, 10, 99, 100, 999, normal] {
+            let paced = table(normal, degraded.min(normal), &[[0, 1, 1, 0]]);
+            assert_eq!(written(&paced), sheet_of(&paced));
+        }
+    }
+}
+
+/// The sheet of P1 stands here as bytes, so that the writer is not compared
+/// with itself alone.
+#[test]
+fn the_sheet_of_p1() {
+    let sheet = concat!(
+        "       4       5       2\n",
+        "       0      20      10       1\n",
+        "       5      15      10       0\n",
+        "       5      11      19       1\n",
+        "       0       5       5       0\n",
+    );
+    assert_eq!(written(&p1()), sheet.as_bytes());
+}
+
+/// Every accepted sheet among many damaged ones is the sheet of its table (rule
+/// 15.7), so that no two of them are read as the same table (rule 9.4).
+#[test]
+fn accepted_sheets_come_back_byte_for_byte() {
+    let mut random = Random::seeded(14);
+    let (mut changed, mut refused) = (0, 0);
+    for _ in 0..40_000 {
+        let sheet = sheet_of(&table_in(&mut random, WIDE));
+        let mut damaged = sheet.clone();
+        for _ in 0..random.between(0, 2) {
+            let place = random.between(0, sheet.len() as u32 - 1) as usize;
+            damaged[place] = random.one_of(b"0123456789 \n");
+        }
+        match read_sheet(&damaged) {
+            (0, table) => {
+                assert_eq!(written(&table), damaged);
+                changed += u32::from(damaged != sheet);
+            }
+            _ => refused += 1,
+        }
+    }
+    println!("{changed} changed and accepted, {refused} refused");
+    assert!(changed > 4_000 && refused > 10_000);
+}
+
+/// Lent bytes from none to more than the longest sheet has: 10 exactly if they
+/// are fewer than the sheet has (rule 15.4), and all other bytes stay.
+#[test]
+fn lent_bytes_of_every_length() {
+    let longest = Table::of(1, 1, &[row([0, 1, 64, 1]); 64]);
+    for table in [p1(), table(1, 1, &[[0, 1, 1, 0]]), longest] {
+        let sheet = sheet_of(&table);
+        for room in 0..=LONGEST_SHEET + 63 {
+            let before = rubbish(room);
+            let mut lent = before.clone();
+            let answer = write_back(&table, &mut lent);
+            if room < sheet.len() {
+                assert_eq!((answer, lent), ((10, 0), before), "{room} bytes");
+            } else {
+                assert_eq!(answer, (0, sheet.len() as u32), "{room} bytes");
+                assert_eq!(lent[..sheet.len()], sheet, "{room} bytes");
+                assert_eq!(lent[sheet.len()..], before[sheet.len()..], "{room} bytes");
+            }
+        }
+    }
+    assert_eq!(sheet_of(&longest).len(), LONGEST_SHEET);
+    assert_eq!(LONGEST_SHEET, 2_137);
 }

@@ -2,6 +2,7 @@
 #![allow(dead_code)]
 
 pub mod records;
+pub mod sheets;
 
 use compiled::sheets::{random_order, tight};
 use model::cases::row;

@@ -2,12 +2,12 @@
 use Prim.Native.Nat.{ℕ, zero, suc, _+_, _-_, _*_, _≤_}
 use mathlib.Core.Bool.{Bool, true, false, cond, _&&_}
 use mathlib.Core.List.{List, [], _∷_}
-use mathlib.Core.Path.{_≡_, refl, sym, ap, _∙_}
+use mathlib.Core.Path.{_≡_, refl, sym, _∙_}
 use native.Mathlib.Numerals.{add-one}
 use native.Mathlib.Omega.{arith}
 use borrow.Author.Tests.{le-ltb, eq-eqb, le-leb, lt-ltb, leb-true}
 use lib.Dec.{ltb, leb, eqb}
-use lib.ListN.{length, getD, drop, replicate}
+use lib.ListN.{length, drop, replicate}
 use lib.Seq.{drop-set-lt}
 use Rattle.rules.specs.declared.Table.{Table}
 use Rattle.rules.specs.declared.Check.{Check}
@@ -17,7 +17,7 @@ use Rattle.rules.specs.Numbers.{refusalNumber, checkNumber}
 use Rattle.rules.specs.Rows.{at}
 use Rattle.rules.specs.Sheets as Sheets
 use Rattle.rules.specs.Sheets.{isLine, numberAt, lineOf, columnOf, checkSheet, readChecked, readOf}
-use Rattle.rules.specs.Tables.{countOk, speedsOk, rowOk, tailOk, checkTable, zeroTable, Accepted}
+use Rattle.rules.specs.Tables.{countOk, speedsOk, rowOk, tailOk, checkTable, Accepted, FullTable}
 use Rattle.theory.specs.Facts.{facts}
 use Rattle.theory.specs.Tests.{not-both, and-right, and-both}
 use Rattle.columns.specs.AllRows.{zeros-of, all-of}
@@ -26,7 +26,7 @@ use Rattle.sheet.specs.Lines.{column-more, column-start, lines-line}
 use Rattle.sheet.specs.SheetsDiffer.{Accepts, accepts, column-long, column-at}
 use Rattle.jasminebrace.specs.Words.{wordsOf}
 use Rattle.jasminebrace.specs.Words as Words
-use Rattle.jasminebrace.specs.Inverse.{FullTable, table-in-words-of}
+use Rattle.jasminebrace.specs.Inverse.{table-in-words-of}
 use Rattle.conclusions.specs.Conclusions.{figureAt, RowFits, RowTaken, Taken, TableAuthor}
 use Rattle.conclusions.specs.Entries.{TableWords, table-words}
 
@@ -190,7 +190,7 @@ module _ (sheet : List ℕ) where
         le-leb _ _ (w .low-or-high),
       )
 
-  full : FullTable t
+  pub full : FullTable t
   unfolding Sheets.tableIn
   full = record { release = column-long sheet n 1; work = column-long sheet n 2; deadline = column-long sheet n 3; level = column-long sheet n 4 }
 

@@ -1,30 +1,33 @@
 -- What each caller may rely on, in plain terms and down to the words that the exported functions are lent. One section for each caller.
 -- A table's words are n, N, G and then release, work, deadline and level of row 1 to 64; a state's words are the clock and then three figures
 -- of row 1 to 64: its work got, its slots used, its closing slot. Times are in slots, work and supplies in work units, speeds in work units per slot.
-use Prim.Native.Nat.{ℕ, _+_, _-_, _*_, _≤_, _<_, min}
+use Prim.Native.Nat.{ℕ, _+_, _-_, _*_, _/_, _%_, _^_, _≤_, _<_, min}
 use mathlib.Core.Bool.{true, false}
 use mathlib.Core.Logic.{_⊎_}
 use mathlib.Core.Path.{_≡_}
-use mathlib.Core.List.{List, [], _∷_}
+use mathlib.Core.List.{List, [], _∷_, _++_}
 use lib.IntN.{ℤ, pos, _-ℤ_}
 use lib.ListN.{length, getD, take, drop, replicate}
 use lib.Signed.{ltZ}
 use Rattle.rules.specs.declared.Table.{Table}
 use Rattle.rules.specs.Calls.{Call, one, forward, Said, tellAll, supplyAt}
 use Rattle.rules.specs.Choice.{choice, padded, word}
+use Rattle.rules.specs.Fields.{valueOf, isField}
 use Rattle.rules.specs.Lists.{count}
 use Rattle.rules.specs.Meaning.{Serves}
 use Rattle.rules.specs.Need.{need}
+use Rattle.rules.specs.Numbers.{checkNumber}
 use Rattle.rules.specs.Orders.{isOrder}
 use Rattle.rules.specs.Program.{programText}
 use Rattle.rules.specs.Rows.{at}
-use Rattle.rules.specs.Sheets.{isLine, numberAt}
+use Rattle.rules.specs.Sheets.{isLine, numberAt, readOf}
 use Rattle.rules.specs.Slots.{fresh, after}
-use Rattle.rules.specs.Tables.{Accepted}
+use Rattle.rules.specs.Tables.{checkTable, Accepted}
 use Rattle.rules.specs.Worst.{horizon, worstSpeed}
 use Rattle.record.specs.Answers.{slotSaid, forwardSaid}
 use Rattle.record.specs.Records.{isSound, freshRun, oneSlot, forwardOver}
-use Rattle.jasminebrace.specs.Words.{tableIn, runIn, stateWords}
+use Rattle.jasminebrace.specs.Words.{tableIn, wordsOf, runIn, stateWords}
+use Rattle.conclusions.specs.declared.Again.{Again}
 use Rattle.conclusions.specs.declared.Begun.{Begun}
 use Rattle.conclusions.specs.declared.Drawing.{Drawing}
 use Rattle.conclusions.specs.declared.Forwards.{Forwards}
@@ -87,6 +90,40 @@ pub record TableAuthor (sheet : List ℕ) (number : ℕ) (table : List ℕ) : Ty
   pub two : number ≡ 2 → isLine sheet 0 3 ≡ true → ((i : ℕ) → 1 ≤ i → i ≤ numberAt sheet 0 1 → isLine sheet (25 + 33 * (i - 1)) 4 ≡ true) → ⊥
   -- with 5 some row is beyond its limits (rule 10.5)
   pub five : number ≡ 5 → ((i : ℕ) → 1 ≤ i → i ≤ numberAt sheet 0 1 → RowFits sheet i) → ⊥
+
+-- What a table author gets who has a table written back (section 15 of the rules): the lent bytes as they were and as they are afterwards.
+pub record SheetBack (table lent : List ℕ) (number size : ℕ) (after : List ℕ) : Type 0 where
+  -- 0 exactly if the table is accepted and its sheet fits: 25 bytes, and 33 for each row (rules 15.4, 15.8)
+  pub accepted : number ≡ 0 → Accepted (tableIn table)
+  pub fits : number ≡ 0 → 25 + 33 * getD table 0 0 ≤ length lent
+  pub passes : Accepted (tableIn table) → 25 + 33 * getD table 0 0 ≤ length lent → number ≡ 0
+  pub long : number ≡ 0 → size ≡ 25 + 33 * getD table 0 0
+  -- the first bytes, as many as the length says, read as the table, and no other bytes do (rules 15.6, 15.7)
+  pub reads : number ≡ 0 → (checkNumber (readOf (take size after) .check) ≡ 0) × (wordsOf (readOf (take size after) .table) ≡ table)
+  pub only : number ≡ 0 → (bytes : List ℕ) → checkNumber (readOf bytes .check) ≡ 0 → wordsOf (readOf bytes .table) ≡ table → bytes ≡ take size after
+  -- the bytes after them are as they were (rule 15.3)
+  pub rest : number ≡ 0 → drop size after ≡ drop size lent
+  pub whole : length after ≡ length lent
+  -- a refusal has the length 0 and writes no byte (rule 15.5)
+  pub refused : (number ≡ 0 → ⊥) → (size ≡ 0) × (after ≡ lent)
+  -- it is 10 if only the room is missing, and else what the table is refused for (rules 10.10, 11.6)
+  pub ten : number ≡ 10 → Accepted (tableIn table) × (length lent < 25 + 33 * getD table 0 0)
+  pub own : (number ≡ 10 → ⊥) → number ≡ checkNumber (checkTable (tableIn table))
+
+-- A sheet is read and its table written back: a sheet that was taken comes out byte for byte, with the bytes after it as they were
+-- (rules 15.3, 15.7); after a refusal there is no table to write, and its zeros are refused with 3.
+pub record SheetAgain (sheet lent : List ℕ) (said : Again) (after : List ℕ) : Type 0 where
+  pub same : said .read ≡ 0 → (said .written ≡ 0) × (said .size ≡ length sheet) × (after ≡ sheet ++ drop (length sheet) lent)
+  pub none : (said .read ≡ 0 → ⊥) → (said .written ≡ 3) × (said .size ≡ 0) × (after ≡ lent)
+
+-- A number as a field (rule 15.9): 1 exactly if it is below 100,000,000, and then the eight bytes are a well-formed field that holds it
+-- (rules 6.1 to 6.3); those of a larger number are its last eight digits (byte 48 is the digit 0).
+pub record NumberField (figure said : ℕ) (field : List ℕ) : Type 0 where
+  pub small : figure < 100000000 → said ≡ 1
+  pub large : 100000000 ≤ figure → said ≡ 0
+  pub formed : said ≡ 1 → (isField field ≡ true) × (valueOf field ≡ figure)
+  pub last : said ≡ 0 → (k : ℕ) → k < 8 → getD field k 0 ≡ 48 + figure / 10 ^ (7 - k) % 10
+  pub long : length field ≡ 8
 
 -- What the planning program writes for an input stands at the start of the text, so many bytes, and zeros stand after it (rules 12.1 to 12.5).
 pub record Text (input : List ℕ) (size : ℕ) (text : List ℕ) : Type 0 where

@@ -3,17 +3,31 @@ use Prim.Native.Nat.{ℕ, _+_, _-_, _≤_}
 use mathlib.Core.List.{List}
 use mathlib.Core.Path.{_≡_, sym, ap, _∙_}
 use native.Mathlib.Omega.{arith}
-use lib.ListN.{length, getD, drop}
+use lib.ListN.{length, getD, drop, length-take, length-drop}
 use lib.Seq.{getD-take, getD-drop}
 use Rattle.rules.specs.declared.Table.{Table}
 use Rattle.rules.specs.Rows.{at}
 use Rattle.record.specs.declared.Run.{Run}
-use Rattle.jasminebrace.specs.Words.{columnAt, tableIn, wordsOf, runIn, stateWords}
-use Rattle.jasminebrace.specs.Inverse.{FullTable, table-in-words-of, words-of-table-in, FullRun, run-in-words}
+use Rattle.rules.specs.Tables.{FullTable}
+use Rattle.jasminebrace.specs.Words.{columnAt, tableIn, runIn}
 
 -- row i's entry of a column is the word that stands i - 1 places into it
 pub entry : (words : List ℕ) (from i : ℕ) → 1 ≤ i → i ≤ 64 → at (columnAt from words) i ≡ getD words (from + (i - 1)) 0
 entry words from i l h = getD-take 64 (drop from words) (i - 1) 0 (omega arith) ∙ getD-drop from words (i - 1) 0
+
+-- 259 words hold a table with full columns
+pub column-full : (words : List ℕ) (from : ℕ) → from + 64 ≤ length words → length (columnAt from words) ≡ 64
+column-full words from h = omega (arith, length-take 64 (drop from words), length-drop from words)
+
+pub full-table : (table : List ℕ) → length table ≡ 259 → FullTable (tableIn table)
+unfolding tableIn
+full-table table e =
+    record {
+      release = column-full table 3 (omega arith);
+      work = column-full table 67 (omega arith);
+      deadline = column-full table 131 (omega arith);
+      level = column-full table 195 (omega arith);
+    }
 
 -- the words of a table, row by row
 pub record TableWords (words : List ℕ) (t : Table) (i : ℕ) : Type 0 where

@@ -1,16 +1,15 @@
 -- The firmware writer's conclusion, from the definition of one slot on a record and the words that hold one.
-use Prim.Native.Nat.{ℕ, zero, suc, _+_, _-_, _≤_, _<_, min}
-use mathlib.Core.Bool.{Bool, true, false, cond, _&&_, _||_}
-use mathlib.Core.Logic.{_⊎_, inl, inr}
+use Prim.Native.Nat.{ℕ, zero, suc, _+_, _-_, _≤_, _<_}
+use mathlib.Core.Bool.{Bool, true, false}
+use mathlib.Core.Logic.{inl, inr}
 use mathlib.Core.List.{List, [], _∷_, _++_}
 use mathlib.Core.Path.{_≡_, refl, sym, ap, _∙_}
 use native.Mathlib.Omega.{arith}
 use borrow.Author.Tests.{ltb-true, ltb-false, le-leb, lt-leb, eq-eqb, ne-eqb}
-use lib.Dec.{ltb, leb, eqb}
-use lib.ListN.{length, getD, take, drop, length-take, length-drop, take-append-drop}
-use Rattle.rules.specs.declared.Table.{Table}
+use lib.Dec.{ltb, eqb}
+use lib.ListN.{length, getD, take, drop, take-append-drop}
 use Rattle.rules.specs.Calls.{lastClock}
-use Rattle.rules.specs.Lists.{first, count}
+use Rattle.rules.specs.Lists.{first}
 use Rattle.rules.specs.Need.{need}
 use Rattle.rules.specs.Numbers.{refusalNumber}
 use Rattle.rules.specs.Rows.{at}
@@ -19,23 +18,23 @@ use Rattle.theory.specs.Cells.{Ready, ready-is, chosen-ready, chosen-above}
 use Rattle.theory.specs.Counts.{In}
 use Rattle.theory.specs.Facts.{Row, both-order, in-rows, is-row, count-zero}
 use Rattle.theory.specs.Places.{order-rows}
-use Rattle.theory.specs.Tests.{by-bool, by-eqb, by-leb, not-both}
+use Rattle.theory.specs.Tests.{by-bool, by-eqb, not-both}
 use Rattle.columns.specs.Entries.{put-same, put-other}
 use Rattle.columns.specs.Figures.{over}
 use Rattle.record.specs.declared.Run.{Run}
 use Rattle.record.specs.Answers.{slotSaid}
 use Rattle.record.specs.Checked.{limits}
-use Rattle.record.specs.Coming.{answer-coming}
 use Rattle.record.specs.Kept.{Sized, sized-kept}
 use Rattle.record.specs.Records.{stateOf, isSound, chosenRow, nextRun, comingSlot, oneSlot}
 use Rattle.record.specs.Sound.{sound-so, runs}
 use Rattle.record.specs.Stepping.{gotNext, closingNext, rested, served, next-idle, next-served}
 use Rattle.forward.specs.Forwarding.{next-clock}
-use Rattle.jasminebrace.specs.Words.{columnAt, tableIn, wordsOf, runIn, stateWords}
-use Rattle.jasminebrace.specs.Inverse.{FullTable, FullRun, words-of-table-in, state-words-of-run-in, run-in-words}
+use Rattle.rules.specs.Tables.{FullTable}
+use Rattle.jasminebrace.specs.Words.{tableIn, wordsOf, runIn, stateWords}
+use Rattle.jasminebrace.specs.Inverse.{words-of-table-in, state-words-of-run-in, run-in-words}
 use Rattle.conclusions.specs.declared.Slots.{Slots}
 use Rattle.conclusions.specs.Conclusions.{ReadyIn, SameRow, RowRuns, FirmwareWriter}
-use Rattle.conclusions.specs.Entries.{TableWords, table-words, StateWords, state-words}
+use Rattle.conclusions.specs.Entries.{column-full, full-table, TableWords, table-words, StateWords, state-words}
 
 -- ---- the first that passes stands at a place, and none before it passes
 pub record FirstAt (p : ℕ → Bool) (xs : List ℕ) (i : ℕ) : Type 0 where
@@ -75,24 +74,11 @@ module _ (work level normal got used : ℕ) where
       (λ e z. rw (ne-eqb got work n, e))
 
 -- ---- the words lent: 259 of a table and 193 of a state
-column-full : (words : List ℕ) (from : ℕ) → from + 64 ≤ length words → length (columnAt from words) ≡ 64
-column-full words from h = omega (arith, length-take 64 (drop from words), length-drop from words)
-
 module _ (table order : List ℕ) (tables : length table ≡ 259) where
-  full-table : FullTable (tableIn table)
-  unfolding tableIn
-  full-table =
-      record {
-        release = column-full table 3 (omega arith);
-        work = column-full table 67 (omega arith);
-        deadline = column-full table 131 (omega arith);
-        level = column-full table 195 (omega arith);
-      }
-
   -- a record of the same table and order with full columns is the one that its words hold
   pub held : (q : Run) → q .table ≡ tableIn table → q .order ≡ order → Sized q → runIn table order (stateWords q) ≡ q
   held q t o z =
-      let full : FullTable (q .table) = rw t full-table in
+      let full : FullTable (q .table) = rw t (full-table table tables) in
       let e = run-in-words q (record { table = full; got = z .got; used = z .used; closing = z .closing }) in
       let w : table ≡ wordsOf (q .table) = sym (words-of-table-in table tables) ∙ ap wordsOf (sym t) in
       ap (λ (x : List ℕ). runIn x order (stateWords q)) w ∙ ap (λ (x : List ℕ). runIn (wordsOf (q .table)) x (stateWords q)) (sym o) ∙ e

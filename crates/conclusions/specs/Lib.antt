@@ -2,6 +2,8 @@ pub mod Conclusions
 pub mod Entries
 pub mod Planned
 pub mod Author
+pub mod Back
+pub mod Exact
 pub mod Firmware
 pub mod Forwarded
 pub mod Drawn

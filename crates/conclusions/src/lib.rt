@@ -2,7 +2,14 @@
 // C boundary alone, and its contract is that caller's conclusion in plain terms (specs/Conclusions). None of it is shipped.
 ghost use mathlib.Core.Path.{_≡_};
 ghost use Rattle.jasminebrace.specs.Words.{tableIn};
-ghost use Rattle.conclusions.specs.Conclusions.{TableAuthor, Text, Planner, FreshRecord, FirmwareWriter, Forwarding, Drawn, SalesDesk};
+ghost use Rattle.conclusions.specs.Conclusions.{TableAuthor, SheetBack, SheetAgain, NumberField, Text, Planner, FreshRecord, FirmwareWriter, Forwarding, Drawn, SalesDesk};
+
+// What reading a sheet and writing its table back said: both numbers, and the length in bytes.
+pub struct Again {
+    pub read: u32,
+    pub written: u32,
+    pub size: u32,
+}
 
 // What a fresh record was said to be: its number, and the words of its table, its order and its state.
 pub struct Begun {
@@ -51,6 +58,35 @@ pub fn table_author(sheet: &[u8], table: &mut [u32; 259]) -> u32
     ensures { λ r. ⌜ TableAuthor (now (sheet .entry)) r (now (table .exit)) ⌝ }
 {
     jasminebrace::jb_read(sheet, table)
+}
+
+// A table author has a table written back, into as many bytes as there are.
+pub fn sheet_back(table: [u32; 259], sheet: &mut [u8], size: &mut u32) -> u32
+    ensures { λ r. ⌜ SheetBack table (now (sheet .entry)) r (now (size .exit)) (now (sheet .exit)) ⌝ }
+{
+    jasminebrace::jb_write(&table, sheet, size)
+}
+
+// A table author hands in a sheet and wants it out again.
+pub fn sheet_again(sheet: &[u8], out: &mut [u8; 2137]) -> Again
+    ensures { λ r. ⌜ SheetAgain (now (sheet .entry)) (now (out .entry)) r (now (out .exit)) ⌝ }
+{
+    let mut table = [0u32; 259];
+    let read = jasminebrace::jb_read(sheet, &mut table);
+    let mut size: u32 = 0;
+    let written = jasminebrace::jb_write(&table, out, &mut size);
+    Again {
+        read,
+        written,
+        size,
+    }
+}
+
+// A table author wants one number as it stands in a sheet.
+pub fn number_field(figure: u32, field: &mut [u8; 8]) -> u32
+    ensures { λ r. ⌜ NumberField figure r (now (field .exit)) ⌝ }
+{
+    jasminebrace::jb_field(figure, field)
 }
 
 // A table author asks for what the planning program writes.

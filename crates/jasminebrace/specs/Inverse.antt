@@ -6,6 +6,7 @@ use native.Mathlib.Omega.{arith}
 use lib.ListN.{length, drop, length-drop, take-append-drop}
 use lib.Seq.{take-all, take-at, drop-at, drop-drop}
 use Rattle.rules.specs.declared.Table.{Table}
+use Rattle.rules.specs.Tables.{FullTable}
 use Rattle.record.specs.declared.Run.{Run}
 use Rattle.jasminebrace.specs.Words.{columnAt, tableIn, wordsOf, runIn, stateWords}
 
@@ -41,14 +42,7 @@ words-of-table-in (n ∷ []) e = absurd (omega arith)
 words-of-table-in (n ∷ normal ∷ []) e = absurd (omega arith)
 words-of-table-in (n ∷ normal ∷ degraded ∷ l) e = ap (λ (k : List ℕ). n ∷ normal ∷ degraded ∷ k) (four-columns l (omega arith))
 
--- each column has sixty-four entries
-pub record FullTable (t : Table) : Type 0 where
-  pub release : length (t .release) ≡ 64
-  pub work : length (t .work) ≡ 64
-  pub deadline : length (t .deadline) ≡ 64
-  pub level : length (t .level) ≡ 64
-
--- such a table is the one that its words hold
+-- a table is the one that its words hold
 pub table-in-words-of : (t : Table) → FullTable t → tableIn (wordsOf t) ≡ t
 unfolding wordsOf tableIn
 table-in-words-of t f =

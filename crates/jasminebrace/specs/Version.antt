@@ -1,5 +1,5 @@
--- The number of the C interface. It is raised whenever a size, a layout or the meaning of a number in c/jasminebrace.h changes;
--- JB_VERSION there is the same number.
+-- The number of the C interface. It is raised whenever a size, a layout or the meaning of a number in c/jasminebrace.h changes, and not for a
+-- function that is new, with a number that only it gives; JB_VERSION there is the same number.
 use Prim.Native.Nat.{ℕ}
 
 abbrev pub version : ℕ

@@ -1,6 +1,7 @@
 // The C boundary: the library's calls over lent arrays of numbers. specs/Words says how they hold a table and a run record.
 // Times are in slots, work and supplies in work units, speeds in work units per slot. What is lent as & is only read, and
-// what is lent as &mut is written whole by every call, refusals included. A list is a pointer and its length.
+// what is lent as &mut is written whole by every call, refusals included, but for the bytes that a sheet is written to: those after it stay
+// as they were, and with a refusal all of them do. A list is a pointer and its length.
 ghost use mathlib.Core.Path.{_≡_};
 ghost use mathlib.Core.List.{_++_};
 ghost use mir.Syntax.{w32};
@@ -9,11 +10,12 @@ ghost use Prim.Native.Nat.{_+_, _-_, _≤_};
 ghost use lib.ListN.{length, replicate};
 ghost use lib.Seq.{paste};
 ghost use Rattle.rules.specs.Choice.{planOf};
+ghost use Rattle.rules.specs.Fields.{fitsField, written};
 ghost use Rattle.rules.specs.Judge.{judgeOf, tableOf};
 ghost use Rattle.rules.specs.Numbers.{checkNumber, plannedNumber, rowsLeft, verdictNumber, verdictYes, verdictRow, verdictSlack};
 ghost use Rattle.rules.specs.Orders.{checkBoth};
 ghost use Rattle.rules.specs.Program.{programText};
-ghost use Rattle.rules.specs.Sheets.{readOf};
+ghost use Rattle.rules.specs.Sheets.{readOf, writeOf};
 ghost use Rattle.record.specs.Answers.{slotSaid, forwardSaid};
 ghost use Rattle.record.specs.Records.{freshOf, comingSlot, oneSlot, forwardOver};
 ghost use Rattle.jasminebrace.specs.Words.{columnAt, tableIn, wordsOf, runIn, stateWords};
@@ -218,6 +220,31 @@ pub extern "C" fn jb_read(sheet: &[u8], table: &mut [u32; 259]) -> u32
     let check = reading.check;
     *table = words_of(t);
     numbers::check_number(check)
+}
+
+// Writes the sheet of a table to the start of lent bytes and gives its length in bytes (rule 15.2); no byte and 0 on a refusal
+// (rule 15.5). Gives the number of the writer's checks (rule 11.6).
+#[no_mangle]
+pub extern "C" fn jb_write(table: &[u32; 259], sheet: &mut [u8], size: &mut u32) -> u32
+    ensures { λ r. ⌜ (let back = writeOf (tableIn (now (table .entry))) (now (sheet .entry)) in
+        (r ≡ checkNumber (back .said .check))
+        × (now (size .exit) ≡ back .said .size)
+        × (now (sheet .exit) ≡ back .bytes)) ⌝ }
+{
+    let t = table_in(table);
+    let writing = sheet::write(t, sheet);
+    let check = writing.check;
+    *size = writing.size;
+    numbers::check_number(check)
+}
+
+// Writes a number as a field of a sheet (rule 15.9). Gives 1 if the field holds the number, 0 if only its last eight digits.
+#[no_mangle]
+pub extern "C" fn jb_field(figure: u32, field: &mut [u8; 8]) -> u32
+    ensures { λ r. ⌜ (r ≡ yesWord (fitsField figure)) × (now (field .exit) ≡ written figure) ⌝ }
+{
+    *field = fields::written(figure);
+    if figure < 100000000 { 1 } else { 0 }
 }
 
 // Plans an order for a table, all zero where none is made. Gives 0, 7 with the word of the rows left, or a refusal's number (rules 4.6,

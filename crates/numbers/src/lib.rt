@@ -33,6 +33,7 @@ pub fn refusal_number(why: Refusal) -> u32
         Refusal::NotAnOrder => 6,
         Refusal::ClockOver => 8,
         Refusal::Unsound => 9,
+        Refusal::NoRoom => 10,
     }
 }
 

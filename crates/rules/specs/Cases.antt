@@ -12,7 +12,7 @@ use lib.ListN.{length, replicate}
 use Rattle.rules.specs.declared.Row.{Row}
 use Rattle.rules.specs.declared.Table.{Table}
 use Rattle.rules.specs.declared.Verdict.{Verdict}
-use Rattle.rules.specs.declared.Refusal.the-variants.{ClockOver, Unsound}
+use Rattle.rules.specs.declared.Refusal.the-variants.{ClockOver, Unsound, NoRoom}
 use Rattle.rules.specs.declared.Check.the-variants.{Passed}
 use Rattle.rules.specs.Calls.{Call, one, forward, Said, tellOne, tellForward, tellAll, allSupplies, supplyAt}
 use Rattle.rules.specs.Correct.{earliest, Window}
@@ -368,6 +368,7 @@ parts =
     ∷ yes (not (same (1 ∷ 2 ∷ []) (3 ∷ 2 ∷ [])))
     ∷ gives (refusalNumber ClockOver) 8
     ∷ gives (refusalNumber Unsound) 9
+    ∷ gives (refusalNumber NoRoom) 10
     ∷ []
 
 -- every case of a list holds

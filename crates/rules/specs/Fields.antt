@@ -2,8 +2,8 @@
 -- (rules 6.1, 6.2).
 use Prim.Native.Nat.{ℕ, _+_, _-_, _*_, _/_, _%_}
 use mathlib.Core.Bool.{Bool, cond, _&&_, _||_}
-use mathlib.Core.List.{List, [], _∷_, map}
-use lib.Dec.{eqb, leb}
+use mathlib.Core.List.{List, [], _∷_, _++_, map}
+use lib.Dec.{eqb, leb, ltb}
 use lib.ListN.{take, drop}
 use Rattle.rules.specs.Lists.{same}
 
@@ -15,9 +15,18 @@ weights = 10000000 ∷ 1000000 ∷ 100000 ∷ 10000 ∷ 1000 ∷ 100 ∷ 10 ∷ 
 unfoldable pub digitAt : ℕ → ℕ → ℕ
 digitAt v w = cond (leb w v || eqb w 1) (48 + v / w % 10) 32
 
--- the eight bytes of a number below 100,000,000 (rules 6.1, 6.2)
+-- the eight bytes of a number (rules 6.1, 6.2)
 unfoldable pub written : ℕ → List ℕ
 written v = map (digitAt v) weights
+
+-- the eight bytes hold the whole number; of one from here on they have the last eight digits (rules 6.2, 15.9)
+abbrev pub fitsField : ℕ → Bool
+fitsField v = ltb v 100000000
+
+-- numbers as fields on a line, which ends with byte 10 (rules 6.4, 12.3)
+abbrev pub line : List ℕ → List ℕ
+line [] = 10 ∷ []
+line (v ∷ vs) = written v ++ line vs
 
 -- what a byte adds: its digit, and nothing for a byte that is none (rule 6.3)
 unfoldable pub digitOf : ℕ → ℕ

@@ -55,6 +55,11 @@ abbrev pub greatest : (ℕ → ℕ) → List ℕ → ℕ
 greatest f [] = 0
 greatest f (x ∷ xs) = max (f x) (greatest f xs)
 
+-- what f makes of each element, one after the other
+abbrev pub joined : (ℕ → List ℕ) → List ℕ → List ℕ
+joined f [] = []
+joined f (x ∷ xs) = f x ++ joined f xs
+
 -- the least of b and f over the list
 abbrev pub least : (ℕ → ℕ) → ℕ → List ℕ → ℕ
 least f b [] = b

@@ -9,31 +9,21 @@ use Rattle.rules.specs.declared.Planned.the-variants as Plans
 use Rattle.rules.specs.declared.Planned.{Planned}
 use Rattle.rules.specs.declared.Check.{Check}
 use Rattle.rules.specs.Choice.{planOf}
-use Rattle.rules.specs.Fields.{written}
-use Rattle.rules.specs.Lists.{rowsTo}
+use Rattle.rules.specs.Fields.{line}
+use Rattle.rules.specs.Lists.{rowsTo, joined}
 use Rattle.rules.specs.Numbers.{refusalNumber}
 use Rattle.rules.specs.Rows.{at, deadlineOf}
 use Rattle.rules.specs.Sheets.{readOf}
 use Rattle.rules.specs.Worst.{worstFinish}
 
--- fields on a line, which ends with byte 10 (rule 12.3)
-abbrev pub line : List ℕ → List ℕ
-line [] = 10 ∷ []
-line (v ∷ vs) = written v ++ line vs
-
 -- the line of place k: the place, its row, and the row's slack in slots, which after success is not below zero (rule 12.5)
 unfoldable pub placeLine : Table → List ℕ → ℕ → List ℕ
 placeLine t o k = line (k ∷ at o k ∷ (deadlineOf t (at o k) - worstFinish t o (at o k)) ∷ [])
 
--- the lines of these places (rule 12.5)
-abbrev pub placeLines : Table → List ℕ → List ℕ → List ℕ
-placeLines t o [] = []
-placeLines t o (k ∷ ks) = placeLine t o k ++ placeLines t o ks
-
 -- first line and places for a planner's answer; a refusal has its number and the count of rows left alone, which is
 -- that of the set bits of their word (rules 4.9, 12.4, 12.5)
 abbrev pub planText : Table → List ℕ → Planned → List ℕ
-planText t o Plans.Ordered = line (0 ∷ t .n ∷ []) ++ placeLines t o (rowsTo (t .n))
+planText t o Plans.Ordered = line (0 ∷ t .n ∷ []) ++ joined (placeLine t o) (rowsTo (t .n))
 planText t o (Plans.NoOrder left) = line (7 ∷ ones left ∷ [])
 planText t o (Plans.Refused r) = line (refusalNumber r ∷ 0 ∷ [])
 

@@ -1,17 +1,20 @@
--- The sheet and its reader: a first line of 25 bytes with n, N and G, a line of 33 bytes for each row, and no byte more
--- (rules 6.4 to 6.8).
+-- The sheet: a first line of 25 bytes with n, N and G, a line of 33 bytes for each row, and no byte more (rules 6.4 to 6.7); what the reader
+-- makes of any bytes (rule 6.8), and what the writer makes of any table and any bytes that it is lent (section 15 of the rules).
 use Prim.Native.Nat.{ℕ, _+_, _-_, _*_}
 use mathlib.Core.Bool.{Bool, cond, _&&_}
-use mathlib.Core.List.{List, _++_, map}
+use mathlib.Core.List.{List, [], _∷_, _++_, map}
 use lib.Dec.{eqb, ltb}
-use lib.ListN.{length, getD, take, replicate}
+use lib.ListN.{length, getD, take, drop, replicate}
 use Rattle.rules.specs.declared.Table.{Table}
-use Rattle.rules.specs.declared.Refusal.the-variants.{Length, Malformed, RowCount}
+use Rattle.rules.specs.declared.Refusal.the-variants.{Length, Malformed, RowCount, NoRoom}
 use Rattle.rules.specs.declared.Check.{Check}
 use Rattle.rules.specs.declared.Check.the-variants.{Passed, Refused}
 use Rattle.rules.specs.declared.Reading.{Reading}
-use Rattle.rules.specs.Fields.{valueOf, isField, fieldAt}
-use Rattle.rules.specs.Lists.{all, rowsTo}
+use Rattle.rules.specs.declared.Writing.{Writing}
+use Rattle.rules.specs.Fields.{valueOf, isField, fieldAt, line}
+use Rattle.rules.specs.Lists.{all, rowsTo, joined}
+use Rattle.rules.specs.Orders.{andThen}
+use Rattle.rules.specs.Rows.{at, rowsOf, releaseOf, workOf, deadlineOf}
 use Rattle.rules.specs.Tables.{countOk, checkTable, zeroTable}
 
 -- k fields and a line end are well formed from byte start on (rules 6.1, 6.4)
@@ -66,3 +69,35 @@ readChecked (Refused r) t = record { check = Refused r; table = zeroTable }
 -- the reader's answer for any bytes: the number and the whole table, all zero on a refusal (rule 6.8)
 unfoldable pub readOf : List ℕ → Reading
 readOf bytes = readChecked (checkSheet bytes) (tableIn bytes)
+
+-- row i's line: its release and its work, its deadline and its level (rules 6.6, 15.1)
+unfoldable pub rowLine : Table → ℕ → List ℕ
+rowLine t i = line (releaseOf t i ∷ workOf t i ∷ deadlineOf t i ∷ at (t .level) i ∷ [])
+
+-- the sheet of a table: the line of n, N and G, then the lines of its rows (rules 6.5, 6.6, 15.1)
+unfoldable pub sheetOf : Table → List ℕ
+sheetOf t = line (t .n ∷ t .normal ∷ t .degraded ∷ []) ++ joined (rowLine t) (rowsOf t)
+
+-- check 10: there are as many bytes to write to as the sheet has, or more (rules 10.10, 15.4)
+unfoldable pub checkRoom : Table → ℕ → Check
+checkRoom t room = cond (ltb room (length (sheetOf t))) (Refused NoRoom) Passed
+
+-- the writer's checks: those of the table first, 10 last (rules 11.6, 15.4)
+unfoldable pub checkWrite : Table → ℕ → Check
+checkWrite t room = andThen (checkTable t) (checkRoom t room)
+
+-- what the writer says, and all of the lent bytes as it leaves them (rule 15.2)
+pub record WrittenBack : Type 0 where
+  pub said : Writing
+  pub bytes : List ℕ
+
+-- where no check refuses the sheet stands at the start of the lent bytes, and those after it are as they were; on a refusal all of them
+-- are, and the length is 0 (rules 15.2, 15.3, 15.5)
+abbrev pub writeChecked : Check → Table → List ℕ → WrittenBack
+writeChecked Passed t lent =
+    record { said = record { check = Passed; size = length (sheetOf t) }; bytes = sheetOf t ++ drop (length (sheetOf t)) lent }
+writeChecked (Refused r) t lent = record { said = record { check = Refused r; size = 0 }; bytes = lent }
+
+-- the writer's answer for any table and any lent bytes (rules 15.2 to 15.5)
+unfoldable pub writeOf : Table → List ℕ → WrittenBack
+writeOf t lent = writeChecked (checkWrite t (length lent)) t lent

@@ -3,7 +3,7 @@ use Prim.Native.Nat.{ℕ}
 use mathlib.Core.Bool.{Bool, true, false, cond, _&&_}
 use mathlib.Core.Path.{_≡_}
 use lib.Dec.{ltb, leb}
-use lib.ListN.{drop, replicate}
+use lib.ListN.{length, drop, replicate}
 use Rattle.rules.specs.declared.Table.{Table}
 use Rattle.rules.specs.declared.Refusal.the-variants.{RowCount, Speeds, RowLimits}
 use Rattle.rules.specs.declared.Check.{Check}
@@ -31,6 +31,13 @@ rowOk t i =
 -- no figure stands after row n (rule 5.4)
 unfoldable pub tailOk : Table → Bool
 tailOk t = allZero (drop (t .n) (t .release)) && allZero (drop (t .n) (t .work)) && allZero (drop (t .n) (t .deadline)) && allZero (drop (t .n) (t .level))
+
+-- each column has an entry for each of 64 rows, as every table of the code has (rule 5.4)
+pub record FullTable (t : Table) : Type 0 where
+  pub release : length (t .release) ≡ 64
+  pub work : length (t .work) ≡ 64
+  pub deadline : length (t .deadline) ≡ 64
+  pub level : length (t .level) ≡ 64
 
 -- checks 3, 4, 5 (rule 11.3)
 unfoldable pub checkTable : Table → Check

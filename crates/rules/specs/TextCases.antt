@@ -1,6 +1,6 @@
 -- Sheets and what reader and program make of them, as texts: the program's text for P1 (rule 13.10), sheets for each number from 1 to 5 and for
--- 7, sheets with two faults that tell which check comes first (rule 11.2), 64 rows with nothing and with one byte after them (rule 6.7), and
--- numbers as fields (rules 6.1 to 6.3).
+-- 7, sheets with two faults that tell which check comes first (rule 11.2), 64 rows with nothing and with one byte after them (rule 6.7),
+-- numbers as fields (rules 6.1 to 6.3), and tables written back into bytes that are too few, enough, and more (section 15 of the rules).
 use Prim.Native.Nat.{ℕ, zero, suc}
 use Prim.Native.Char.{code}
 use Prim.Native.String.{String}
@@ -9,17 +9,17 @@ use mathlib.Core.Bool.{Bool, true, not, _&&_}
 use mathlib.Core.List.{List, [], _∷_, _++_}
 use lib.Count.{ones, onesIn}
 use lib.Dec.{T, eqb}
-use lib.ListN.{replicate}
+use lib.ListN.{getD, replicate}
 use Rattle.rules.specs.declared.Table.{Table}
 use Rattle.rules.specs.declared.Refusal.the-variants.{NotAnOrder}
 use Rattle.rules.specs.declared.Planned.the-variants.{Refused}
 use Rattle.rules.specs.Choice.{planOf, padded, passes, sequence, choice, fill, taker, word}
-use Rattle.rules.specs.Fields.{digitAt, written, digitOf, valueOf, isField}
+use Rattle.rules.specs.Fields.{digitAt, written, fitsField, digitOf, valueOf, isField}
 use Rattle.rules.specs.Lists.{same}
 use Rattle.rules.specs.Need.{need}
 use Rattle.rules.specs.Numbers.{refusalNumber, checkNumber}
 use Rattle.rules.specs.Program.{placeLine, planText, programText}
-use Rattle.rules.specs.Sheets.{isLine, numberAt, columnOf, tableIn, checkSheet, readOf}
+use Rattle.rules.specs.Sheets.{isLine, numberAt, columnOf, tableIn, checkSheet, readOf, rowLine, sheetOf, checkRoom, checkWrite, writeOf}
 use Rattle.rules.specs.Slots.{fresh, isReady, chosen, isOver, serve, slot, after}
 use Rattle.rules.specs.Tables.{rowOk, tailOk, checkTable}
 use Rattle.rules.specs.Worst.{horizon, worstFinish, meets}
@@ -38,8 +38,12 @@ pub data Text : Type 0 where
   read : String → List ℕ → List ℕ → List ℕ → List ℕ → List ℕ → Text
   -- a sheet that is refused with this number, and the table of zeros
   refused : String → ℕ → Text
+  -- a table (n, N and G, and the four columns) and lent bytes; the writer's number and length, and all bytes afterwards
+  write : List ℕ → List ℕ → List ℕ → List ℕ → List ℕ → List ℕ → ℕ → ℕ → List ℕ → Text
   -- a number and its eight bytes
   field : ℕ → String → Text
+  -- a number that no field holds, and its last eight digits
+  cut : ℕ → String → Text
   -- no field: these bytes, whose value is this
   noField : String → ℕ → Text
 
@@ -55,6 +59,18 @@ isTable t first release work deadline level =
     && same (t .deadline) (padded deadline)
     && same (t .level) (padded level)
 
+abbrev tableFor : List ℕ → List ℕ → List ℕ → List ℕ → List ℕ → Table
+tableFor first release work deadline level =
+    record {
+      n = getD first 0 0;
+      normal = getD first 1 0;
+      degraded = getD first 2 0;
+      release = padded release;
+      work = padded work;
+      deadline = padded deadline;
+      level = padded level;
+    }
+
 abbrev holds : Text → Bool
 holds (text sheet output) = same (programText (bytes sheet)) (bytes output)
 holds (rows64 first row rest output) = same (programText (bytes first ++ times 64 (bytes row) ++ rest)) (bytes output)
@@ -64,7 +80,11 @@ holds (read sheet first release work deadline level) =
 holds (refused sheet number) =
     eqb (checkNumber (readOf (bytes sheet) .check)) number
     && isTable (readOf (bytes sheet) .table) (0 ∷ 0 ∷ 0 ∷ []) [] [] [] []
-holds (field v digits) = same (written v) (bytes digits) && isField (bytes digits) && eqb (valueOf (bytes digits)) v
+holds (write first release work deadline level lent number size after) =
+    let b = writeOf (tableFor first release work deadline level) lent in
+    eqb (checkNumber (b .said .check)) number && eqb (b .said .size) size && same (b .bytes) after
+holds (field v digits) = same (written v) (bytes digits) && isField (bytes digits) && eqb (valueOf (bytes digits)) v && fitsField v
+holds (cut v digits) = same (written v) (bytes digits) && not (fitsField v)
 holds (noField digits v) = not (isField (bytes digits)) && eqb (valueOf (bytes digits)) v
 
 -- sheets and what the program writes (rules 12.3 to 12.5); the first is P1 (rule 13.10), the second P3
@@ -120,6 +140,8 @@ fields =
     ∷ field 1023 "    1023"
     ∷ field 12345678 "12345678"
     ∷ field 99999999 "99999999"
+    ∷ cut 100000000 "00000000"
+    ∷ cut 4294967295 "94967295"
     ∷ noField "        " 0
     ∷ noField "      00" 0
     ∷ noField "      1 " 10
@@ -130,13 +152,44 @@ fields =
     ∷ noField "1234567" 12345670
     ∷ []
 
+-- so many bytes 7, which no sheet has
+abbrev sevens : ℕ → List ℕ
+sevens k = replicate k 7
+
+-- the table of P3 lent so many bytes (25 + 33 x 2 are 91): the writer's number and length, and all bytes afterwards
+abbrev writeP3 : List ℕ → ℕ → ℕ → List ℕ → Text
+writeP3 lent number size after = write (2 ∷ 2 ∷ 1 ∷ []) (0 ∷ 0 ∷ []) (2 ∷ 4 ∷ []) (2 ∷ 4 ∷ []) (0 ∷ 1 ∷ []) lent number size after
+
+abbrev sheetP3 : List ℕ
+sheetP3 = bytes "       2       2       1\n       0       2       2       0\n       0       4       4       1\n"
+
+-- tables and what the writer makes of them (section 15 of the rules): room, and then the order of the checks with no room at all (rule 11.6)
+abbrev writings : List Text
+writings =
+    writeP3 (sevens 91) 0 91 sheetP3
+    ∷ writeP3 (sevens 2200) 0 91 (sheetP3 ++ sevens 2109)
+    ∷ write (3 ∷ 5 ∷ 2 ∷ []) (1 ∷ 2 ∷ 3 ∷ []) (4 ∷ 5 ∷ 6 ∷ []) (7 ∷ 8 ∷ 9 ∷ []) (0 ∷ 1 ∷ 0 ∷ []) (sevens 124) 0 124 (bytes "       3       5       2\n       1       4       7       0\n       2       5       8       1\n       3       6       9       0\n")
+    ∷ writeP3 (sevens 94) 0 91 (sheetP3 ++ 7 ∷ 7 ∷ 7 ∷ [])
+    ∷ writeP3 (sevens 90) 10 0 (sevens 90)
+    ∷ writeP3 (sevens 25) 10 0 (sevens 25)
+    ∷ writeP3 [] 10 0 []
+    ∷ write (2 ∷ 12 ∷ 3 ∷ []) (4 ∷ 101112 ∷ []) (56 ∷ 131415 ∷ []) (789 ∷ 161718 ∷ []) (0 ∷ 1 ∷ []) (sevens 92) 0 91 (bytes "       2      12       3\n       4      56     789       0\n  101112  131415  161718       1\n" ++ 7 ∷ [])
+    ∷ write (1 ∷ 1000 ∷ 1000 ∷ []) (999999 ∷ []) (1000000 ∷ []) (1000000 ∷ []) (1 ∷ []) (sevens 58) 0 58 (bytes "       1    1000    1000\n  999999 1000000 1000000       1\n")
+    ∷ write (0 ∷ 0 ∷ 0 ∷ []) [] [] [] [] [] 3 0 []
+    ∷ write (65 ∷ 2 ∷ 3 ∷ []) [] [] [] [] (sevens 3) 3 0 (sevens 3)
+    ∷ write (1 ∷ 2 ∷ 3 ∷ []) (4 ∷ []) (1 ∷ []) (4 ∷ []) (0 ∷ []) (sevens 57) 4 0 (sevens 57)
+    ∷ write (1 ∷ 2 ∷ 1 ∷ []) (4 ∷ []) (1 ∷ []) (4 ∷ []) (0 ∷ []) (sevens 57) 5 0 (sevens 57)
+    ∷ write (1 ∷ 2 ∷ 1 ∷ []) (4 ∷ []) (1 ∷ []) (4 ∷ []) (0 ∷ []) (sevens 60) 5 0 (sevens 60)
+    ∷ write (1 ∷ 2 ∷ 1 ∷ []) (0 ∷ 1 ∷ []) (1 ∷ []) (1 ∷ []) (0 ∷ []) (sevens 58) 5 0 (sevens 58)
+    ∷ []
+
 -- every text of a list holds
 abbrev allHold : List Text → Bool
 allHold [] = true
 allHold (x ∷ xs) = holds x && allHold xs
 
-pub texts-hold : T (allHold (texts ++ readings ++ fields))
-unfolding planOf padded passes sequence choice fill taker word digitAt written digitOf valueOf isField need refusalNumber checkNumber placeLine programText isLine numberAt columnOf tableIn checkSheet readOf fresh isReady chosen isOver serve slot after rowOk tailOk checkTable horizon worstFinish meets ones onesIn
+pub texts-hold : T (allHold (texts ++ readings ++ fields ++ writings))
+unfolding planOf padded passes sequence choice fill taker word digitAt written digitOf valueOf isField need refusalNumber checkNumber placeLine programText isLine numberAt columnOf tableIn checkSheet readOf rowLine sheetOf checkRoom checkWrite writeOf fresh isReady chosen isOver serve slot after rowOk tailOk checkTable horizon worstFinish meets ones onesIn
 texts-hold = tt
 
 -- a planner's refusal (rule 12.4), which the checks of a sheet that is read leave no table for

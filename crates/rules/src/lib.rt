@@ -22,7 +22,7 @@ pub struct Table {
     pub level: [u32; 64],
 }
 
-// Why a call was refused (rules 10.1 to 10.6, 10.8, 10.9). The number of each is given by specs/Numbers.
+// Why a call was refused (rules 10.1 to 10.6, 10.8 to 10.10). The number of each is given by specs/Numbers.
 pub enum Refusal {
     Length,
     Malformed,
@@ -32,6 +32,7 @@ pub enum Refusal {
     NotAnOrder,
     ClockOver,
     Unsound,
+    NoRoom,
 }
 
 // A check passed, or what it was refused for (rule 11.1).
@@ -44,6 +45,12 @@ pub enum Check {
 pub struct Reading {
     pub check: Check,
     pub table: Table,
+}
+
+// The writer's answer, and the sheet's length in bytes (0 on a refusal) (rules 15.2, 15.5).
+pub struct Writing {
+    pub check: Check,
+    pub size: u32,
 }
 
 // The planner's answer: an order was made, none exists and these rows are left (as a word, rule 4.8), or a refusal (rule 4.10).

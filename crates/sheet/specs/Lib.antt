@@ -1,4 +1,4 @@
-pub mod Scan
 pub mod Lines
 pub mod SheetsDiffer
-pub mod Writing
+pub mod Writer
+pub mod RoundTrip

@@ -3,63 +3,16 @@ use Prim.Native.Nat.{ℕ, zero, suc, _+_, _-_, _*_, _≤_, _<_}
 use mathlib.Core.Bool.{Bool, true, false}
 use mathlib.Core.List.{List, [], _∷_, _++_, map}
 use mathlib.Core.Path.{_≡_, refl, _∙_}
-use native.Mathlib.Nat.{mul-le-mul-right}
 use native.Mathlib.Numerals.{add-one}
 use native.Mathlib.Omega.{arith}
-use lib.Dec.{eqb, leb}
-use lib.ListN.{length, getD, drop, take, set, replicate, length-append, length-map, length-take, length-drop}
-use borrow.Author.Tests.{leb-true}
-use lib.Seq.{drop-cons, getD-take, getD-drop}
-use Rattle.rules.specs.Fields.{weights, digitOf, isField, fieldAt}
+use lib.Dec.{eqb}
+use lib.ListN.{length, getD, take, set, replicate, length-map}
+use Rattle.rules.specs.Fields.{isField, fieldAt}
 use Rattle.rules.specs.Lists.{all, rowsTo}
 use Rattle.rules.specs.Sheets.{isLine, numberAt, lineOf, columnOf}
 use Rattle.checks.specs.RowLists.{all-rows-more, all-rows-fail, all-rows-each}
-use Rattle.theory.specs.Tests.{and-left, and-right}
-use Rattle.sheet.specs.declared.Field.{Field}
-use Rattle.sheet.specs.declared.Field.the-variants.{Number, Bad}
-use Rattle.sheet.specs.Scan.{stands, scan, fieldIn, scan-field, digit-le}
-
--- ---- a field from byte start on
-field-long : (bytes : List ℕ) (start : ℕ) → start + 8 ≤ length bytes → length (fieldAt bytes start) ≡ 8
-field-long bytes start h = simp (length-take, length-drop) (omega arith)
-
-pub field-byte : (bytes : List ℕ) (start i : ℕ) → i < 8 → getD (fieldAt bytes start) i 0 ≡ getD bytes (start + i) 0
-field-byte bytes start i h = getD-take 8 (drop start bytes) i 0 h ∙ getD-drop start bytes i 0
-
--- the field at byte start from its byte i on, with the value so far
-abbrev pub rest : List ℕ → ℕ → ℕ → ℕ → Field
-rest bytes start i v = scan v (drop i weights) (drop i (fieldAt bytes start))
-
-module _ (bytes : List ℕ) (start i v : ℕ) (h : start + 8 ≤ length bytes) (k : i < 8) where
-  pub byte-go : stands v (getD weights i 0) (getD bytes (start + i) 0) ≡ true
-      → rest bytes start i v ≡ rest bytes start (i + 1) (v + getD weights i 0 * digitOf (getD bytes (start + i) 0))
-  unfolding scan
-  byte-go e =
-      let l = field-long bytes start h in
-      rw (add-one, drop-cons weights i 0 k, drop-cons (fieldAt bytes start) i 0 (omega arith), field-byte bytes start i k, e)
-
-  pub byte-stop : stands v (getD weights i 0) (getD bytes (start + i) 0) ≡ false → rest bytes start i v ≡ Bad
-  unfolding scan
-  byte-stop e =
-      let l = field-long bytes start h in
-      rw (drop-cons weights i 0 k, drop-cons (fieldAt bytes start) i 0 (omega arith), field-byte bytes start i k, e)
-
-pub byte-end : (bytes : List ℕ) (start i v : ℕ) → i ≡ 8 → rest bytes start i v ≡ Number v
-unfolding scan
-byte-end bytes start i v e = rw e
-
-pub byte-start : (bytes : List ℕ) (start : ℕ) → start + 8 ≤ length bytes → rest bytes start 0 0 ≡ fieldIn (fieldAt bytes start)
-byte-start bytes start h = scan-field (fieldAt bytes start) (field-long bytes start h)
-
--- an entry of a list whose entries are all at most m
-bounded : (m i : ℕ) (xs : List ℕ) → all (λ x. leb x m) xs ≡ true → getD xs i 0 ≤ m
-bounded m i [] e = omega arith
-bounded m zero (x ∷ xs) e = leb-true x m (and-left (leb x m) (all (λ y. leb y m) xs) e)
-bounded m (suc i) (x ∷ xs) e = bounded m i xs (and-right (leb x m) (all (λ y. leb y m) xs) e)
-
--- what a byte adds is at most nine times the greatest weight
-pub adds-le : (i b : ℕ) → getD weights i 0 * digitOf b ≤ 90000000
-adds-le i b = omega (arith, mul-le-mul-right (digitOf b) (bounded 10000000 i weights refl), digit-le b)
+use Rattle.theory.specs.Places.{length-rows}
+use Rattle.theory.specs.Tests.{and-left}
 
 -- ---- k fields of a line from byte start on
 abbrev pub fieldsOk : List ℕ → ℕ → ℕ → Bool
@@ -123,10 +76,6 @@ map-append : (f : ℕ → ℕ) (xs ys : List ℕ) → map f (xs ++ ys) ≡ map f
 map-append f [] ys = refl
 map-append f (x ∷ xs) ys = rw (map-append f xs ys)
 
-rows-long : (n : ℕ) → length (rowsTo n) ≡ n
-rows-long zero = refl
-rows-long (suc k) = simp length-append (omega (arith, rows-long k))
-
 -- the first m of c zeros
 take-zeros : (m c : ℕ) → m ≤ c → take {A = ℕ} m (replicate c 0) ≡ replicate m 0
 take-zeros zero c h = refl
@@ -148,7 +97,7 @@ pub column-more : (bytes : List ℕ) (i j : ℕ) → i < 64 → columnOf bytes (
 unfolding columnOf
 column-more bytes i j h =
     let e : suc i - 1 ≡ i = omega arith in
-    let l : length (map (λ r. numberAt bytes (lineOf r) j) (rowsTo i)) ≡ i = length-map (rowsTo i) (λ r. numberAt bytes (lineOf r) j) ∙ rows-long i in
+    let l : length (map (λ r. numberAt bytes (lineOf r) j) (rowsTo i)) ≡ i = length-map (rowsTo i) (λ r. numberAt bytes (lineOf r) j) ∙ length-rows i in
     rw (add-one, map-append (λ r. numberAt bytes (lineOf r) j) (rowsTo i) (suc i ∷ []), e)
     (padded-more (map (λ r. numberAt bytes (lineOf r) j) (rowsTo i)) 64 64 i (numberAt bytes (25 + 33 * i) j) l h (omega arith))
 

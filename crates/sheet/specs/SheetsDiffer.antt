@@ -1,26 +1,28 @@
 -- Two accepted sheets that state the same table are the same bytes: a well-formed field is its value, written.
 use Prim.Native.Nat.{ℕ, zero, suc, _+_, _-_, _*_, _/_, _%_, _≤_, _<_}
 use mathlib.Core.Bool.{true}
-use mathlib.Core.List.{List, [], _∷_}
+use mathlib.Core.List.{List, [], _∷_, _++_, map}
 use mathlib.Core.Path.{_≡_, refl, sym, ap, _∙_}
 use native.Mathlib.Numerals.{add-one}
 use native.Mathlib.Omega.{arith}
 use borrow.Author.Tests.{leb-true, eqb-true}
 use lib.Dec.{eqb, leb, ltb}
-use lib.ListN.{length, getD, length-take, length-append, length-replicate}
-use lib.Seq.{ext-getD, getD-set-same, getD-set-other}
+use lib.ListN.{length, getD, replicate, length-map, length-take, length-append, length-replicate}
+use lib.Seq.{getD-take, getD-append-add, ext-getD, getD-set-same, getD-set-other}
 use Rattle.rules.specs.declared.Table.{Table}
 use Rattle.rules.specs.declared.Refusal.{Refusal}
 use Rattle.rules.specs.declared.Check.the-variants.{Passed, Refused}
 use Rattle.rules.specs.Fields.{written, valueOf, isField, fieldAt}
 use Rattle.rules.specs.Lists.{all, same, rowsTo}
-use Rattle.rules.specs.Sheets.{isLine, numberAt, columnOf, tableIn, checkSheet}
+use Rattle.rules.specs.Sheets.{isLine, numberAt, lineOf, columnOf, tableIn, checkSheet}
 use Rattle.rules.specs.Tables.{countOk, Accepted}
+use Rattle.theory.specs.Places.{length-rows}
 use Rattle.theory.specs.Tests.{by-bool, by-ltb, by-eqb, and-left, and-right}
-use Rattle.sheet.specs.Lines.{linesOk, line-field, lines-line, column-more, field-byte, up-down}
+use Rattle.fields.specs.Bytes.{field-byte}
+use Rattle.sheet.specs.Lines.{linesOk, line-field, lines-line, column-more, up-down}
 
 -- ---- fields and lines
-same-eq : (xs ys : List ℕ) → same xs ys ≡ true → xs ≡ ys
+pub same-eq : (xs ys : List ℕ) → same xs ys ≡ true → xs ≡ ys
 same-eq [] [] e = refl
 same-eq [] (y ∷ ys) e = let z : _≡_ {A = ℕ} 0 1 = cc in absurd (omega arith)
 same-eq (x ∷ xs) [] e = let z : _≡_ {A = ℕ} 0 1 = cc in absurd (omega arith)
@@ -71,6 +73,21 @@ column-at bytes (suc m) j i h k =
     (λ _ q. rw (q, getD-set-same (columnOf bytes m j) m (numberAt bytes (25 + 33 * m) j) 0 (omega arith)))
     (λ _ q. rw (getD-set-other (columnOf bytes m j) m i (numberAt bytes (25 + 33 * m) j) 0 q) (column-at bytes m j i (omega arith) (omega arith))))
 
+zero-entry : (m i : ℕ) → getD {A = ℕ} (replicate m 0) i 0 ≡ 0
+zero-entry zero i = refl
+zero-entry (suc m) zero = refl
+zero-entry (suc m) (suc i) = zero-entry m i
+
+pub column-zero : (bytes : List ℕ) (n j i : ℕ) → n ≤ i → i < 64 → getD (columnOf bytes n j) i 0 ≡ 0
+unfolding columnOf
+column-zero bytes n j i h k =
+    let figures = map (λ r. numberAt bytes (lineOf r) j) (rowsTo n) in
+    let e : i ≡ length figures + (i - n) = simp length-map (omega (arith, length-rows n)) in
+    getD-take 64 (figures ++ replicate 64 0) i 0 k
+    ∙ ap (λ (p : ℕ). getD (figures ++ replicate 64 0) p 0) e
+    ∙ getD-append-add figures (replicate 64 0) (i - n) 0
+    ∙ zero-entry 64 (i - n)
+
 -- ---- what an accepted sheet holds
 pub record Accepts (bytes : List ℕ) : Type 0 where
   pub first : isLine bytes 0 3 ≡ true
@@ -79,7 +96,8 @@ pub record Accepts (bytes : List ℕ) : Type 0 where
   pub lines : linesOk bytes (numberAt bytes 0 1) ≡ true
   pub accepted : Accepted (tableIn bytes)
 
-clash : {A : Type 0} {r : Refusal} → Refused r ≡ Passed → A
+-- a refusal is not a check that passed
+pub clash : {A : Type 0} {r : Refusal} → Refused r ≡ Passed → A
 clash e = let z : _≡_ {A = ℕ} 0 1 = cc in absurd (omega arith)
 
 pub accepts : (bytes : List ℕ) → checkSheet bytes ≡ Passed → Accepts bytes

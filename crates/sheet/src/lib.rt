@@ -1,106 +1,21 @@
-// The sheet reader: bytes in, a checked table out (section 6 of the rules). The bytes are only read (rule 9.3).
+// The sheet reader: bytes in, a checked table out (section 6 of the rules); they are only read (rule 9.3). The sheet writer: a checked table
+// in, its sheet out into lent bytes (section 15 of the rules).
 ghost use mathlib.Core.Path.{_≡_};
-ghost use mathlib.Core.Bool.{true, _&&_};
-ghost use Prim.Native.Nat.{_+_, _-_, _*_, _/_, _%_, _≤_, _<_};
-ghost use lib.Dec.{leb};
+ghost use mathlib.Core.Bool.{true};
+ghost use Prim.Native.Nat.{_+_, _*_, _≤_, _<_};
 ghost use lib.ListN.{length};
-ghost use Rattle.rules.specs.Fields.{digitAt, written, digitOf, valueOf, isField, fieldAt};
-ghost use Rattle.rules.specs.Sheets.{isLine, numberAt, columnOf, tableIn, readChecked, readOf};
+ghost use Rattle.rules.specs.Lists.{joined};
+ghost use Rattle.rules.specs.Orders.{andThen};
+ghost use Rattle.rules.specs.Rows.{rowsOf};
+ghost use Rattle.rules.specs.Sheets.{isLine, numberAt, columnOf, tableIn, readChecked, readOf, rowLine, sheetOf, checkRoom, checkWrite, writeOf};
 ghost use Rattle.rules.specs.Tables.{zeroTable};
-ghost use Rattle.sheet.specs.Scan.{stands, fieldIn};
+ghost use Rattle.fields.specs.Wrote.{Wrote};
 ghost use Rattle.sheet.specs.Lines.{linesOk, Lined};
 use rules::Check;
 use rules::Reading;
 use rules::Refusal;
 use rules::Table;
-
-// What a digit counts for at each of a field's eight places (rule 6.3).
-pub const WEIGHTS: [u32; 8] = [10000000, 1000000, 100000, 10000, 1000, 100, 10, 1];
-
-// What a field of eight bytes holds: a number, or nothing that is well formed.
-enum Field {
-    Number(u32),
-    Bad,
-}
-
-// What a byte adds: its digit, and 0 for a byte that is none.
-fn digit(b: u8) -> u32
-    ensures { λ r. ⌜ (r ≡ digitOf b) × (r ≤ 9) ⌝ }
-{
-    if b < 48 {
-        return 0;
-    }
-    if 57 < b {
-        return 0;
-    }
-    (b - 48) as u32
-}
-
-// The byte is a digit from least on.
-fn digit_from(least: u8, b: u8) -> bool
-    ensures { λ r. ⌜ r ≡ (leb least b && leb b 57) ⌝ }
-{
-    least <= b && b <= 57
-}
-
-// The byte may stand at the weight after digits of the value: a digit once digits have begun and at the last place,
-// before that a space or a digit from 1 on.
-fn stands(value: u32, weight: u32, b: u8) -> bool
-    ensures { λ r. ⌜ r ≡ stands value weight b ⌝ }
-{
-    if 0 < value {
-        return digit_from(48, b);
-    }
-    if weight == 1 {
-        return digit_from(48, b);
-    }
-    if b == 32 {
-        return true;
-    }
-    digit_from(49, b)
-}
-
-// The field that starts at a byte, read in one pass.
-fn read_field(bytes: &[u8], start: usize) -> Field
-    requires { ⌜ start + 8 ≤ length (now bytes) ⌝ }
-    ensures { λ r. ⌜ r ≡ fieldIn (fieldAt (now (bytes .entry)) start) ⌝ }
-{
-    let mut value: u32 = 0;
-    let mut i: usize = 0;
-    while i < 8 {
-        let b = bytes[start + i];
-        if !stands(value, WEIGHTS[i], b) {
-            return Field::Bad;
-        }
-        value = value + WEIGHTS[i] * digit(b);
-        i += 1;
-    }
-    Field::Number(value)
-}
-
-// The field that starts at a byte is well formed.
-fn field_ok(bytes: &[u8], start: usize) -> bool
-    requires { ⌜ start + 8 ≤ length (now bytes) ⌝ }
-    ensures { λ r. ⌜ r ≡ isField (fieldAt (now (bytes .entry)) start) ⌝ }
-{
-    let read = read_field(bytes, start);
-    match read {
-        Field::Number(_) => true,
-        Field::Bad => false,
-    }
-}
-
-// The number in the well-formed field that starts at a byte.
-fn number(bytes: &[u8], start: usize) -> u32
-    requires { ⌜ (start + 8 ≤ length (now bytes)) × (isField (fieldAt (now bytes) start) ≡ true) ⌝ }
-    ensures { λ r. ⌜ r ≡ valueOf (fieldAt (now (bytes .entry)) start) ⌝ }
-{
-    let read = read_field(bytes, start);
-    match read {
-        Field::Number(value) => value,
-        Field::Bad => 0,
-    }
-}
+use rules::Writing;
 
 // k fields and a line end are well formed from byte start on.
 fn line_ok(bytes: &[u8], start: usize, k: usize) -> bool
@@ -109,7 +24,7 @@ fn line_ok(bytes: &[u8], start: usize, k: usize) -> bool
 {
     let mut j: usize = 0;
     while j < k {
-        if !field_ok(bytes, start + 8 * j) {
+        if !fields::field_ok(bytes, start + 8 * j) {
             return false;
         }
         j += 1;
@@ -140,7 +55,7 @@ fn column(bytes: &[u8], n: usize, j: usize) -> [u32; 64]
     let mut figures = [0u32; 64];
     let mut i: usize = 0;
     while i < n {
-        figures[i] = number(bytes, 25 + 33 * i + 8 * (j - 1));
+        figures[i] = fields::number(bytes, 25 + 33 * i + 8 * (j - 1));
         i += 1;
     }
     figures
@@ -152,8 +67,8 @@ fn table_in(bytes: &[u8], n: u32) -> Table
     ensures { λ r. ⌜ r ≡ tableIn (now (bytes .entry)) ⌝ }
 {
     let rows = n as usize;
-    let normal = number(bytes, 8);
-    let degraded = number(bytes, 16);
+    let normal = fields::number(bytes, 8);
+    let degraded = fields::number(bytes, 16);
     let release = column(bytes, rows, 1);
     let work = column(bytes, rows, 2);
     let deadline = column(bytes, rows, 3);
@@ -213,7 +128,7 @@ pub fn read(bytes: &[u8]) -> Reading
     if !line_ok(bytes, 0, 3) {
         return refused(Refusal::Malformed); // 2, in the first line
     }
-    let n = number(bytes, 0);
+    let n = fields::number(bytes, 0);
     if !checks::count_ok(n) {
         return refused(Refusal::RowCount); // 3
     }
@@ -228,37 +143,83 @@ pub fn read(bytes: &[u8]) -> Reading
     answer(checks::check_table(table), table)
 }
 
-// The digit of a number at a weight, as its byte (48 is "0").
-fn numeral(value: u32, weight: u32) -> u8
-    requires { ⌜ 1 ≤ weight ⌝ }
-    ensures { λ r. ⌜ r ≡ 48 + value / weight % 10 ⌝ }
+// The line of the row at index k: release, work, deadline, level.
+fn put_row(out: &mut [u8], at: usize, t: Table, k: usize) -> usize
+    requires { ⌜ (k < 64) × (at + 33 ≤ length (now out)) ⌝ }
+    ensures { λ r. ⌜ Wrote (now (out .entry)) at (now (out .exit)) r (rowLine t (k + 1)) ⌝ }
 {
-    (48 + value / weight % 10) as u8
+    let after_release = fields::put_field(out, at, t.release[k]);
+    fields::put_triple(out, after_release, t.work[k], t.deadline[k], t.level[k])
 }
 
-// The byte of a number at a weight: its digit there, and a space before its first digit.
-fn byte_at(value: u32, weight: u32) -> u8
-    requires { ⌜ 1 ≤ weight ⌝ }
-    ensures { λ r. ⌜ r ≡ digitAt value weight ⌝ }
+// The lines of all rows, row 1 first.
+fn put_rows(out: &mut [u8], at: usize, t: Table) -> usize
+    requires { ⌜ (t .n ≤ 64) × (at + 33 * t .n ≤ length (now out)) ⌝ }
+    ensures { λ r. ⌜ Wrote (now (out .entry)) at (now (out .exit)) r (joined (rowLine t) (rowsOf t)) ⌝ }
 {
-    if weight <= value {
-        return numeral(value, weight);
+    let rows = t.n as usize;
+    let mut next = at;
+    let mut k: usize = 0;
+    while k < rows {
+        next = put_row(out, next, t, k);
+        k += 1;
     }
-    if weight == 1 {
-        return numeral(value, weight);
-    }
-    32
+    next
 }
 
-// The eight bytes of a number; of one from 100,000,000 on only its last eight digits.
-pub fn written(value: u32) -> [u8; 8]
-    ensures { λ r. ⌜ r ≡ written value ⌝ }
+// The sheet of a table, from byte 0 on.
+fn put_sheet(out: &mut [u8], t: Table) -> usize
+    requires { ⌜ (t .n ≤ 64) × (25 + 33 * t .n ≤ length (now out)) ⌝ }
+    ensures { λ r. ⌜ Wrote (now (out .entry)) 0 (now (out .exit)) r (sheetOf t) ⌝ }
 {
-    let mut field = [32u8; 8];
-    let mut i: usize = 0;
-    while i < 8 {
-        field[i] = byte_at(value, WEIGHTS[i]);
-        i += 1;
+    let next = fields::put_triple(out, 0, t.n, t.normal, t.degraded);
+    put_rows(out, next, t)
+}
+
+// Check 10 on any table: room bytes are enough for its sheet.
+fn check_room(t: Table, room: usize) -> Check
+    ensures { λ r. ⌜ r ≡ checkRoom t room ⌝ }
+{
+    if room < 25 + 33 * (t.n as usize) {
+        return Check::Refused(Refusal::NoRoom);
     }
-    field
+    Check::Passed
+}
+
+// The second check where the first passed.
+fn and_then(first: Check, second: Check) -> Check
+    ensures { λ r. ⌜ r ≡ andThen first second ⌝ }
+{
+    match first {
+        Check::Refused(why) => Check::Refused(why),
+        Check::Passed => second,
+    }
+}
+
+// The writer's checks: 3, 4, 5, then 10.
+fn check_write(t: Table, room: usize) -> Check
+    ensures { λ r. ⌜ r ≡ checkWrite t room ⌝ }
+{
+    and_then(checks::check_table(t), check_room(t, room))
+}
+
+// The writer's answer for any table and any lent bytes: the sheet from byte 0 on and its length, the bytes after it as they were; or the
+// first check that fails, length 0 and all bytes as they were (rules 15.2 to 15.5, 11.6).
+pub fn write(t: Table, out: &mut [u8]) -> Writing
+    ensures { λ r. ⌜ (let back = writeOf t (now (out .entry)) in (r ≡ back .said) × (now (out .exit) ≡ back .bytes)) ⌝ }
+{
+    let check = check_write(t, out.len());
+    match check {
+        Check::Refused(why) => Writing {
+            check: Check::Refused(why),
+            size: 0,
+        },
+        Check::Passed => {
+            let size = put_sheet(out, t);
+            Writing {
+                check: Check::Passed,
+                size: size as u32,
+            }
+        }
+    }
 }

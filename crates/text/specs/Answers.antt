@@ -1,5 +1,5 @@
 -- What the program promises of its text, and that every text has at most 1,617 bytes: a first line of 17 and 64 lines of 25.
-use Prim.Native.Nat.{ℕ, _+_, _*_, _≤_}
+use Prim.Native.Nat.{ℕ, _+_, _≤_}
 use mathlib.Core.Path.{_≡_, refl, sym, ap, _∙_}
 use mathlib.Core.List.{List, [], _∷_, _++_}
 use native.Mathlib.Omega.{arith}
@@ -13,16 +13,17 @@ use Rattle.rules.specs.declared.Reading.{Reading}
 use Rattle.rules.specs.declared.Planning.{Planning}
 use Rattle.rules.specs.declared.Planned.{Planned}
 use Rattle.rules.specs.declared.Planned.the-variants as Plans
-use Rattle.rules.specs.Lists.{rowsTo}
+use Rattle.rules.specs.Fields.{line}
+use Rattle.rules.specs.Lists.{rowsTo, joined}
 use Rattle.rules.specs.Numbers.{refusalNumber}
 use Rattle.rules.specs.Tables.{Accepted}
 use Rattle.rules.specs.Sheets.{tableIn, checkSheet, readChecked, readOf}
 use Rattle.rules.specs.Choice.{planOf}
-use Rattle.rules.specs.Program.{line, placeLines, planText, readText, programText}
+use Rattle.rules.specs.Program.{placeLine, planText, readText, programText}
 use Rattle.theory.specs.Facts.{facts}
 use Rattle.sheet.specs.SheetsDiffer.{accepts}
 use Rattle.text.specs.Lines.{pair-long, places-long}
-use Rattle.text.specs.Wrote.{Wrote}
+use Rattle.fields.specs.Wrote.{Wrote}
 
 -- the program's text for the input stands at the start of out', r bytes, and the bytes after it are those of out
 pub record Answered (input out out' : List ℕ) (r : ℕ) : Type 0 where
@@ -59,7 +60,7 @@ planning-text t r a e q = ap (planText t (r .order)) (sym q) ∙ ap (λ (s : Pla
 
 plan-most : (t : Table) (o : List ℕ) (p : Planned) → t .n ≤ 64 → length (planText t o p) ≤ 1617
 plan-most t o Plans.Ordered h =
-    omega (arith, length-append (line (0 ∷ t .n ∷ [])) (placeLines t o (rowsTo (t .n))), pair-long 0 (t .n), places-long t o (t .n))
+    omega (arith, length-append (line (0 ∷ t .n ∷ [])) (joined (placeLine t o) (rowsTo (t .n))), pair-long 0 (t .n), places-long t o (t .n))
 plan-most t o (Plans.NoOrder left) h = omega (arith, pair-long 7 (ones left))
 plan-most t o (Plans.Refused r) h = omega (arith, pair-long (refusalNumber r) 0)
 

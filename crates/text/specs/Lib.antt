@@ -1,4 +1,3 @@
-pub mod Wrote
 pub mod Lines
 pub mod Slacks
 pub mod Answers

@@ -17,8 +17,9 @@ use Rattle.rules.specs.Orders.{isOrder, checkOrder, checkBoth}
 use Rattle.rules.specs.Correct.{Correct}
 use Rattle.rules.specs.Worst.{worstFinish, meets}
 use Rattle.rules.specs.Choice.{padded}
+use Rattle.rules.specs.Fields.{line}
 use Rattle.rules.specs.Numbers.{plannedNumber}
-use Rattle.rules.specs.Program.{line, placeLine}
+use Rattle.rules.specs.Program.{placeLine}
 use Rattle.theory.specs.Counts.{In, in-head, in-tail, same-size}
 use Rattle.theory.specs.Facts.{Row, rows-in, facts}
 use Rattle.theory.specs.Places.{length-rows, order-rows}

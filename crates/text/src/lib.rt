@@ -1,16 +1,14 @@
 // The text that the planning program writes for a sheet: lines of 8-byte fields, each line ended by byte 10 (section 12 of the rules).
 // Each function writes from a byte of the text on and answers the byte after what it wrote.
 ghost use mathlib.Core.Path.{_≡_};
-ghost use mathlib.Core.List.{[], _∷_};
 ghost use Prim.Native.Nat.{_+_, _*_, _≤_, _<_};
 ghost use lib.ListN.{length, take};
-ghost use Rattle.rules.specs.Fields.{written};
-ghost use Rattle.rules.specs.Lists.{rowsTo};
+ghost use Rattle.rules.specs.Lists.{rowsTo, joined};
 ghost use Rattle.rules.specs.Tables.{Accepted};
 ghost use Rattle.rules.specs.Sheets.{readOf};
 ghost use Rattle.rules.specs.Choice.{planOf};
-ghost use Rattle.rules.specs.Program.{line, placeLine, placeLines, planText};
-ghost use Rattle.text.specs.Wrote.{Wrote};
+ghost use Rattle.rules.specs.Program.{placeLine, planText};
+ghost use Rattle.fields.specs.Wrote.{Wrote};
 ghost use Rattle.text.specs.Slacks.{Right, Timed};
 ghost use Rattle.text.specs.Answers.{Answered};
 use rules::Check;
@@ -23,48 +21,6 @@ pub const KEPT: usize = 2138;
 
 // The bytes of the longest text: a first line of 17 and 64 lines of 25.
 pub const LONGEST: usize = 1617;
-
-// One byte.
-fn put_byte(out: &mut [u8], at: usize, byte: u8) -> usize
-    requires { ⌜ at < length (now out) ⌝ }
-    ensures { λ r. ⌜ Wrote (now (out .entry)) at (now (out .exit)) r (byte ∷ []) ⌝ }
-{
-    out[at] = byte;
-    at + 1
-}
-
-// A number as a field.
-fn put_field(out: &mut [u8], at: usize, value: u32) -> usize
-    requires { ⌜ at + 8 ≤ length (now out) ⌝ }
-    ensures { λ r. ⌜ Wrote (now (out .entry)) at (now (out .exit)) r (written value) ⌝ }
-{
-    let field = sheet::written(value);
-    let mut i: usize = 0;
-    while i < 8 {
-        out[at + i] = field[i];
-        i += 1;
-    }
-    at + 8
-}
-
-// A line of two fields.
-fn put_pair(out: &mut [u8], at: usize, first: u32, second: u32) -> usize
-    requires { ⌜ at + 17 ≤ length (now out) ⌝ }
-    ensures { λ r. ⌜ Wrote (now (out .entry)) at (now (out .exit)) r (line (first ∷ second ∷ [])) ⌝ }
-{
-    let after_first = put_field(out, at, first);
-    let after_second = put_field(out, after_first, second);
-    put_byte(out, after_second, 10)
-}
-
-// A line of three fields.
-fn put_triple(out: &mut [u8], at: usize, first: u32, second: u32, third: u32) -> usize
-    requires { ⌜ at + 25 ≤ length (now out) ⌝ }
-    ensures { λ r. ⌜ Wrote (now (out .entry)) at (now (out .exit)) r (line (first ∷ second ∷ third ∷ [])) ⌝ }
-{
-    let after_first = put_field(out, at, first);
-    put_pair(out, after_first, second, third)
-}
 
 // The line of a place, from 1: the place, its row, and that row's slack in slots. finishes has each row's worst finish.
 fn put_place(
@@ -82,13 +38,13 @@ fn put_place(
     let deadline = t.deadline;
     let due = sweep::entry(&deadline, row);
     let finish = sweep::entry(&finishes, row);
-    put_triple(out, at, place, row as u32, due - finish)
+    fields::put_triple(out, at, place, row as u32, due - finish)
 }
 
 // The lines of all places, highest first.
 fn put_places(out: &mut [u8], at: usize, t: Table, order: [u8; 64], finishes: [u32; 64]) -> usize
     requires { ⌜ Timed t order finishes × (at + 25 * t .n ≤ length (now out)) ⌝ }
-    ensures { λ r. ⌜ Wrote (now (out .entry)) at (now (out .exit)) r (placeLines t order (rowsTo (t .n))) ⌝ }
+    ensures { λ r. ⌜ Wrote (now (out .entry)) at (now (out .exit)) r (joined (placeLine t order) (rowsTo (t .n))) ⌝ }
 {
     let mut next = at;
     let mut k: u32 = 0;
@@ -105,7 +61,7 @@ fn put_order(out: &mut [u8], t: Table, order: [u8; 64]) -> usize
     ensures { λ r. ⌜ Wrote (now (out .entry)) 0 (now (out .exit)) r (planText t order Planned.Ordered) ⌝ }
 {
     let finishes = judge::worst_finishes(t, order);
-    let next = put_pair(out, 0, 0, t.n);
+    let next = fields::put_pair(out, 0, 0, t.n);
     put_places(out, next, t, order, finishes)
 }
 
@@ -119,8 +75,8 @@ fn put_plan(out: &mut [u8], t: Table) -> usize
     let order = planning.order;
     match answer {
         Planned::Ordered => put_order(out, t, order),
-        Planned::NoOrder(left) => put_pair(out, 0, 7, sweep::how_many(left)),
-        Planned::Refused(why) => put_pair(out, 0, numbers::refusal_number(why), 0),
+        Planned::NoOrder(left) => fields::put_pair(out, 0, 7, sweep::how_many(left)),
+        Planned::Refused(why) => fields::put_pair(out, 0, numbers::refusal_number(why), 0),
     }
 }
 
@@ -143,6 +99,6 @@ pub fn program(input: &[u8], out: &mut [u8; LONGEST]) -> usize
     let table = reading.table;
     match check {
         Check::Passed => put_plan(out, table),
-        Check::Refused(why) => put_pair(out, 0, numbers::refusal_number(why), 0),
+        Check::Refused(why) => fields::put_pair(out, 0, numbers::refusal_number(why), 0),
     }
 }

@@ -11,7 +11,7 @@ use model::calls::one_slot_on_paper;
 use model::plan::plan;
 use model::program::KEPT;
 use model::run::{chosen, kept_deadline, State};
-use model::sheet::read_sheet;
+use model::sheet::{read_sheet, write_back, LONGEST_SHEET};
 use model::table::Table;
 use std::fs::File;
 use std::io::{self, BufWriter, Read, Write};
@@ -113,12 +113,27 @@ fn refuse(out: &mut impl Write, number: u32) -> io::Result<u8> {
     Ok(REFUSED)
 }
 
-/// Reads, plans and runs a sheet; gives the exit status.
+/// Whether a table's sheet is the one that was read, byte for byte (rule 15.7).
+fn sheet_line(read: &[u8], written: &[u8]) -> String {
+    let same = if written == read { "" } else { "not " };
+    format!(
+        "sheet: {} bytes, {same}the same as were read",
+        written.len()
+    )
+}
+
+/// Reads a sheet, writes it back, plans and runs it; gives the exit status.
 fn plan_and_run(out: &mut impl Write, sheet: &[u8], supplies: &[u32]) -> io::Result<u8> {
     let (number, table) = read_sheet(sheet);
     if number != 0 {
         return refuse(out, number);
     }
+    let mut lent = [0; LONGEST_SHEET];
+    let (number, length) = write_back(&table, &mut lent);
+    if number != 0 {
+        return refuse(out, number);
+    }
+    writeln!(out, "{}", sheet_line(sheet, &lent[..length as usize]))?;
     let answer = plan(&table);
     if answer.number == 7 {
         let left = rows_left(answer.left);

@@ -13,6 +13,7 @@ use compiled::stack;
 use model::order::{order_of, Order};
 use model::plain;
 use model::record::Record;
+use model::sheet::LONGEST_SHEET;
 use model::table::{Row, Table, HI};
 use std::hint::black_box;
 
@@ -25,13 +26,15 @@ const ROW_COUNTS: [u32; 4] = [8, 16, 32, 64];
 fn main() {
     println!("Ratio: time of the library divided by time of plain Rust, same run and inputs.");
     println!("Buffers for results are not cleared before a call, on either side; both sides");
-    println!("write them whole. Run records stay in place from slot to slot; a forward call");
-    println!("starts from a copy of a fresh record, and the copy is in the time of both.");
+    println!("write them whole, but of a sheet's buffer just the sheet. Run records stay in");
+    println!("place from slot to slot; a forward call starts from a copy of a fresh record,");
+    println!("and the copy is in the time of both.");
     println!("Times are the best of several batches that take turns.\n");
     pairs::print_head();
     for_each_count(|n| measure_plan("hard", &hard(n)));
     for_each_count(|n| measure_plan("easy", &easy(n)));
     for_each_count(|n| measure_judge(&hard(n)));
+    for_each_count(|n| measure_write(&hard(n)));
     for_each_count(|n| measure_slot(&last_row_open(n)));
     for_each_count(|n| measure_forward(&busy(n)));
     print_stack();
@@ -92,6 +95,23 @@ fn measure_judge(table: &Table) {
         black_box(plain::judge(table, order));
     };
     pairs::measure("judge", table.n, &mut library, &mut plain);
+}
+
+fn measure_write(table: &Table) {
+    let input = Input::of(table);
+    let (mut sheet, mut length) = ([0; LONGEST_SHEET], 0);
+    let mut library = || {
+        let (lent, room) = (sheet.as_mut_ptr(), sheet.len());
+        // SAFETY: as in `measure_plan`.
+        black_box(unsafe { raw::jb_write(black_box(&input.words), lent, room, &mut length) });
+        black_box((&sheet, length));
+    };
+    let mut other = [0; LONGEST_SHEET];
+    let mut plain = || {
+        black_box(plain::write_back(black_box(&input.table), &mut other));
+        black_box(&other);
+    };
+    pairs::measure("write a sheet", table.n, &mut library, &mut plain);
 }
 
 /// A record in which the row at the lowest place alone is open, so that every

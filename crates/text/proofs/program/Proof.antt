@@ -6,8 +6,8 @@ use mathlib.Core.List.{[], _∷_}
 use mathlib.Core.Path.{_≡_, ap, _∙_}
 use lib.ListN.{length, take}
 use Rattle.rules.specs.declared.Check.the-variants.{Passed, Refused}
-use Rattle.rules.specs.Program.{line}
-use Rattle.text.specs.Wrote.{wrote-as}
+use Rattle.rules.specs.Fields.{line}
+use Rattle.fields.specs.Wrote.{wrote-as}
 use Rattle.text.specs.Answers.{reading-accepted, reading-text, answered}
 use Rattle.text.proofs.program.Statement.{statement}
 use Rattle.text.proofs.program.Tie as tie

@@ -2,7 +2,7 @@
 use borrow.Author.Needs.{needs}
 use native.Mathlib.Omega.{arith}
 use Rattle.rules.specs.Fields.{written}
-use Rattle.text.specs.Wrote.{wrote-then}
+use Rattle.fields.specs.Wrote.{wrote-then}
 use Rattle.text.specs.Slacks.{few, both-pass}
 use Rattle.text.proofs.put_order.Statement.{statement}
 use Rattle.text.proofs.put_order.Tie as tie

@@ -4,7 +4,7 @@ use borrow.Author.Needs.{needs}
 use native.Mathlib.Omega.{arith}
 use lib.ListN.{getD}
 use Rattle.theory.specs.Facts.{Row}
-use Rattle.text.specs.Wrote.{wrote-as}
+use Rattle.fields.specs.Wrote.{wrote-as}
 use Rattle.text.specs.Slacks.{few, place-row, in-time, place-line}
 use Rattle.text.proofs.put_place.Statement.{statement}
 use Rattle.text.proofs.put_place.Tie as tie

@@ -4,16 +4,17 @@ use borrow.Author.Needs.{needs}
 use mathlib.Core.Path.{_≡_, refl, sym, ap, _∙_}
 use native.Mathlib.Omega.{arith}
 use lib.ListN.{length}
-use Rattle.rules.specs.Lists.{rowsTo}
-use Rattle.rules.specs.Program.{placeLines}
-use Rattle.text.specs.Wrote.{Wrote, wrote-none, wrote-as, wrote-then}
-use Rattle.text.specs.Lines.{places-long, places-more}
+use Rattle.rules.specs.Lists.{rowsTo, joined}
+use Rattle.rules.specs.Program.{placeLine}
+use Rattle.fields.specs.Wrote.{Wrote, wrote-none, wrote-as, wrote-then}
+use Rattle.fields.specs.Lengths.{joined-more}
+use Rattle.text.specs.Lines.{places-long}
 use Rattle.text.specs.Slacks.{few}
 use Rattle.text.proofs.put_places.Statement.{statement}
 use Rattle.text.proofs.put_places.Tie as tie
 
 abbrev Inv-loop : tie.InvT-loop
-Inv-loop out₀ at t order finishes next₀ k₀ out next k = (k ≤ t .n) × (length out ≡ length out₀) × Wrote out₀ at out next (placeLines t order (rowsTo k))
+Inv-loop out₀ at t order finishes next₀ k₀ out next k = (k ≤ t .n) × (length out ≡ length out₀) × Wrote out₀ at out next (joined (placeLine t order) (rowsTo k))
 
 abbrev μ-loop : tie.MeasureT-loop
 μ-loop out₀ at t order finishes next₀ k₀ out next k = t .n - k
@@ -54,7 +55,7 @@ loop-again c =
     let s = start l in (
       omega arith,
       p .put-place .kept .0 ∙ l .loop .inv .1,
-      wrote-as (sym (places-more (s .args .t) (s .args .order) (l .loop .k))) (wrote-then (l .loop .inv .2) (p .put-place .ensures)),
+      wrote-as (sym (joined-more (placeLine (s .args .t) (s .args .order)) (l .loop .k))) (wrote-then (l .loop .inv .2) (p .put-place .ensures)),
     )
 
 same-length : tie.Need-same-length Inv-loop μ-loop
@@ -65,7 +66,7 @@ returns c =
     let l = c .before .before in
     let s = start l in
     let e : l .loop .k ≡ s .args .t .n = omega arith in
-    wrote-as (ap (λ (j : ℕ). placeLines (s .args .t) (s .args .order) (rowsTo j)) e) (l .loop .inv .2)
+    wrote-as (ap (λ (j : ℕ). joined (placeLine (s .args .t) (s .args .order)) (rowsTo j)) e) (l .loop .inv .2)
 
 pub put-places-spec : {M : Type 1} → statement M
 put-places-spec =

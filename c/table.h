@@ -1,0 +1,581 @@
+/*
+ * Tables as their authors write them: in a rows file, which spreadsheet programs
+ * open and save, or as words on a command line. Included by c/command.c alone.
+ *
+ * It knows the form of both. It refuses what is no figure, level or heading, a
+ * figure with a zero before its other digits or above 4,294,967,295, and cells
+ * and lines that do not belong there. All other figures go to the archive as they
+ * are, which alone checks limits; rows after the 64th are read and counted, and
+ * the archive gets the count, which it refuses. Which figure made its writer
+ * refuse a table is found by asking it about tables of one row that are right but
+ * for one figure.
+ *
+ * What is said to be allowed is put together here: the largest figures are the
+ * header's limits; the smallest ones, the levels, and which figure of a line
+ * limits which other one are written in the tables of columns below.
+ */
+#ifndef JASMINEBRACE_TABLE_H
+#define JASMINEBRACE_TABLE_H
+
+#include "csv.h"
+#include "jasminebrace.h"
+
+#include <stdarg.h>
+
+enum {
+    MOST_ROWS_BYTES = 16 << 20, /* longest rows file that is looked at, in bytes: spreadsheet programs save as many as
+                                   1,048,576 empty lines below the last row */
+    SPEED_COLUMNS = 2,
+    ROW_COLUMNS = 4,
+    SPEED_HEADINGS_LINE = 1,
+    SPEEDS_LINE = 2,
+    ROW_HEADINGS_LINE = 3, /* row i stands i lines below it: empty lines are taken at the end alone */
+    SHOWN = 64,            /* bytes for a cell's text in a message */
+    ALLOWED = 96           /* bytes for the words on what is allowed */
+};
+
+/* How another figure of the same line limits those of a column. */
+typedef enum { NOT_LIMITED, BELOW_IT, UP_TO_IT, ABOVE_IT } limited_by;
+
+/* What stands in a column of a rows file. */
+typedef struct {
+    const char *heading;
+    const char *name;
+    const char *unit;    /* of its figures, NULL for levels */
+    uint32_t least;      /* smallest figure that the archive takes there */
+    uint32_t most;       /* largest figure that it takes there */
+    limited_by limit;    /* how another figure of the line limits it */
+    size_t other;        /* column of that figure, from 1; 0 where there is none */
+    const char *limited; /* how it does, in words */
+} column_kind;
+
+static const column_kind SPEED_KINDS[SPEED_COLUMNS] = {
+    {"normal speed N (work units per slot)", "normal speed N", "work units per slot", 1, JB_MOST_SPEED, NOT_LIMITED, 0, ""},
+    {"degraded speed G (work units per slot)", "degraded speed G", "work units per slot", 1, JB_MOST_SPEED, UP_TO_IT, 1,
+     ", at most N"},
+};
+static const column_kind ROW_KINDS[ROW_COLUMNS] = {
+    {"release (slots)", "release", "slots", 0, JB_LAST_DEADLINE - 1, BELOW_IT, 3, ", below the deadline"},
+    {"work (work units)", "work", "work units", 1, JB_MOST_WORK, NOT_LIMITED, 0, ""},
+    {"deadline (slots)", "deadline", "slots", 1, JB_LAST_DEADLINE, ABOVE_IT, 1, ", above the release"},
+    {"level (HI or LO)", "level", NULL, JB_LO, JB_HI, NOT_LIMITED, 0, ""},
+};
+
+/* A table as it was written, whatever its figures are. */
+typedef struct {
+    jb_table table;   /* n counts all rows; the columns hold the first 64 of them */
+    const char *file; /* the rows file's name, NULL for words on a command line */
+} written_table;
+
+/* What is wrong with a rows file, and where. */
+typedef struct {
+    size_t line;   /* from 1; 0 for the file as a whole */
+    size_t column; /* from 1; 0 for the line as a whole */
+    char what[320];
+} trouble;
+
+/* ---- rows of a table ---- */
+
+static void set_row(jb_table *table, size_t index, const uint32_t figures[ROW_COLUMNS]) {
+    table->release[index] = figures[0];
+    table->work[index] = figures[1];
+    table->deadline[index] = figures[2];
+    table->level[index] = figures[3];
+}
+
+static void get_row(const jb_table *table, size_t index, uint32_t figures[ROW_COLUMNS]) {
+    figures[0] = table->release[index];
+    figures[1] = table->work[index];
+    figures[2] = table->deadline[index];
+    figures[3] = table->level[index];
+}
+
+static void append_row(jb_table *table, const uint32_t figures[ROW_COLUMNS]) {
+    const size_t index = table->n++;
+    if (index < JB_ROWS) {
+        set_row(table, index, figures);
+    }
+}
+
+/* ---- what is allowed ---- */
+
+/* A figure with commas between its thousands. */
+static void with_commas(uint32_t figure, char text[16]) {
+    char digits[16];
+    const int count = snprintf(digits, sizeof digits, "%" PRIu32, figure);
+    for (int index = 0; index < count; index++) {
+        if (index > 0 && (count - index) % 3 == 0) {
+            *text++ = ',';
+        }
+        *text++ = digits[index];
+    }
+    *text = '\0';
+}
+
+/*
+ * The smallest and the largest figure that are allowed in a column, beside the
+ * figure that limits it if that is known. One that leaves none to choose from is
+ * beyond its own limits and does not count.
+ */
+static void limits_of(const column_kind *kind, const uint32_t *other, uint32_t *least, uint32_t *most) {
+    *least = kind->least;
+    *most = kind->most;
+    if (other == NULL) {
+        return;
+    }
+    if (kind->limit == BELOW_IT && *other > *least && *other <= *most) {
+        *most = *other - 1;
+    } else if (kind->limit == UP_TO_IT && *other >= *least && *other <= *most) {
+        *most = *other;
+    } else if (kind->limit == ABOVE_IT && *other >= *least && *other < *most) {
+        *least = *other + 1;
+    }
+}
+
+/* What is allowed in a column, in words, beside the figure that limits it; NULL where that is not known. */
+static void name_allowed(const column_kind *kind, const uint32_t *other, char *text, size_t room) {
+    uint32_t least;
+    uint32_t most;
+    char from[16];
+    char to[16];
+    limits_of(kind, other, &least, &most);
+    with_commas(least, from);
+    with_commas(most, to);
+    if (kind->unit == NULL) {
+        snprintf(text, room, "HI or LO (or %d or %d)", JB_HI, JB_LO);
+    } else if (least == most) {
+        snprintf(text, room, "only %s (%s)%s", to, kind->unit, kind->limited);
+    } else {
+        snprintf(text, room, "%s to %s %s%s", from, to, kind->unit, kind->limited);
+    }
+}
+
+/* ---- figures ---- */
+
+static bool is_digits(text_piece text) {
+    for (size_t index = 0; index < text.length; index++) {
+        if (text.bytes[index] < '0' || text.bytes[index] > '9') {
+            return false;
+        }
+    }
+    return text.length > 0;
+}
+
+/* Reads a figure. Gives NULL, or what the text is that makes it none. */
+static const char *read_figure(text_piece text, uint32_t *figure) {
+    uint64_t value = 0;
+    if (!is_digits(text)) {
+        return "is not a whole number written with digits alone, as 1000";
+    }
+    if (text.length > 1 && text.bytes[0] == '0') {
+        return "has a zero before its other digits; write it without";
+    }
+    for (size_t index = 0; index < text.length; index++) {
+        value = 10 * value + (uint64_t)(text.bytes[index] - '0');
+        if (value > UINT32_MAX) {
+            return "is above 4294967295, the largest figure that can be read";
+        }
+    }
+    *figure = (uint32_t)value;
+    return NULL;
+}
+
+/* Reads a level: its word, or a figure, which the archive may refuse. */
+static const char *read_level(text_piece text, uint32_t *level) {
+    *level = piece_is(text, "HI") ? JB_HI : JB_LO;
+    if (piece_is(text, "HI") || piece_is(text, "LO")) {
+        return NULL;
+    }
+    return is_digits(text) ? read_figure(text, level) : "is not a level";
+}
+
+/* Reads what stands in a column, from 1, of a line. False with the words for what cannot be taken. */
+static bool read_cell(const text_piece *cells, const column_kind *kinds, size_t column, uint32_t *figure, char *what,
+                      size_t room) {
+    const column_kind *kind = &kinds[column - 1];
+    const text_piece text = cells[column - 1];
+    const char *wrong = kind->unit == NULL ? read_level(text, figure) : read_figure(text, figure);
+    char shown[SHOWN];
+    char allowed[ALLOWED];
+    uint32_t other;
+    if (wrong == NULL) {
+        return true;
+    }
+    const bool known = kind->other != 0 && read_figure(cells[kind->other - 1], &other) == NULL;
+    name_allowed(kind, known ? &other : NULL, allowed, sizeof allowed);
+    show_text(text, shown, sizeof shown);
+    if (text.length == 0) {
+        snprintf(what, room, "nothing stands here; allowed: %s", allowed);
+    } else {
+        snprintf(what, room, "'%s' %s; allowed: %s", shown, wrong, allowed);
+    }
+    return false;
+}
+
+/* Reads the cells of a line. Gives 0, or the column, from 1, of the first that cannot be taken, with the words for it. */
+static size_t read_cells(const text_piece *cells, const column_kind *kinds, size_t columns, uint32_t *figures, char *what,
+                         size_t room) {
+    for (size_t column = 1; column <= columns; column++) {
+        if (!read_cell(cells, kinds, column, &figures[column - 1], what, room)) {
+            return column;
+        }
+    }
+    return 0;
+}
+
+/* ---- a rows file ---- */
+
+/* What belongs into a column of a line, both from 1; NULL where no figure does. */
+static const column_kind *kind_at(size_t line, size_t column) {
+    if (line == SPEEDS_LINE && column >= 1 && column <= SPEED_COLUMNS) {
+        return &SPEED_KINDS[column - 1];
+    }
+    if (line > ROW_HEADINGS_LINE && column >= 1 && column <= ROW_COLUMNS) {
+        return &ROW_KINDS[column - 1];
+    }
+    return NULL;
+}
+
+/* A place in a rows file in words; nothing for the file as a whole. */
+static void name_place(size_t line, size_t column, char *text, size_t room) {
+    const column_kind *kind = kind_at(line, column);
+    if (line == 0) {
+        snprintf(text, room, "%s", "");
+    } else if (column == 0) {
+        snprintf(text, room, "line %zu", line);
+    } else if (kind == NULL) {
+        snprintf(text, room, "line %zu, column %zu", line, column);
+    } else if (kind->unit == NULL) {
+        snprintf(text, room, "line %zu, column %zu (%s)", line, column, kind->name);
+    } else {
+        snprintf(text, room, "line %zu, column %zu (%s, in %s)", line, column, kind->name, kind->unit);
+    }
+}
+
+/* Notes what is wrong, and where; gives false. */
+#if defined(__GNUC__)
+__attribute__((format(printf, 4, 5)))
+#endif
+static bool set_trouble(trouble *found, size_t line, size_t column, const char *format, ...) {
+    va_list figures;
+    va_start(figures, format);
+    found->line = line;
+    found->column = column;
+    vsnprintf(found->what, sizeof found->what, format, figures);
+    va_end(figures);
+    return false;
+}
+
+/* The column, from 1, in which a heading stands; 0 if it is not found. */
+static size_t column_of(const csv_line *line, const char *heading) {
+    for (size_t index = 0; index < CSV_COLUMNS; index++) {
+        if (piece_is(line->cells[index], heading)) {
+            return index + 1;
+        }
+    }
+    return piece_is(line->beyond, heading) ? line->beyond_column : 0;
+}
+
+/* Says what stands where a heading belongs, and in which column the heading is found. */
+static bool set_heading_trouble(const csv_line *line, size_t column, const char *heading, trouble *found) {
+    const text_piece cell = line->cells[column - 1];
+    const char *quote = cell.length == 0 ? "" : "'";
+    const size_t elsewhere = column_of(line, heading);
+    char shown[SHOWN];
+    char remedy[128] = "";
+    show_text(cell, shown, sizeof shown);
+    if (elsewhere != 0) {
+        snprintf(remedy, sizeof remedy,
+                 "; that heading stands in column %zu: move its column here, or delete what stands before it", elsewhere);
+    }
+    return set_trouble(found, line->number, column, "%s%s%s stands where the heading '%s' belongs%s", quote,
+                       cell.length == 0 ? "nothing" : shown, quote, heading, remedy);
+}
+
+/*
+ * Nothing may stand after the last column of a line. In a line of figures, one
+ * that is written with a comma in it moves the cells after it there.
+ */
+static bool take_nothing_after(const csv_line *line, size_t columns, bool of_figures, trouble *found) {
+    text_piece cell;
+    const size_t column = csv_filled_after(line, columns, &cell);
+    const bool beside_speeds = column <= ROW_COLUMNS;
+    char shown[SHOWN];
+    char reason[96];
+    if (column == 0) {
+        return true;
+    }
+    show_text(cell, shown, sizeof shown);
+    if (beside_speeds) {
+        snprintf(reason, sizeof reason, "the speeds use %d of the %d columns, and nothing is allowed after column %d",
+                 SPEED_COLUMNS, ROW_COLUMNS, SPEED_COLUMNS);
+    } else {
+        snprintf(reason, sizeof reason, "a rows file has %d columns, and nothing is allowed after column %d", ROW_COLUMNS,
+                 ROW_COLUMNS);
+    }
+    return set_trouble(found, line->number, column, "'%s' stands here; %s: %s", shown, reason,
+                       of_figures      ? "delete the cell that is one too many; if a figure was written with a comma, as "
+                                         "1,000, write 1000"
+                       : beside_speeds ? "delete this cell"
+                                       : "delete this column");
+}
+
+/* Headings have to be the ones that are written, so that other columns and other units are noticed. */
+static bool take_headings(const csv_line *line, const column_kind *kinds, size_t columns, trouble *found) {
+    for (size_t column = 1; column <= columns; column++) {
+        const char *heading = kinds[column - 1].heading;
+        if (!piece_is(line->cells[column - 1], heading)) {
+            return set_heading_trouble(line, column, heading, found);
+        }
+    }
+    return take_nothing_after(line, columns, false, found);
+}
+
+/* The cell is filled, and not with digits alone. */
+static bool is_text(text_piece cell) {
+    return cell.length > 0 && !is_digits(cell);
+}
+
+/*
+ * Takes a line of figures. Text that is none is named before a cell too many, and
+ * that before digits at fault and before an empty cell: of a figure with a comma
+ * in it, as 1,000, the second part may begin with a zero.
+ */
+static bool take_figures(const csv_line *line, const column_kind *kinds, size_t columns, uint32_t *figures,
+                         trouble *found) {
+    const size_t wrong = read_cells(line->cells, kinds, columns, figures, found->what, sizeof found->what);
+    found->line = line->number;
+    found->column = wrong;
+    if (wrong != 0 && is_text(line->cells[wrong - 1])) {
+        return false;
+    }
+    return take_nothing_after(line, columns, true, found) && wrong == 0;
+}
+
+/* Takes a filled line for what its number makes it. */
+static bool take_line_of_rows(const csv_line *line, written_table *written, trouble *found) {
+    const bool of_speeds = line->number <= SPEEDS_LINE;
+    const column_kind *kinds = of_speeds ? SPEED_KINDS : ROW_KINDS;
+    const size_t columns = of_speeds ? SPEED_COLUMNS : ROW_COLUMNS;
+    uint32_t figures[ROW_COLUMNS];
+    if (line->number == SPEED_HEADINGS_LINE || line->number == ROW_HEADINGS_LINE) {
+        return take_headings(line, kinds, columns, found);
+    }
+    if (!take_figures(line, kinds, columns, figures, found)) {
+        return false;
+    }
+    if (of_speeds) {
+        written->table.normal = figures[0];
+        written->table.degraded = figures[1];
+    } else {
+        append_row(&written->table, figures);
+    }
+    return true;
+}
+
+/* Takes the next line and cuts it into cells. False at the end of the text, and with a trouble, whose line is then not 0. */
+static bool next_line(csv_text *text, csv_line *line, trouble *found) {
+    text_piece bytes;
+    size_t column;
+    found->line = 0;
+    if (!csv_take_line(text, &bytes)) {
+        return false;
+    }
+    const char separator = csv_other_separator(bytes);
+    const char *wrong = csv_cut(bytes, text->line, line, &column);
+    if (separator != 0 && (wrong != NULL || line->filled)) {
+        return set_trouble(found, text->line, 0, "the cells are separated by %s; save the file with commas between the cells",
+                           separator == ';' ? "';'" : "tabs");
+    }
+    return wrong == NULL || set_trouble(found, text->line, column, "%s", wrong);
+}
+
+/* The file ended after so many filled lines. Headings and speeds have to be there; the rows are counted by the archive. */
+static bool take_end(size_t filled, trouble *found) {
+    switch (filled) {
+    case 0: return set_trouble(found, 0, 0, "the file is empty; 'jasminebrace rows SHEET' shows what a rows file looks like");
+    case SPEED_HEADINGS_LINE:
+        return set_trouble(found, SPEEDS_LINE, 0, "the file ends where the speeds N and G belong, as 5,2 (work units per slot)");
+    case SPEEDS_LINE:
+        return set_trouble(found, ROW_HEADINGS_LINE, 0, "the file ends where the headings of the rows belong: %s,%s,%s,%s",
+                           ROW_KINDS[0].heading, ROW_KINDS[1].heading, ROW_KINDS[2].heading, ROW_KINDS[3].heading);
+    default: return true;
+    }
+}
+
+/* Reads the text of a rows file. False with the trouble. */
+static bool read_rows(text_piece text, written_table *written, trouble *found) {
+    csv_text left = csv_begin(text);
+    csv_line line;
+    size_t filled = 0;
+    size_t empty = 0; /* the first empty line */
+    memset(written, 0, sizeof *written);
+    while (next_line(&left, &line, found)) {
+        if (!line.filled) {
+            empty = empty == 0 ? line.number : empty;
+        } else if (empty != 0) {
+            return set_trouble(found, empty, 0, "this line is empty, and line %zu is not; delete the empty line", line.number);
+        } else if (take_line_of_rows(&line, written, found)) {
+            filled = line.number;
+        } else {
+            return false;
+        }
+    }
+    return found->line == 0 && take_end(filled, found);
+}
+
+/* What a file is that cannot be a rows file, by its first bytes; NULL if they may begin one. */
+static const char *other_kind_of_file(text_piece text) {
+    if (piece_begins(text, "\xFF\xFE\0\0", 4) || piece_begins(text, "\0\0\xFE\xFF", 4)) {
+        return "this is text in UTF-32; save it as CSV in UTF-8, with commas between the cells";
+    }
+    if (piece_begins(text, "\xFF\xFE", 2) || piece_begins(text, "\xFE\xFF", 2)) {
+        return "this is text in UTF-16; save it as CSV in UTF-8, with commas between the cells";
+    }
+    if (piece_begins(text, "PK", 2) || piece_begins(text, "\xD0\xCF\x11\xE0", 4)) {
+        return "this is a spreadsheet program's own file, or an archive; save it as CSV, with commas between the cells";
+    }
+    return NULL;
+}
+
+/* The text begins as a rows file does: with the first heading, after a mark and in quotes or not, whatever follows. */
+static bool begins_as_rows_file(text_piece text) {
+    const char *heading = SPEED_KINDS[0].heading;
+    const size_t length = strlen(heading);
+    text = without_blanks_before(csv_begin(text).left);
+    text = without_blanks_before(piece_after(text, piece_begins(text, "\"", 1) ? 1 : 0));
+    text.length = text.length < length ? text.length : length;
+    return piece_is(text, heading);
+}
+
+/* Writes the rows file of a table that the archive accepts. */
+static void put_rows(FILE *to, const jb_table *table) {
+    fprintf(to, "%s,%s,,\n", SPEED_KINDS[0].heading, SPEED_KINDS[1].heading);
+    fprintf(to, "%" PRIu32 ",%" PRIu32 ",,\n", table->normal, table->degraded);
+    fprintf(to, "%s,%s,%s,%s\n", ROW_KINDS[0].heading, ROW_KINDS[1].heading, ROW_KINDS[2].heading, ROW_KINDS[3].heading);
+    for (size_t index = 0; index < table->n; index++) {
+        fprintf(to, "%" PRIu32 ",%" PRIu32 ",%" PRIu32 ",%s\n", table->release[index], table->work[index],
+                table->deadline[index], table->level[index] == JB_LO ? "LO" : "HI");
+    }
+}
+
+/* ---- what the writer refuses ---- */
+
+/* The writer's answer about a table of one row. */
+static uint32_t ask_one_row(uint32_t normal, uint32_t degraded, const uint32_t figures[ROW_COLUMNS]) {
+    uint8_t sheet[JB_FIRST_LINE + JB_ROW_LINE];
+    uint32_t length;
+    jb_table table;
+    memset(&table, 0, sizeof table);
+    table.n = 1;
+    table.normal = normal;
+    table.degraded = degraded;
+    set_row(&table, 0, figures);
+    return jb_write_table(&table, sheet, sizeof sheet, &length);
+}
+
+/* A row that the writer accepts. */
+static const uint32_t RIGHT_ROW[ROW_COLUMNS] = {0, 1, 1, JB_LO};
+
+/* The writer's answer about this figure in a column, from 0, of a row that is right otherwise. */
+static uint32_t ask_figure(size_t column, uint32_t figure) {
+    uint32_t figures[ROW_COLUMNS];
+    memcpy(figures, RIGHT_ROW, sizeof figures);
+    figures[column] = figure;
+    return ask_one_row(1, 1, figures);
+}
+
+/* A figure that the writer refuses. */
+typedef struct {
+    size_t row;                    /* from 1; 0 for the speeds */
+    size_t column;                 /* from 1; 0 where none was found */
+    uint32_t figures[ROW_COLUMNS]; /* of the row, or the two speeds */
+} refused_figure;
+
+/* Which speed made the writer answer 4: N if it is refused beside a G of 1, else G. */
+static void find_refused_speed(const jb_table *table, refused_figure *found) {
+    found->column = ask_one_row(table->normal, 1, RIGHT_ROW) == JB_SPEEDS ? 1 : 2;
+    found->figures[0] = table->normal;
+    found->figures[1] = table->degraded;
+}
+
+/*
+ * Which figure made the writer answer 5: in the first row that is refused by
+ * itself, the one that is refused in a row that is right otherwise, else the
+ * release, which is measured by the deadline of its own row.
+ */
+static void find_refused_in_rows(const jb_table *table, refused_figure *found) {
+    for (size_t index = 0; index < table->n && index < JB_ROWS; index++) {
+        get_row(table, index, found->figures);
+        if (ask_one_row(1, 1, found->figures) != JB_ROW_LIMITS) {
+            continue;
+        }
+        size_t column = 1;
+        while (column < ROW_COLUMNS && ask_figure(column, found->figures[column]) != JB_ROW_LIMITS) {
+            column++;
+        }
+        found->row = index + 1;
+        found->column = column < ROW_COLUMNS ? column + 1 : 1;
+        return;
+    }
+}
+
+/* Begins a line on a place; that in a rows file is named by the file first. */
+static void put_where(FILE *to, const written_table *written) {
+    fputs("where: ", to);
+    if (written->file != NULL) {
+        fprintf(to, "%s, ", written->file);
+    }
+}
+
+/* Says which figure the writer refused and what is allowed in its place. */
+static void put_refused_figure(FILE *to, const written_table *written, const refused_figure *found) {
+    const column_kind *kind = found->row == 0 ? &SPEED_KINDS[found->column - 1] : &ROW_KINDS[found->column - 1];
+    char place[96];
+    char allowed[ALLOWED];
+    name_allowed(kind, kind->other == 0 ? NULL : &found->figures[kind->other - 1], allowed, sizeof allowed);
+    if (written->file != NULL) {
+        name_place(found->row == 0 ? SPEEDS_LINE : ROW_HEADINGS_LINE + found->row, found->column, place, sizeof place);
+    } else if (found->row == 0) {
+        snprintf(place, sizeof place, "%s", kind->name);
+    } else {
+        snprintf(place, sizeof place, "row %zu, %s", found->row, kind->name);
+    }
+    put_where(to, written);
+    fprintf(to, "%s: the figure is %" PRIu32 "\nallowed: %s\n", place, found->figures[found->column - 1], allowed);
+}
+
+/* Says which row is one too many, or that there is none, and how many are allowed. */
+static void put_refused_count(FILE *to, const written_table *written) {
+    const uint32_t n = written->table.n;
+    const bool is_words = written->file == NULL;
+    put_where(to, written);
+    if (n == 0 && is_words) {
+        fputs("after G: there is no row\n", to);
+    } else if (n == 0) {
+        fprintf(to, "line %d: there is no row\n", ROW_HEADINGS_LINE + 1);
+    } else if (is_words) {
+        fprintf(to, "row %d: there are %" PRIu32 " rows\n", JB_ROWS + 1, n);
+    } else {
+        fprintf(to, "line %d: this is row %d, and there are %" PRIu32 " rows\n", ROW_HEADINGS_LINE + JB_ROWS + 1,
+                JB_ROWS + 1, n);
+    }
+    fprintf(to, "allowed: 1 to %d rows\n", JB_ROWS);
+}
+
+/* Says where in what was written the writer found this number, and what is allowed there. */
+static void put_refused_place(FILE *to, uint32_t number, const written_table *written) {
+    refused_figure found = {0, 0, {0}};
+    if (number == JB_ROW_COUNT) {
+        put_refused_count(to, written);
+    } else if (number == JB_SPEEDS) {
+        find_refused_speed(&written->table, &found);
+    } else if (number == JB_ROW_LIMITS) {
+        find_refused_in_rows(&written->table, &found);
+    }
+    if (found.column != 0) {
+        put_refused_figure(to, written, &found);
+    }
+}
+
+#endif

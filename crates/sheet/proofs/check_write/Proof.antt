@@ -1,0 +1,21 @@
+-- The table's check, and check 10 after it.
+use borrow.Author.Needs.{needs}
+use Rattle.rules.specs.Sheets.{checkWrite}
+use Rattle.sheet.proofs.check_write.Statement.{statement}
+use Rattle.sheet.proofs.check_write.Tie as tie
+
+check-table-requires : tie.Need-check-table-requires
+check-table-requires c κs = search needs
+
+check-room-requires : tie.Need-check-room-requires
+check-room-requires c κs = search needs
+
+and-then-requires : tie.Need-and-then-requires
+and-then-requires c κs = search needs
+
+returns : tie.Need-returns
+unfolding checkWrite
+returns c = rw (← c .before .before .check-table .ensures, ← c .before .check-room .ensures) (c .and-then .ensures)
+
+pub check-write-spec : {M : Type 1} → statement M
+check-write-spec = tie.close (tie.spec check-table-requires check-room-requires and-then-requires returns)
