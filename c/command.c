@@ -1,12 +1,13 @@
 /*
- * The command tools/jasminebrace: plans, judges, runs, explains and writes sheets.
+ * The command tools/jasminebrace: plans, judges, lists, runs, explains and writes
+ * sheets.
  *
  * It has no check, no limit, no planner and no writer of its own: what it says of
- * a sheet, an order or a run is what the archive answered, and a sheet, and each
- * field of 8 bytes of a plain form, is written by the archive. It knows how a
- * sheet is laid out, in such fields, to cut it into parts and to ask the archive's
- * reader about each part inside a sheet that is right everywhere else. Rows files
- * and rows as words are in table.h.
+ * a sheet, an order or a run is what the archive answered, and a sheet, a report,
+ * and each field of 8 bytes of a plain form, is written by the archive. It knows
+ * how a sheet is laid out, in such fields, to cut it into parts and to ask the
+ * archive's reader about each part inside a sheet that is right everywhere else.
+ * Rows files and rows as words are in table.h.
  *
  * Exit status: see enum status.
  */
@@ -30,7 +31,7 @@ enum status {
 
 /* What the command line asks for. */
 typedef struct {
-    bool plain;        /* figures alone, in fields of 8 bytes */
+    bool plain;        /* figures alone, in fields of 8 bytes, or a report's bytes alone */
     bool stretches;    /* run: a line for each stretch of slots */
     const char *order; /* run: row numbers with commas between, or NULL for the planned order */
     char **words;      /* the arguments that are no options, after the command's name */
@@ -604,6 +605,19 @@ static int load_order(const request *asked, const sheet_file *sheet, const jb_ta
     return number == JB_OK ? FINE : refuse_sheet(asked, number, sheet, left);
 }
 
+/* Reads the sheet, and plans it where no order was given. Gives FINE, or a status with everything said. */
+static int load_table_and_order(const request *asked, jb_table *table, order_list *order) {
+    sheet_file sheet;
+    const int status = load_table(asked, &sheet, table);
+    return status == FINE ? load_order(asked, &sheet, table, order) : status;
+}
+
+/* The same with the order that the words after the sheet give, if there are any. */
+static int load_words(const request *asked, jb_table *table, order_list *order) {
+    const int status = add_words(asked->words + 1, asked->count - 1, order);
+    return status == FINE ? load_table_and_order(asked, table, order) : status;
+}
+
 static int64_t slack_of(const jb_table *table, const uint32_t finishes[JB_ROWS], uint32_t row) {
     return (int64_t)table->deadline[row - 1] - (int64_t)finishes[row - 1];
 }
@@ -662,16 +676,12 @@ static int plan(const request *asked) {
 }
 
 static int judge(const request *asked) {
-    sheet_file sheet;
     jb_table table;
     order_list order = {{0}, 0};
     uint32_t yes;
     uint32_t row;
     int32_t slack;
-    int status = add_words(asked->words + 1, asked->count - 1, &order);
-    if (status == FINE) {
-        status = load_table(asked, &sheet, &table);
-    }
+    const int status = load_words(asked, &table, &order);
     if (status != FINE) {
         return status;
     }
@@ -713,17 +723,10 @@ static void put_heading(const request *asked, const order_list *order, uint32_t 
 }
 
 static int finishes(const request *asked) {
-    sheet_file sheet;
     jb_table table;
     order_list order = {{0}, 0};
     uint32_t worst[JB_ROWS];
-    int status = add_words(asked->words + 1, asked->count - 1, &order);
-    if (status == FINE) {
-        status = load_table(asked, &sheet, &table);
-    }
-    if (status == FINE) {
-        status = load_order(asked, &sheet, &table, &order);
-    }
+    const int status = load_words(asked, &table, &order);
     if (status != FINE) {
         return status;
     }
@@ -747,6 +750,34 @@ static int finishes(const request *asked) {
                    level_word(table.level[row - 1]), finish, slots(finish), deadline, slots(deadline), slack, slots(slack));
         }
     }
+    return FINE;
+}
+
+/* What stands above a report: what its last line has, then name and unit of each column, 10 columns wide as its figures. */
+static const char REPORT_HEADING[] =
+    "last line: sum of needs at N (slots), count of rows with slack below 0 slots\n"
+    "                                   worst\n"
+    "     place       row need at N    finish     slack\n"
+    "  (from 1)  (from 1)   (slots)   (slots)   (slots)\n";
+
+/* The report is the archive's, byte for byte; nothing stands after it. */
+static int report(const request *asked) {
+    jb_table table;
+    order_list order = {{0}, 0};
+    uint8_t text[JB_LONGEST_REPORT];
+    uint32_t length;
+    const int status = load_words(asked, &table, &order);
+    if (status != FINE) {
+        return status;
+    }
+    const uint32_t number = jb_report_order(&table, order.places, text, sizeof text, &length);
+    if (number != JB_OK) {
+        return refuse_call(asked, number);
+    }
+    if (!asked->plain) {
+        fputs(REPORT_HEADING, stdout);
+    }
+    fwrite(text, 1, length, stdout);
     return FINE;
 }
 
@@ -878,16 +909,12 @@ static void put_open_rows(const jb_run *run) {
 }
 
 static int run_with(const request *asked, const uint32_t *supplies, size_t count) {
-    sheet_file sheet;
     jb_table table;
     jb_run run;
     order_list order = {{0}, 0};
     int status = asked->order == NULL ? FINE : add_rows(asked->order, &order);
     if (status == FINE) {
-        status = load_table(asked, &sheet, &table);
-    }
-    if (status == FINE) {
-        status = load_order(asked, &sheet, &table, &order);
+        status = load_table_and_order(asked, &table, &order);
     }
     if (status != FINE) {
         return status;
@@ -1137,6 +1164,23 @@ static const char FINISHES_HELP[] =
     "slots, deadline in slots, slots by which it finishes before its deadline, slots\n"
     "by which it finishes after it.\n";
 
+_Static_assert(JB_FIGURE == 10 && JB_PLACE_LINE == 51 && JB_TOTALS_LINE == 21, "as the heading and the help of report say");
+static const char REPORT_HELP[] =
+    "lists every job under an order, with its need, worst finish and slack in slots\n"
+    "\n"
+    "ROW.. is the order as for judge; without it the planned order is taken. A line for\n"
+    "each place, highest first: place, row, the row's need at N in slots, its worst\n"
+    "finish in slots, its slack in slots. Then a last line: the needs of all rows added\n"
+    "up, in slots, and how many rows have a slack below 0 slots. That count is 0 rows\n"
+    "exactly if the order is correct; any order is listed, with status 0. The heading\n"
+    "names each column and its unit.\n"
+    "\n"
+    "--plain: the report's bytes alone, without the heading, as the archive wrote them:\n"
+    "each figure in 10 columns, a minus right before its first digit, byte 10 at each\n"
+    "line's end; 51 bytes for each row and 21 bytes for the last line. A refusal is a\n"
+    "line of its number and the count of rows left, which is 0 but for 7, each in a\n"
+    "field of 8 bytes.\n";
+
 static const char RUN_HELP[] =
     "works a run, one slot for each supply, and says what each slot did\n"
     "\n"
@@ -1205,6 +1249,7 @@ static const command COMMANDS[] = {
     {"plan", plan, 1, 1, "plan SHEET", PLAN_HELP},
     {"judge", judge, 2, 0, "judge SHEET ROW..", JUDGE_HELP},
     {"finishes", finishes, 1, 0, "finishes SHEET [ROW..]", FINISHES_HELP},
+    {"report", report, 1, 0, "report SHEET [ROW..]", REPORT_HELP},
     {"run", run, 2, 0, "run SHEET [--order ROW,ROW..] [--stretches] SUPPLY..", RUN_HELP},
     {"explain", explain, 1, 1, "explain SHEET", EXPLAIN_HELP},
     {"sheet", sheet, 1, 0, "sheet {ROWS.csv | N G RELEASE,WORK,DEADLINE,LEVEL..}", SHEET_HELP},
@@ -1242,9 +1287,9 @@ static int put_help(const command *of) {
     }
     put_usage(stdout);
     fputs("\nSHEET and ROWS.csv are files, or - for standard input. --plain writes figures\n"
-          "alone, each in a field of 8 bytes, for scripts. What was asked for goes to standard\n"
-          "output, the explanation of a refusal to standard error (that of explain to standard\n"
-          "output).\n"
+          "alone, each in a field of 8 bytes (those of a report in 10 columns), for scripts.\n"
+          "What was asked for goes to standard output, the explanation of a refusal to\n"
+          "standard error (that of explain to standard output).\n"
           "\n"
           "Exit status: 0 an order, or yes, or done; 1 no correct order exists (number 7),\n"
           "or no; 2 refused by another number; 3 cannot be used (arguments, a file, standard\n"

@@ -1,6 +1,7 @@
 /*
  * An example for firmware writers: plan a sheet once, then run it slot by slot.
- * On the way the sheet is written back from the table that was read.
+ * On the way the sheet is written back from the table that was read, and the
+ * report of the planned order is printed.
  *
  *     example [SHEET [SUPPLY ...]]
  *
@@ -50,6 +51,20 @@ static void print_order(const uint8_t order[JB_ROWS]) {
         printf(" %u", (unsigned)order[place]);
     }
     printf("\n");
+}
+
+/* Prints every job under an order; the report is text and is printed as it is. */
+static uint32_t print_report(const jb_table *table, const uint8_t order[JB_ROWS]) {
+    static uint8_t report[JB_LONGEST_REPORT];
+    uint32_t length;
+    uint32_t number = jb_report_order(table, order, report, sizeof report, &length);
+    if (number == JB_OK) {
+        printf("report: need, worst finish and slack in slots; "
+               "last line: sum of needs in slots, rows with slack below 0\n"
+               "     place       row need at N    finish     slack\n");
+        fwrite(report, 1, length, stdout);
+    }
+    return number;
 }
 
 static bool any_open(const jb_run *run) {
@@ -169,6 +184,10 @@ static int plan_and_run(const uint8_t *sheet, size_t length, const uint32_t *sup
         return refused(number);
     }
     print_order(order);
+    number = print_report(&table, order);
+    if (number != JB_OK) {
+        return refused(number);
+    }
     number = jb_fresh_run(&table, order, &run);
     if (number != JB_OK) {
         return refused(number);

@@ -1,8 +1,8 @@
 /*
  * The library without a C library: the two functions that the archive needs, an
  * entry of its own, and a run of case P1 from its sheet to its last row; then the
- * sheet is written back. It shows what a board has to provide. Build and run it on
- * x86-64 Linux:
+ * sheet is written back, and a report of its rows. It shows what a board has to
+ * provide. Build and run it on x86-64 Linux:
  *
  *     gcc -std=c11 -O2 -ffreestanding -nostdlib -static -fno-tree-loop-distribute-patterns \
  *         -o freestanding c/freestanding.c target/staticlib/libjasminebrace.a
@@ -38,26 +38,31 @@ static const char SHEET[] = "       4       5       2\n"
                             "       5      11      19       1\n"
                             "       0       5       5       0\n";
 
+/* Its report under the planned order: place and row; need at N, worst finish and slack in slots. */
+static const char REPORT[] = "         1         1         4        10         0\n"
+                             "         2         2         3         8         2\n"
+                             "         3         3         3        19         0\n"
+                             "         4         4         1         5         0\n"
+                             "        11         0\n";
+
 static jb_table table;
 static jb_run run;
 static uint8_t written[JB_LONGEST_SHEET];
+static uint8_t report[JB_LONGEST_REPORT];
 
 /* The supply of a slot in work units: between G and N, as a warming processor has it. */
 static uint32_t supply_of(uint32_t slot) {
     return 2 + slot % 4;
 }
 
-/* The bytes written are those of SHEET. */
-static int same_sheet(uint32_t length) {
-    if (length != sizeof SHEET - 1) {
-        return 0;
-    }
+/* The bytes written are those of the text, all of them and no more. */
+static int same_text(const uint8_t *bytes, uint32_t length, const char *text) {
     for (uint32_t index = 0; index < length; index++) {
-        if (written[index] != (uint8_t)SHEET[index]) {
+        if (text[index] == '\0' || bytes[index] != (uint8_t)text[index]) {
             return 0;
         }
     }
-    return 1;
+    return text[length] == '\0';
 }
 
 static int steps(void) {
@@ -93,8 +98,11 @@ static int steps(void) {
     if (!jb_is_done(&run, 1) || jb_is_late(&run, 1) || !jb_is_done(&run, 3) || jb_is_late(&run, 3)) {
         return 7;
     }
-    if (jb_write_table(&table, written, sizeof written, &length) != JB_OK || !same_sheet(length)) {
+    if (jb_write_table(&table, written, sizeof written, &length) != JB_OK || !same_text(written, length, SHEET)) {
         return 8;
+    }
+    if (jb_report_order(&table, order, report, sizeof report, &length) != JB_OK || !same_text(report, length, REPORT)) {
+        return 9;
     }
     return 0;
 }

@@ -23,13 +23,14 @@
 #include <unistd.h>
 
 enum {
-    DEFAULT_ROUNDS = 100000, /* of fourteen calls or so each */
+    DEFAULT_ROUNDS = 100000, /* of sixteen calls or so each */
     NUMBERS = JB_NO_ROOM + 1,
     END = -1,          /* of a list of numbers */
     GUARD = 0xC5,      /* the pattern around a buffer */
     GUARD_SIZE = 256,  /* bytes of it that are checked */
     MOST_SUPPLIES = 40,
-    LONGEST_INPUT = 2300
+    LONGEST_INPUT = 2300, /* bytes, some more than a sheet has */
+    MOST_ROOM = 3400      /* bytes lent for a report, some more than one has */
 };
 
 /* ---- random numbers with a fixed seed ---- */
@@ -246,10 +247,10 @@ static size_t fill_input(uint8_t *input) {
 
 /* ---- the calls ---- */
 
-static buffer input_at, sheet_at, table_at, order_at, run_at, supplies_at, text_at, left_at, word_at, row_at, slack_at, out_at, one_at;
+static buffer input_at, sheet_at, report_at, table_at, order_at, run_at, supplies_at, text_at, left_at, word_at, row_at, slack_at, out_at, one_at;
 
 /* The functions, and the numbers that each can give. */
-enum { READ, WRITE, PLAN, JUDGE, FINISHES, FRESH, COMING, SLOT, FORWARD, PROGRAM, FUNCTIONS };
+enum { READ, WRITE, PLAN, JUDGE, FINISHES, REPORT, FRESH, COMING, SLOT, FORWARD, PROGRAM, FUNCTIONS };
 static const struct {
     const char *name;
     int numbers[NUMBERS];
@@ -259,6 +260,7 @@ static const struct {
     [PLAN] = {"plan", {0, 3, 4, 5, 7, END}},
     [JUDGE] = {"judge", {0, 3, 4, 5, 6, END}},
     [FINISHES] = {"finishes", {0, 3, 4, 5, 6, END}},
+    [REPORT] = {"report", {0, 3, 4, 5, 6, 10, END}},
     [FRESH] = {"fresh", {0, 3, 4, 5, 6, END}},
     [COMING] = {"coming", {0, 8, 9, END}},
     [SLOT] = {"slot", {0, 8, 9, END}},
@@ -277,19 +279,30 @@ static void count(int function, uint32_t number) {
     counts[function][number]++;
 }
 
-/* Lends room bytes of any values for the sheet of a table; gives the number. */
-static uint32_t write_into(size_t room, const jb_table *table, uint32_t **length) {
-    uint8_t *sheet = (uint8_t *)place(&sheet_at, room);
-    fill_with_any(sheet, room);
-    lend(&sheet_at);
+/* Lends room bytes of any values to be written to, and memory for the length of what is written. */
+static uint8_t *lend_room(buffer *in, size_t room, uint32_t **length) {
+    uint8_t *bytes = (uint8_t *)place(in, room);
+    fill_with_any(bytes, room);
+    lend(in);
     *length = (uint32_t *)place(&word_at, sizeof **length);
+    return bytes;
+}
+
+/* What was written lies within the room, and nothing after it was; with a refusal, nothing at all. */
+static void expect_written(const buffer *in, uint32_t number, uint32_t length) {
+    expect_guards(in);
+    expect_guards(&word_at);
+    expect(number == JB_OK || length == 0, "no length with a refusal");
+    expect(length <= in->size, "what is written is within the room");
+    expect(memcmp(in->start + length, in->copy + length, in->size - length) == 0, "bytes after what is written stay");
+}
+
+/* Lends room bytes for the sheet of a table; gives the number. */
+static uint32_t write_into(size_t room, const jb_table *table, uint32_t **length) {
+    uint8_t *sheet = lend_room(&sheet_at, room, length);
     uint32_t number = jb_write(jb_table_words(table), sheet, room, *length);
     count(WRITE, number);
-    expect_guards(&sheet_at);
-    expect_guards(&word_at);
-    expect(number == JB_OK || **length == 0, "no length with a refusal");
-    expect(**length <= room, "a sheet within the room");
-    expect(memcmp(sheet + **length, sheet_at.copy + **length, room - **length) == 0, "bytes after the sheet stay");
+    expect_written(&sheet_at, number, **length);
     return number;
 }
 
@@ -337,22 +350,35 @@ static void fill_lent(void) {
     lend(&order_at);
 }
 
-/* Memory of no byte, of about the length of a table's sheet, and of any length. */
-static size_t any_room(const jb_table *table) {
-    size_t length = JB_FIRST_LINE + JB_ROW_LINE * (size_t)(table->n <= JB_ROWS ? table->n : JB_ROWS);
+/* Rows of a table; 64 for a count above that. */
+static size_t rows_of(const jb_table *table) {
+    return table->n <= JB_ROWS ? table->n : JB_ROWS;
+}
+
+static size_t sheet_length(const jb_table *table) {
+    return JB_FIRST_LINE + JB_ROW_LINE * rows_of(table);
+}
+
+static size_t report_length(const jb_table *table) {
+    return JB_PLACE_LINE * rows_of(table) + JB_TOTALS_LINE;
+}
+
+/* Memory of no byte, of about this length, and of any length. */
+static size_t any_room(size_t length, uint32_t most) {
     switch (between(0, 4)) {
     case 0: return 0;
     case 1: return length - 1;
     case 2: return length;
     case 3: return length + 1;
-    default: return between(0, LONGEST_INPUT);
+    default: return between(0, most);
     }
 }
 
 /* The writer refuses what the planner refuses, and then whatever does not fit. */
 static void try_write(void) {
     const jb_table *table = (const jb_table *)table_at.start;
-    size_t room = any_room(table);
+    size_t needed = sheet_length(table);
+    size_t room = any_room(needed, LONGEST_INPUT);
     uint32_t *length;
     uint32_t number = write_into(room, table, &length);
     expect_unwritten(&table_at);
@@ -363,7 +389,6 @@ static void try_write(void) {
         expect(number == planned, "writer and planner refuse the same tables");
         return;
     }
-    size_t needed = JB_FIRST_LINE + JB_ROW_LINE * (size_t)table->n;
     expect(number == (room < needed ? JB_NO_ROOM : JB_OK), "10 exactly if the room is short");
     if (number == JB_OK) {
         jb_table again;
@@ -437,6 +462,69 @@ static void try_judge(void) {
     expect(*row >= 1 && *row <= table->n, "the row of least slack is a row");
     expect((int64_t)table->deadline[*row - 1] - finishes[*row - 1] == *slack, "slack is deadline less finish");
     expect(all_zero(finishes + table->n, (JB_ROWS - table->n) * sizeof *finishes), "zeros after the last row");
+}
+
+/* The text of a report in the making: what was added to it, and what its lines come to. */
+typedef struct {
+    char text[JB_LONGEST_REPORT + 1];
+    size_t length;       /* bytes so far */
+    int64_t needs;       /* slots */
+    int64_t least_slack; /* slots */
+    uint32_t late;       /* rows with a slack below zero */
+} listing;
+
+/* Adds the line of a place, which is looked up in the worst finishes, in slots. */
+static void list_place(listing *to, const jb_table *table, const uint8_t *order, uint32_t place, const uint32_t *finishes) {
+    uint32_t row = order[place - 1];
+    uint32_t need = (table->work[row - 1] + table->normal - 1) / table->normal;
+    int64_t slack = (int64_t)table->deadline[row - 1] - finishes[row - 1];
+    to->length += (size_t)snprintf(to->text + to->length, sizeof to->text - to->length,
+                                   "%10" PRIu32 "%10" PRIu32 "%10" PRIu32 "%10" PRIu32 "%10" PRId64 "\n", place, row, need,
+                                   finishes[row - 1], slack);
+    to->needs += need;
+    to->least_slack = slack < to->least_slack ? slack : to->least_slack;
+    to->late += slack < 0;
+}
+
+/* The report that the worst finishes make. */
+static listing list_all(const jb_table *table, const uint8_t *order) {
+    listing made = {"", 0, 0, INT64_MAX, 0};
+    uint32_t finishes[JB_ROWS];
+    expect(jb_worst_finishes(table, order, finishes) == JB_OK, "worst finishes of what the judge takes");
+    for (uint32_t place = 1; place <= table->n; place++) {
+        list_place(&made, table, order, place, finishes);
+    }
+    made.length += (size_t)snprintf(made.text + made.length, sizeof made.text - made.length, "%10" PRId64 "%10" PRIu32 "\n",
+                                    made.needs, made.late);
+    return made;
+}
+
+/* The report refuses what the judge refuses, and then whatever does not fit; else it says what judge and finishes say. */
+static void try_report(void) {
+    const jb_table *table = (const jb_table *)table_at.start;
+    const uint8_t *order = order_at.start;
+    size_t needed = report_length(table);
+    size_t room = any_room(needed, MOST_ROOM);
+    uint32_t *length, yes, row;
+    int32_t slack;
+    uint8_t *report = lend_room(&report_at, room, &length);
+    uint32_t number = jb_report(jb_table_words(table), order, report, room, length);
+    count(REPORT, number);
+    expect_unwritten(&table_at);
+    expect_unwritten(&order_at);
+    expect_written(&report_at, number, *length);
+    uint32_t judged = jb_judge_order(table, order, &yes, &row, &slack);
+    if (judged != JB_OK) {
+        expect(number == judged, "report and judge refuse the same tables and orders");
+        return;
+    }
+    expect(number == (room < needed ? JB_NO_ROOM : JB_OK), "10 exactly if the room is short");
+    if (number == JB_OK) {
+        listing made = list_all(table, order);
+        expect(*length == needed && made.length == needed, "a line for each place and one more");
+        expect(memcmp(report, made.text, needed) == 0, "the report is that of the worst finishes");
+        expect(made.least_slack == slack && (made.late == 0) == (yes == 1), "the report is that of the judge");
+    }
 }
 
 static void try_fresh(void) {
@@ -600,23 +688,56 @@ static void try_numbers(void) {
     expect(yes == 0 && row == 0 && slack == 0, "all zero on a refusal");
 }
 
-/* Room above 4 GiB, which a length of 32 bits does not hold; only the pages of the sheet are ever touched. */
+/* The rows of a table in turn, as an order of it. */
+static void fill_in_turn(uint8_t order[JB_ROWS], uint32_t n) {
+    memset(order, 0, JB_ROWS);
+    for (uint32_t place = 0; place < n; place++) {
+        order[place] = (uint8_t)(place + 1);
+    }
+}
+
+/* The largest figures that a report can have: 64 rows of the largest need, all released in the last slot that is allowed. */
+static void try_largest_figures(void) {
+    static const char last_lines[] = "        64        64   1000000  64999999 -63999999\n"
+                                     "  64000000        64\n";
+    const size_t two_lines = sizeof last_lines - 1;
+    jb_table table = {JB_ROWS, 1, 1, {0}, {0}, {0}, {0}};
+    uint8_t order[JB_ROWS], report[JB_LONGEST_REPORT];
+    uint32_t length;
+    for (uint32_t index = 0; index < JB_ROWS; index++) {
+        table.release[index] = JB_LAST_DEADLINE - 1;
+        table.work[index] = JB_MOST_WORK;
+        table.deadline[index] = JB_LAST_DEADLINE;
+        table.level[index] = JB_HI;
+    }
+    fill_in_turn(order, table.n);
+    expect(jb_report_order(&table, order, report, sizeof report, &length) == JB_OK, "a report of the largest figures");
+    expect(length == sizeof report, "the longest report");
+    expect(memcmp(report + length - two_lines, last_lines, two_lines) == 0, "the largest figures");
+}
+
+/* Room above 4 GiB, which a length of 32 bits does not hold; only the pages of the sheet and the report are ever touched. */
 static void try_far_room(void) {
     const size_t room = ((size_t)1 << 32) + 7;
     const int kind = MAP_PRIVATE | MAP_ANONYMOUS | MAP_NORESERVE;
-    uint8_t *sheet = (uint8_t *)mmap(NULL, room, PROT_READ | PROT_WRITE, kind, -1, 0);
+    uint8_t *bytes = (uint8_t *)mmap(NULL, room, PROT_READ | PROT_WRITE, kind, -1, 0);
     jb_table table;
+    uint8_t order[JB_ROWS];
     uint32_t length;
-    expect(sheet != MAP_FAILED, "addresses for a large room");
+    expect(bytes != MAP_FAILED, "addresses for a large room");
     fill_accepted(&table);
-    expect(jb_write_table(&table, sheet, room, &length) == JB_OK, "room above 4 GiB");
-    expect(length == JB_FIRST_LINE + JB_ROW_LINE * table.n && sheet[length] == 0, "the sheet and no byte more");
-    munmap(sheet, room);
+    expect(jb_write_table(&table, bytes, room, &length) == JB_OK, "room above 4 GiB");
+    expect(length == sheet_length(&table) && bytes[length] == 0, "the sheet and no byte more");
+    fill_in_turn(order, table.n);
+    expect(jb_report_order(&table, order, bytes, room, &length) == JB_OK, "room above 4 GiB for a report");
+    expect(length == report_length(&table) && bytes[length] == 0, "the report, which is longer, and no byte more");
+    munmap(bytes, room);
 }
 
 static void make_buffers(void) {
     input_at = new_buffer(LONGEST_INPUT);
     sheet_at = new_buffer(LONGEST_INPUT);
+    report_at = new_buffer(MOST_ROOM);
     table_at = new_buffer(sizeof(jb_table));
     order_at = new_buffer(JB_ROWS);
     run_at = new_buffer(sizeof(jb_run));
@@ -648,6 +769,7 @@ int main(int argc, char **argv) {
     make_buffers();
     try_limits();
     try_numbers();
+    try_largest_figures();
     try_far_room();
     for (unsigned long round = 0; round < rounds; round++) {
         try_read();
@@ -655,6 +777,7 @@ int main(int argc, char **argv) {
         try_write();
         try_plan();
         try_judge();
+        try_report();
         try_fresh();
         try_slot();
         try_forward();

@@ -1,9 +1,9 @@
 /*
  * Tests of the header's own functions, in what C11 and C++11 have in common:
  * the interface's number, the words for every number, lists of no entries, a
- * sheet written back, where a row of a run stands, and the packed verdict taken
- * apart. It says how many things it looked at; exit status 1 if one is not as it
- * should be.
+ * sheet written back, reports, where a row of a run stands, and the packed verdict
+ * taken apart. It says how many things it looked at; exit status 1 if one is not
+ * as it should be.
  */
 #include "jasminebrace.h"
 
@@ -53,6 +53,8 @@ static void look_at_empty_lists(void) {
     look(jb_judge_list(NULL, 0, 2, 1, order, &yes, &row, &slack) == JB_ROW_COUNT && yes == 0 && row == 0 && slack == 0, "no rows", 0);
     look(jb_read_table((const uint8_t *)P3, sizeof P3 - 1, &table) == JB_OK, "P3", 0);
     look(jb_write_table(&table, NULL, 0, &length) == JB_NO_ROOM && length == 0, "no room", 0);
+    length = 7;
+    look(jb_report_order(&table, order, NULL, 0, &length) == JB_NO_ROOM && length == 0, "no room for a report", 0);
     look(jb_fresh_run(&table, order, &run) == JB_OK, "fresh", 0);
     look(jb_work_forward(&run, NULL, 0, &worked) == JB_OK && worked == 0 && run.clock == 0, "no supplies", 0);
 }
@@ -80,6 +82,67 @@ static void look_at_sheet(void) {
     look(all_are(sheet + sizeof P3 - 1, sizeof sheet - (sizeof P3 - 1), 'x'), "the bytes after P3", length);
     table.n = JB_ROWS + 1;
     look(jb_write_table(&table, NULL, 0, &length) == JB_ROW_COUNT && length == 0, "no sheet of rows", table.n);
+}
+
+/* The reports of P3 under both its orders: the need at N, the worst finish and the slack of each row, all in slots. */
+static const struct {
+    uint8_t order[JB_ROWS];
+    const char *text;
+} P3_REPORTS[] = {{{1, 2},
+                   "         1         1         1         1         1\n"
+                   "         2         2         2         5        -1\n"
+                   "         3         1\n"},
+                  {{2, 1},
+                   "         1         2         2         4         0\n"
+                   "         2         1         1         3        -1\n"
+                   "         3         1\n"}};
+enum { P3_LENGTH = 2 * JB_PLACE_LINE + JB_TOTALS_LINE };
+
+/* The figures of P3 end where the header's sizes say, the bytes after them stay, and a byte too few is 10. */
+static void look_at_reports_of_p3(void) {
+    jb_table table;
+    look(jb_read_table((const uint8_t *)P3, sizeof P3 - 1, &table) == JB_OK, "P3", 0);
+    for (unsigned index = 0; index < 2; index++) {
+        const uint8_t *order = P3_REPORTS[index].order;
+        const char *expected = P3_REPORTS[index].text;
+        uint8_t report[JB_LONGEST_REPORT];
+        uint32_t length = 7;
+        memset(report, 'x', sizeof report);
+        look(jb_report_order(&table, order, report, P3_LENGTH - 1, &length) == JB_NO_ROOM && length == 0, "a byte too few, order", index);
+        look(all_are(report, sizeof report, 'x'), "no byte is written without room, order", index);
+        look(jb_report_order(&table, order, report, sizeof report, &length) == JB_OK && length == P3_LENGTH, "length, order", index);
+        look(strlen(expected) == P3_LENGTH && memcmp(report, expected, P3_LENGTH) == 0, "the report's bytes, order", index);
+        look(all_are(report + P3_LENGTH, sizeof report - P3_LENGTH, 'x'), "the bytes after the report, order", index);
+        look(report[JB_FIGURE - 1] == '1' && report[2 * JB_FIGURE - 1] == order[0] + '0', "figures of the first place, order", index);
+        look(report[2 * JB_PLACE_LINE + JB_FIGURE - 1] == '3', "sum of needs, order", index);
+    }
+}
+
+/* The longest report has 64 rows: just its length is enough. The order is looked at before the room, and the table before both. */
+static void look_at_longest_report(void) {
+    jb_table table;
+    uint8_t order[JB_ROWS];
+    uint8_t report[JB_LONGEST_REPORT];
+    uint32_t length = 7;
+    memset(&table, 0, sizeof table);
+    table.n = JB_ROWS;
+    table.normal = 1;
+    table.degraded = 1;
+    for (uint32_t index = 0; index < JB_ROWS; index++) {
+        table.work[index] = 1;
+        table.deadline[index] = JB_ROWS;
+        order[index] = (uint8_t)(index + 1);
+    }
+    look(jb_report_order(&table, order, report, sizeof report, &length) == JB_OK && length == sizeof report, "longest report", length);
+    look(memcmp(report + 63 * JB_PLACE_LINE, "        64        64         1        64         0\n", JB_PLACE_LINE) == 0, "place", 64);
+    look(memcmp(report + 64 * JB_PLACE_LINE, "        64         0\n", JB_TOTALS_LINE) == 0, "last line of rows", table.n);
+    look(jb_report_order(&table, order, report, sizeof report - 1, &length) == JB_NO_ROOM && length == 0, "a byte too few", length);
+    order[1] = 1;
+    length = 7;
+    look(jb_report_order(&table, order, NULL, 0, &length) == JB_NOT_AN_ORDER && length == 0, "no report of a row twice", 1);
+    table.n = JB_ROWS + 1;
+    length = 7;
+    look(jb_report_order(&table, order, NULL, 0, &length) == JB_ROW_COUNT && length == 0, "no report of rows", table.n);
 }
 
 /* Numbers as fields, up to the largest that a field holds, and one more. */
@@ -162,6 +225,8 @@ int main(void) {
     look_at_words();
     look_at_empty_lists();
     look_at_sheet();
+    look_at_reports_of_p3();
+    look_at_longest_report();
     look_at_fields();
     look_at_run();
     look_at_lists();

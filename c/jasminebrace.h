@@ -17,13 +17,14 @@
  *
  * Memory. Every pointer points to memory of the size that its parameter names,
  * aligned for its type. It is not null, but for one case: the functions of the
- * last part take a null list where its length is 0; the archive's own do not.
+ * last part take null for a list, or for bytes to write to, where their length is
+ * 0; the archive's own do not.
  * Memory that a call writes does not overlap other memory handed to the same
  * call. What is lent as const is never written. Results are written whole with
  * every answer, so that their memory need not be cleared before; what stands in
- * them after a refusal is said at each function. The one exception is the memory
- * for a sheet, which may have any length: jb_write writes just the sheet's bytes,
- * and none with a refusal.
+ * them after a refusal is said at each function. The exceptions are the memory
+ * for a sheet and that for a report, which may have any length: jb_write writes
+ * just the sheet's bytes and jb_report just the report's, and none with a refusal.
  *
  * Threads and interrupts. A call touches what it is handed and its own stack,
  * and nothing else. Calls on different memory may run at the same time, and so
@@ -37,9 +38,10 @@
  *     jb_write         3,584
  *     jb_field           512
  *     jb_plan          8,448
- *     jb_judge         5,888
- *     jb_judge_rows    7,680
- *     jb_finishes      4,608
+ *     jb_judge         6,656
+ *     jb_judge_rows    8,448
+ *     jb_finishes      5,632
+ *     jb_report        6,400
  *     jb_fresh         4,096
  *     jb_coming        9,216
  *     jb_slot          9,984
@@ -75,10 +77,10 @@
 
 /*
  * The number of the interface that this header describes: sizes, layouts and
- * what the numbers mean. It is raised whenever one of them changes, and not for
- * a function that is new, with a number that only it gives: an archive without
- * it does not link. jb_fits() says whether the archive that was linked is of the
- * same number.
+ * what the numbers mean. It is raised whenever one of them changes. It is not
+ * raised for a new function, nor for a number that only new functions give: an
+ * archive without them does not link. jb_fits() says whether the archive that was
+ * linked is of the same number.
  */
 #define JB_VERSION 1u
 
@@ -106,6 +108,10 @@ enum jb_limit {
     JB_ROW_LINE = 33,          /* bytes in the line of a row: release, work, deadline, level
                                   and byte 10 */
     JB_LONGEST_SHEET = 2137,   /* bytes in a sheet of 64 rows: 25 + 33 for each row */
+    JB_FIGURE = 10,            /* bytes in a figure of a report */
+    JB_PLACE_LINE = 51,        /* bytes in a report's line of a place: five figures and byte 10 */
+    JB_TOTALS_LINE = 21,       /* bytes in a report's last line: two figures and byte 10 */
+    JB_LONGEST_REPORT = 3285,  /* bytes in a report of 64 rows: 51 for each row + 21 */
     JB_PROGRAM_INPUT = 2138,   /* bytes of its input that the planning program looks at */
     JB_PROGRAM_TEXT = 1617     /* most bytes that the planning program writes */
 };
@@ -170,7 +176,7 @@ static inline const char *jb_remedy(uint32_t number) {
     case JB_NO_ORDER: return "give the rows left later deadlines or less work, or the processor more speed";
     case JB_CLOCK_OVER: return "begin a new run with a fresh record";
     case JB_UNSOUND: return "the record's memory was damaged: drop it and begin with a fresh record";
-    case JB_NO_ROOM: return "lend more memory: 2,137 bytes hold the sheet of every table";
+    case JB_NO_ROOM: return "lend more memory: 2,137 bytes hold every sheet, 3,285 bytes every report";
     default: return "compare the header with the archive by jb_fits()";
     }
 }
@@ -223,6 +229,9 @@ JB_STATIC_ASSERT(offsetof(jb_run, used) == 1360, "the slots used begin at word 6
 JB_STATIC_ASSERT(offsetof(jb_run, closing) == 1616, "the closing slots begin at word 129 of the state");
 JB_STATIC_ASSERT(sizeof(jb_run) - offsetof(jb_run, clock) == 4 * JB_STATE_WORDS, "a state is 193 words without gaps");
 JB_STATIC_ASSERT(JB_LONGEST_SHEET == JB_FIRST_LINE + JB_ROWS * JB_ROW_LINE, "the longest sheet has 64 rows");
+JB_STATIC_ASSERT(JB_PLACE_LINE == 5 * JB_FIGURE + 1, "the line of a place has five figures");
+JB_STATIC_ASSERT(JB_TOTALS_LINE == 2 * JB_FIGURE + 1, "the last line of a report has two figures");
+JB_STATIC_ASSERT(JB_LONGEST_REPORT == JB_ROWS * JB_PLACE_LINE + JB_TOTALS_LINE, "the longest report has 64 rows");
 JB_STATIC_ASSERT(JB_PROGRAM_INPUT == JB_LONGEST_SHEET + 1, "the program looks at one byte above the longest sheet");
 JB_STATIC_ASSERT(JB_PROGRAM_TEXT == 17 + 25 * JB_ROWS, "a text is a first line of 17 bytes and 25 bytes for each place");
 
@@ -252,6 +261,7 @@ uint32_t jb_judge(const uint32_t table[259], const uint8_t order[64], uint32_t *
 uint64_t jb_judge_rows(const jb_row *rows, size_t count, uint32_t normal, uint32_t degraded, const uint8_t order[64]);
 
 uint32_t jb_finishes(const uint32_t table[259], const uint8_t order[64], uint32_t finishes[64]);
+uint32_t jb_report(const uint32_t table[259], const uint8_t order[64], uint8_t *report, size_t room, uint32_t *length);
 uint32_t jb_fresh(const uint32_t table[259], const uint8_t order[64], uint32_t run_table[259], uint8_t run_order[64],
                   uint32_t run_state[193]);
 uint32_t jb_coming(const uint32_t table[259], const uint8_t order[64], const uint32_t state[193], uint32_t *row);
@@ -382,6 +392,29 @@ static inline uint32_t jb_judge_list(const jb_row *rows, size_t count, uint32_t 
  */
 static inline uint32_t jb_worst_finishes(const jb_table *table, const uint8_t order[JB_ROWS], uint32_t finishes[JB_ROWS]) {
     return jb_finishes(jb_table_words(table), order, finishes);
+}
+
+/*
+ * Lists every job under an order, as text. Each figure stands in 10 columns at
+ * their right end, spaces before it and a minus, if it has one, right before its
+ * first digit. A line for each place, highest first: the place, its row, the
+ * row's need at N in slots, its worst finish in slots, its slack in slots. Then
+ * a last line: the sum of all rows' needs at N in slots, and how many rows have
+ * a slack below zero: 0 exactly if the order is correct. Byte 10 ends each line;
+ * no byte 0 is written after the last one.
+ * In:      table and order, any values; report, memory of room bytes, any length
+ *          (JB_LONGEST_REPORT is enough for every table) and any values; null is
+ *          allowed with 0.
+ * Out:     0; length is the report's length in bytes, 51 for each row + 21, and
+ *          the first length bytes of report are the report. The bytes after
+ *          them are as they were.
+ * Refused: 3, 4 or 5 for the table, 6 for the order, else 10 if room is below the
+ *          report's length; length is then 0 and no byte of report is written.
+ */
+static inline uint32_t jb_report_order(const jb_table *table, const uint8_t order[JB_ROWS], uint8_t *report, size_t room,
+                                       uint32_t *length) {
+    uint8_t none = 0;
+    return jb_report(jb_table_words(table), order, room == 0 ? &none : report, room, length);
 }
 
 /*

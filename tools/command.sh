@@ -67,6 +67,8 @@ refused_at() {
     case_is "$status" '' "$place" judge "$file" 1
     case_is "$status" '' "$place" finishes "$file"
     case_is "$status" "$(printf '%8s%8s' "$number" 0)" "$place" finishes --plain "$file"
+    case_is "$status" '' "$place" report "$file"
+    case_is "$status" "$(printf '%8s%8s' "$number" 0)" "$place" report --plain "$file" 1
     case_is "$status" '' "$place" run "$file" 5
     case_is "$status" '' "$place" rows --plain "$file"
     case_is "$status" '' "$place" rows "$file"
@@ -88,6 +90,9 @@ also_out '       1'
 also_out '       2'
 case_is 1 '' 'rows left: 1 2' finishes p3.sheet
 case_is 1 '       7       2' 'rows left: 1 2' finishes --plain p3.sheet
+case_is 1 '' 'rows left: 1 2' report p3.sheet
+also_err 'number 7: no correct order exists'
+case_is 1 '       7       2' 'rows left: 1 2' report --plain p3.sheet
 case_is 1 '' 'rows left: 1 2' run p3.sheet 5
 case_is 0 'number 0: nothing is wrong; the sheet has 4 rows and a correct order' '' explain p1.sheet
 case_is 0 '       0       0       0       0       0' '' explain --plain p1.sheet
@@ -110,9 +115,62 @@ for order in '1 1 3 4' '1 2 3' '1 2 3 4 4' '1 2 3 5' '0 1 2 3 4' '1 2 3 4 0 1' '
     also_err 'remedy: give each row of the table once, highest place first'
     # shellcheck disable=SC2086
     case_is 2 '       6       0' '*' finishes --plain p1.sheet $order
+    # shellcheck disable=SC2086
+    case_is 2 '' 'number 6: the order does not name every row once and then only zeros' report p1.sheet $order
+    also_err 'remedy: give each row of the table once, highest place first'
+    # shellcheck disable=SC2086
+    case_is 2 '       6       0' '*' report --plain p1.sheet $order
     case_is 2 '' 'number 6: the order does not name every row once and then only zeros' run p1.sheet 5 --order "${order// /,}"
 done
 case_is 0 'yes: the order is correct' '' judge p1.sheet 1 2 3 4 0 0
+
+# ---- reports ----
+heading() {
+    lines 'last line: sum of needs at N (slots), count of rows with slack below 0 slots' \
+        '                                   worst' \
+        '     place       row need at N    finish     slack' \
+        '  (from 1)  (from 1)   (slots)   (slots)   (slots)'
+}
+# report_is SHEET ROW..: the command writes this report: in its plain form, with the heading above it, and of a sheet from standard input.
+# Its figures are taken from standard input.
+report_is() {
+    local sheet=$1 figures
+    shift
+    while read -r -a figures; do printf '%10s' "${figures[@]}" && printf '\n'; done >expected
+    heading | cat - expected >expected.headed
+    case_is 0 '*' '' report --plain "$sheet" "$@"
+    cmp -s out expected || complain "report --plain $sheet $*: not the report"
+    case_is 0 '*' '' report "$sheet" "$@"
+    cmp -s out expected.headed || complain "report $sheet $*: not the report under its heading"
+    case_in=$sheet
+    case_is 0 '*' '' report - "$@"
+    cmp -s out expected.headed || complain "report - $*, from $sheet: not the report under its heading"
+    case_in=/dev/null
+}
+p1_planned=$(lines '1 1 4 10 0' '2 2 3 8 2' '3 3 3 19 0' '4 4 1 5 0' '11 0')
+report_is p1.sheet <<<"$p1_planned"
+# The names and the units of the columns end where the figures end, with a space or more before each.
+sed -n 3,5p out >columns
+[ "$(cut -c 10,20,30,40,50 columns | grep -c '^[^ ]\{5\}$')" -eq 3 ] || complain "a name or a unit does not end where its figures end"
+[ "$(cut -c 1,11,21,31,41 columns | grep -c '^ \{5\}$')" -eq 3 ] || complain "a name or a unit runs into another column"
+report_is p1.sheet 1 2 3 4 <<<"$p1_planned"
+report_is p1.sheet 1,2 3,4 0 0 <<<"$p1_planned"
+lines '1 4 1 1 4' '2 3 3 11 8' '3 2 3 11 -1' '4 1 4 20 -10' '11 2' | report_is p1.sheet 4 3,2 1
+lines '1 1 1 1 1' '2 2 2 5 -1' '3 1' | report_is p3.sheet 1 2
+lines '1 2 2 4 0' '2 1 1 3 -1' '3 1' | report_is p3.sheet 2 1
+# Of the planned order of each sheet: places, rows and slacks are those of plan, worst finishes those of finishes, no row is late, and the
+# needs are added up from the sheet.
+for sheet in p1.sheet p2.sheet rows64.sheet; do
+    case_is 0 '*' '' report --plain "$sheet"
+    cp out report
+    [ "$(wc -c <report)" -eq $((51 * $(head -c 8 "$sheet") + 21)) ] || complain "report $sheet: $(wc -c <report) bytes"
+    head -n -1 report | awk '{ print $1, $2, $5 }' >places
+    "$command" plan --plain "$sheet" | awk 'NR > 1 { print $1, $2, $3 }' | cmp -s - places || complain "report $sheet: not the places of plan"
+    head -n -1 report | sort -k 2n | awk '{ print $2, $4 }' >worst
+    "$command" finishes --plain "$sheet" | awk 'NR > 1 { print $1, $2 }' | cmp -s - worst || complain "report $sheet: not those of finishes"
+    needs=$(awk 'NR == 1 { n = $2 } NR > 1 { sum += int(($2 + n - 1) / n) } END { print sum }' "$sheet")
+    [ "$(tail -n 1 report)" = "$(printf '%10s%10s' "$needs" 0)" ] || complain "report $sheet: not $needs slots and no late row"
+done
 
 # ---- runs ----
 case_is 0 'slot 0: row 1, supply 1 work units, got 1 of 2 work units, dropped at clock 1' '' run p3.sheet --order 1,2 10x1
@@ -179,6 +237,8 @@ for ((row = 0; row < 64; row++)); do slow+=("0,1000000,1000000,1"); done
 in_order=$(seq -s , 64)
 case_is 0 '      6464000000 1000000       063000000' '' finishes --plain slow.sheet "$in_order"
 case_is 1 '       0       0      64       063000000' '' judge --plain slow.sheet "$in_order"
+{ for ((row = 1; row <= 64; row++)); do echo "$row $row 1000000 ${row}000000 $(((1 - row) * 1000000))"; done && echo '64000000 63'; } |
+    report_is slow.sheet "$in_order"
 
 # ---- refusals with their places ----
 : >empty.sheet
@@ -609,6 +669,7 @@ hinted() { # BYTE of the sheet that is at fault
     case_is 2 '' "$hint" rows given.csv
     case_is 2 '' "$hint" judge given.csv 1
     case_is 2 '       2       0' "$hint" finishes --plain given.csv
+    case_is 2 '' "$hint" report given.csv
     case_is 2 '' "$hint" run given.csv 5
 }
 hinted 1 <p1.csv
@@ -664,7 +725,7 @@ done
 case_is 3 '' 'jasminebrace: the name of the rows file is empty' sheet ''
 case_is 3 '' 'jasminebrace: . cannot be read: Is a directory' sheet .
 case_is 3 '' 'jasminebrace: nowhere.csv cannot be opened: No such file or directory' sheet nowhere.csv
-for name in plan explain finishes rows; do
+for name in plan explain finishes report rows; do
     case_is 3 '' 'jasminebrace: the name of the sheet is empty' "$name" ''
     case_is 3 '' 'jasminebrace: . cannot be read: Is a directory' "$name" .
     case_is 3 '' 'jasminebrace: nowhere.sheet cannot be opened: No such file or directory' "$name" nowhere.sheet
@@ -675,15 +736,21 @@ case_is 3 '' 'jasminebrace: run takes at least 2 arguments; 1 given' run p1.shee
 case_is 3 '' 'jasminebrace: sheet takes at least 1 argument; 0 given' sheet
 also_err 'usage: jasminebrace sheet {ROWS.csv | N G RELEASE,WORK,DEADLINE,LEVEL..}'
 case_is 3 '' 'jasminebrace: finishes takes at least 1 argument; 0 given' finishes
+case_is 3 '' 'jasminebrace: report takes at least 1 argument; 0 given' report
+also_err 'usage: jasminebrace report SHEET [ROW..]'
 case_is 3 '' 'jasminebrace: --order and --stretches belong to run' plan p1.sheet --stretches
 case_is 3 '' 'jasminebrace: --order and --stretches belong to run' judge p1.sheet --order 1,2,3,4 1
+case_is 3 '' 'jasminebrace: --order and --stretches belong to run' report p1.sheet --order 1,2,3,4
 case_is 3 '' 'jasminebrace: --order needs row numbers with commas between' run p1.sheet 5 --order
 for bad in x -1 1.5 '' '1,' ',1' '1,,2' ' 1' '1 2' 0x1 99999999999999999999; do
     case_is 3 '' "jasminebrace: not a row number: '$bad'" judge p1.sheet 1 2 "$bad"
     case_is 3 '' "jasminebrace: not a row number: '$bad'" finishes p1.sheet "$bad"
+    case_is 3 '' "jasminebrace: not a row number: '$bad'" report --plain p1.sheet 1 "$bad"
     case_is 3 '' "jasminebrace: not a row number: '$bad'" run p1.sheet 5 --order "$bad"
 done
-case_is 3 '' 'jasminebrace: an order has at most 64 places; more row numbers were given' judge p1.sheet "${rows[@]//*/1}"
+for name in judge report; do
+    case_is 3 '' 'jasminebrace: an order has at most 64 places; more row numbers were given' "$name" p1.sheet "${rows[@]//*/1}"
+done
 for bad in x -1 1.5 '' 5x x5 0x5 1000X5 2x2x2 4294967296 1x4294967296 99999999999999999999x1 ' 5'; do
     case_is 3 '' "jasminebrace: not a supply from 0 to 4294967295, nor a count from 1 and a supply as 1000x5: '$bad'" run p1.sheet 5 "$bad"
 done
@@ -694,8 +761,9 @@ if [ "$(id -u)" -ne 0 ]; then
     cp p1.sheet shut.sheet && chmod 000 shut.sheet
     case_is 3 '' 'jasminebrace: shut.sheet cannot be opened: Permission denied' plan shut.sheet
 fi
-for words in 'plan p1.sheet' 'plan --plain p1.sheet' 'judge p1.sheet 1 2 3 4' 'finishes p1.sheet' 'run p1.sheet 5' \
-    'run p1.sheet 2000000x5' 'explain p1.sheet' 'explain p3.sheet' 'sheet 5 2 0,20,10,1' 'sheet p1.csv' 'rows p1.sheet' '--help' '--version'; do
+for words in 'plan p1.sheet' 'plan --plain p1.sheet' 'judge p1.sheet 1 2 3 4' 'finishes p1.sheet' 'report p1.sheet' \
+    'report --plain rows64.sheet' 'run p1.sheet 5' 'run p1.sheet 2000000x5' 'explain p1.sheet' 'explain p3.sheet' \
+    'sheet 5 2 0,20,10,1' 'sheet p1.csv' 'rows p1.sheet' '--help' '--version'; do
     cases=$((cases + 1))
     for full in /dev/full closed; do
         status=0
@@ -711,7 +779,7 @@ done
 # ---- help and version ----
 case_is 0 'usage: jasminebrace COMMAND [--plain] ARGUMENTS' '' --help
 case_is 0 "jasminebrace, interface $(sed -n 's/^#define JB_VERSION \([0-9]*\)u$/\1/p' "$root/c/jasminebrace.h")" '' --version
-for name in plan judge finishes run explain sheet rows; do
+for name in plan judge finishes report run explain sheet rows; do
     case_is 0 '*' '' "$name" --help
     grep -q "^usage: jasminebrace $name " out || complain "$name --help: no usage"
     grep -q -- '--plain' out || complain "$name --help: nothing on --plain"

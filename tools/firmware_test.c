@@ -561,6 +561,56 @@ static void sheet_of_record(void) {
     puts("a record's table gives its sheet, byte for byte as it was read; 10 writes nothing");
 }
 
+/* How many rows have a slack below 0 slots, by the last figure of a list of all jobs. */
+static uint32_t late_rows(const uint8_t *list, uint32_t length) {
+    char figure[JB_FIGURE + 1] = "";
+    memcpy(figure, list + length - 1 - JB_FIGURE, JB_FIGURE);
+    return (uint32_t)strtoul(figure, NULL, 10);
+}
+
+/* The list of a record's jobs: the same at any clock, of its length, with the sum of the needs at N; 10 writes nothing. */
+static void list_of_record(const jb_table *table, const uint8_t order[JB_ROWS]) {
+    uint8_t list[JB_LONGEST_REPORT], again[JB_LONGEST_REPORT];
+    char sum[JB_FIGURE + 1];
+    uint32_t row, length, other, needs = 0;
+    jb_run run = fresh_run(table, order);
+    must(jb_report_order(table, order, list, sizeof list, &length) == JB_OK, "the jobs are not listed");
+    must(length == 51 * table->n + 21, "the list has not 51 bytes for each row and 21 bytes");
+    must(late_rows(list, length) == 0, "a planned order is listed with a late row");
+    for (row = 1; row <= table->n; row++) {
+        needs += (table->work[row - 1] + table->normal - 1) / table->normal;
+    }
+    snprintf(sum, sizeof sum, "%10u", needs);
+    must(memcmp(list + length - JB_TOTALS_LINE, sum, JB_FIGURE) == 0, "the needs do not add up");
+    must(jb_work_slot(&run, table->normal, &row) == JB_OK, "a slot is refused");
+    memset(again, 'x', sizeof again);
+    must(jb_report_order(&run.table, run.order, again, length - 1, &other) == JB_NO_ROOM && other == 0, "a byte too few is not 10");
+    must(memchr(again, '\n', sizeof again) == NULL && memchr(again, ' ', sizeof again) == NULL, "10 writes a byte");
+    must(jb_report_order(&run.table, run.order, again, sizeof again, &other) == JB_OK && other == length, "another length");
+    must(memcmp(again, list, length) == 0, "the list changes with the clock");
+}
+
+/* Lists of planned orders have no late row, and those of other orders have none exactly if the judge says yes. */
+static void list_of_jobs(void) {
+    uint32_t wrong = 0;
+    for (int trial = 0; trial < TABLES; trial++) {
+        uint8_t planned[JB_ROWS], turned[JB_ROWS] = {0}, list[JB_LONGEST_REPORT];
+        uint32_t length, yes, row;
+        int32_t slack;
+        jb_table table = planned_table(planned);
+        list_of_record(&table, planned);
+        for (uint32_t place = 0; place < table.n; place++) {
+            turned[place] = planned[table.n - 1 - place];
+        }
+        must(jb_judge_order(&table, turned, &yes, &row, &slack) == JB_OK, "an order is not judged");
+        must(jb_report_order(&table, turned, list, sizeof list, &length) == JB_OK, "the jobs are not listed");
+        must((late_rows(list, length) == 0) == (yes == 1), "no late row is not yes");
+        wrong += yes == 0;
+    }
+    must(wrong > TABLES / 4 && wrong < TABLES, "%u orders were not correct", wrong);
+    puts("the list of all jobs: the same at any clock, no late row exactly if the order is correct; 10 writes nothing");
+}
+
 /* The end of the clock: 8, nothing changes, and the loop begins no slot. Missed slots reported as 0 drop a LO row. */
 static void clock_end(void) {
     static const uint8_t order[JB_ROWS] = {2, 1};
@@ -663,12 +713,14 @@ static void refusals(void) {
     static const uint8_t other[JB_ROWS] = {1, 1};
     jb_table table = empty_table(2, 1);
     jb_run run;
+    uint32_t length;
     new_board(&table, 2, 2, 0);
     must(plot(&table, &run) == JB_ROW_COUNT, "no rows are not 3");
     add_row(&table, 0, 2, 2, JB_LO);
     add_row(&table, 0, 4, 4, JB_HI);
     must(plot(&table, &run) == JB_NO_ORDER, "the table without an order is not 7");
     must(jb_fresh_run(&table, other, &run) == JB_NOT_AN_ORDER, "a row twice is not 6");
+    must(jb_report_order(&table, other, NULL, 0, &length) == JB_NOT_AN_ORDER, "a row twice in a list without room is not 6");
     table.normal = 1001;
     must(plot(&table, &run) == JB_SPEEDS, "N 1,001 is not 4");
     table.normal = 2;
@@ -694,6 +746,7 @@ int main(void) {
     given_up();
     restored();
     sheet_of_record();
+    list_of_jobs();
     clock_end();
     started();
     fallen_counter();

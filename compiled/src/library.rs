@@ -11,16 +11,16 @@ use model::judge::Verdict;
 use model::order::Order;
 use model::plan::Plan;
 use model::record::{Forward, OneSlot, Record};
-use model::sheet::LONGEST_SHEET;
+use model::report::LONGEST_REPORT;
 use model::table::{Row, Table, ROWS};
 
 const RUBBISH: u32 = 0xA5A5_A5A5;
 const RUBBISH_BYTE: u8 = 0xA5;
 
 /// Bytes of rubbish on either side of lent memory that the library may write:
-/// no fewer than a sheet has, so that one written in the wrong place stays
-/// between them.
-const GUARD: usize = LONGEST_SHEET;
+/// no fewer than a report has, and so than a sheet, so that one written in the
+/// wrong place stays between them.
+const GUARD: usize = LONGEST_REPORT;
 
 /// The reader: number and table.
 pub fn read(sheet: &[u8]) -> (u32, Table) {
@@ -37,20 +37,12 @@ pub fn read(sheet: &[u8]) -> (u32, Table) {
 /// refusal every one (rules 15.3 and 15.5).
 pub fn write(table: &Table, lent: &mut [u8]) -> (u32, u32) {
     let words = raw::table_words(table);
-    let mut memory = Guarded::around(lent);
-    let mut length = RUBBISH;
-    // SAFETY: as in `read`.
-    let number = unsafe { raw::jb_write(&words, memory.start(), lent.len(), &mut length) };
+    let answer = write_text(lent, &|sheet, room, length| {
+        // SAFETY: as in `read`.
+        unsafe { raw::jb_write(&words, sheet, room, length) }
+    });
     assert_eq!(words, raw::table_words(table), "the table was written");
-    let left = memory.between_guards();
-    let written = if number == 0 { length as usize } else { 0 };
-    assert!(written <= lent.len(), "{written} of {} bytes", lent.len());
-    assert!(
-        left[written..] == lent[written..],
-        "a byte that is none of the sheet's was written"
-    );
-    lent.copy_from_slice(left);
-    (number, length)
+    answer
 }
 
 /// A number as a field, and whether it holds the number.
@@ -118,6 +110,19 @@ pub fn finishes(table: &Table, order: &Order) -> (u32, Finishes) {
     let number = unsafe { raw::jb_finishes(&lent.table, &lent.order, &mut finishes) };
     lent.assert_unwritten(table, order);
     (number, finishes)
+}
+
+/// The report: number and length of its lines in bytes. The lent bytes are then
+/// as the library has left them: all but the report's as they were, and with a
+/// refusal every one (rules 16.6 and 16.8).
+pub fn report(table: &Table, order: &Order, lent: &mut [u8]) -> (u32, u32) {
+    let inputs = Lent::new(table, order);
+    let answer = write_text(lent, &|report, room, length| {
+        // SAFETY: as in `read`.
+        unsafe { raw::jb_report(&inputs.table, &inputs.order, report, room, length) }
+    });
+    inputs.assert_unwritten(table, order);
+    answer
 }
 
 /// The fresh record.
@@ -223,17 +228,64 @@ impl Lent {
     }
 }
 
+/// A call that writes a text into lent bytes: it takes where they start, how many
+/// they are and where the text's length goes, and gives its number.
+type WriteText<'a> = &'a dyn Fn(*mut u8, usize, &mut u32) -> u32;
+
+/// What such a call answers, and the text that it wrote: none with a refusal.
+#[derive(Debug, PartialEq, Eq)]
+struct Written {
+    number: u32,
+    length: u32,
+    text: Vec<u8>,
+}
+
+/// Makes such a call on these bytes and gives its number and the length. It is
+/// made again with every bit of them and of the rubbish around them turned over,
+/// so that no byte that is written can pass for one that was left, and what
+/// stood there before cannot matter unseen.
+fn write_text(lent: &mut [u8], call: WriteText) -> (u32, u32) {
+    let turned: Vec<u8> = lent.iter().map(|&byte| !byte).collect();
+    let written = write_between_guards(lent, RUBBISH, call);
+    let again = write_between_guards(&turned, !RUBBISH, call);
+    assert_eq!(written, again, "it matters what stood there before");
+    lent[..written.text.len()].copy_from_slice(&written.text);
+    (written.number, written.length)
+}
+
+/// Makes the call over these bytes with rubbish around them and in the length.
+/// All bytes but the text's have to be left as they were.
+fn write_between_guards(before: &[u8], rubbish: u32, call: WriteText) -> Written {
+    let mut memory = Guarded::around(before, rubbish as u8);
+    let mut length = rubbish;
+    let number = call(memory.start(), before.len(), &mut length);
+    let left = memory.between_guards();
+    let written = if number == 0 { length as usize } else { 0 };
+    let room = before.len();
+    assert!(written <= room, "{written} of {room} bytes");
+    let (text, after) = left.split_at(written);
+    assert!(
+        *after == before[written..],
+        "a byte that is none of the text's was written"
+    );
+    Written {
+        number,
+        length,
+        text: text.to_vec(),
+    }
+}
+
 /// Lent bytes that the library may write, with rubbish on either side.
 struct Guarded {
     memory: Vec<u8>,
+    rubbish: u8,
 }
 
 impl Guarded {
-    fn around(lent: &[u8]) -> Guarded {
-        let guard = [RUBBISH_BYTE; GUARD];
-        Guarded {
-            memory: [&guard, lent, &guard].concat(),
-        }
+    fn around(lent: &[u8], rubbish: u8) -> Guarded {
+        let guard = [rubbish; GUARD];
+        let memory = [&guard, lent, &guard].concat();
+        Guarded { memory, rubbish }
     }
 
     /// Where the lent bytes start.
@@ -245,7 +297,7 @@ impl Guarded {
     fn between_guards(&self) -> &[u8] {
         let (below, rest) = self.memory.split_at(GUARD);
         let (lent, above) = rest.split_at(rest.len() - GUARD);
-        let is_whole = |guard: &[u8]| guard.iter().all(|&byte| byte == RUBBISH_BYTE);
+        let is_whole = |guard: &[u8]| guard.iter().all(|&byte| byte == self.rubbish);
         assert!(is_whole(below), "a byte before the lent ones was written");
         assert!(is_whole(above), "a byte behind the lent ones was written");
         lent

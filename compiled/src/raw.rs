@@ -46,6 +46,13 @@ extern "C" {
         order: *const Order,
         finishes: *mut Finishes,
     ) -> u32;
+    pub fn jb_report(
+        table: *const TableWords,
+        order: *const Order,
+        report: *mut u8,
+        room: usize,
+        length: *mut u32,
+    ) -> u32;
     pub fn jb_fresh(
         table: *const TableWords,
         order: *const Order,

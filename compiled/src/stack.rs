@@ -6,6 +6,7 @@ use crate::raw::{self, StateWords, TableWords};
 use crate::sheets::{easy, hard, largest, longest_windows};
 use model::order::{order_of, Order};
 use model::record::Record;
+use model::report::LONGEST_REPORT;
 use model::sheet::{sheet_of, LONGEST_SHEET};
 use model::table::Table;
 use std::ffi::{c_int, c_void};
@@ -169,7 +170,7 @@ type Call = fn(&Inputs);
 
 /// Every export with the memory that it is lent. What is written lies outside
 /// the measured stack, in `Results`.
-const CALLS: [(&str, Call); 13] = [
+const CALLS: [(&str, Call); 14] = [
     ("jb_read", |on| {
         with_results(|out| unsafe {
             raw::jb_read(on.sheet.as_ptr(), on.sheet.len(), &mut out.table);
@@ -205,6 +206,12 @@ const CALLS: [(&str, Call); 13] = [
     ("jb_finishes", |on| {
         with_results(|out| unsafe {
             raw::jb_finishes(&on.table, &on.order, &mut out.words);
+        })
+    }),
+    ("jb_report", |on| {
+        with_results(|out| unsafe {
+            let (report, room) = (out.report.as_mut_ptr(), out.report.len());
+            raw::jb_report(&on.table, &on.order, report, room, &mut out.words[0]);
         })
     }),
     ("jb_fresh", |on| {
@@ -255,6 +262,7 @@ static SUPPLIES: [u32; 3_000] = [2; 3_000];
 /// Memory for the results of every call.
 struct Results {
     sheet: [u8; LONGEST_SHEET],
+    report: [u8; LONGEST_REPORT],
     field: [u8; 8],
     table: TableWords,
     order: Order,
@@ -270,6 +278,7 @@ fn with_results(call: impl FnOnce(&mut Results)) {
     use std::sync::Mutex;
     static RESULTS: Mutex<Results> = Mutex::new(Results {
         sheet: [0; LONGEST_SHEET],
+        report: [0; LONGEST_REPORT],
         field: [0; 8],
         table: [0; raw::TABLE_WORDS],
         order: [0; 64],

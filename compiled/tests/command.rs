@@ -13,6 +13,7 @@ use model::place::place_of_fault;
 use model::plain;
 use model::program::planning_program;
 use model::random::Random;
+use model::report::LONGEST_REPORT;
 use model::run::{kept_deadline, State};
 use model::sheet::{
     read_field, read_sheet, sheet_of, write_line, write_sheet, FIRST_LINE, ROW_LINE,
@@ -133,11 +134,25 @@ fn plan_is_what_the_program_writes() {
     tally.assert_common(&[0, 1, 2, 3, 4, 5, 7], 40);
 }
 
+/// What a refusal is in plain form, and the status.
+fn refused(number: u32, rows_left: u32) -> (Vec<u8>, i32) {
+    (write_line(&[number, rows_left]), status_of(number))
+}
+
+/// What a command writes for the planned order, and the status.
+fn planned(table: &Table, lines: impl Fn(&Table, &Order) -> Vec<u8>) -> (Vec<u8>, i32) {
+    let plan = plain::plan(table);
+    match plan.number {
+        0 => (lines(table, &plan.order), 0),
+        number => refused(number, plan.rows_left()),
+    }
+}
+
 /// What judge and finishes write for an order, refusals included.
 fn judged(table: &Table, order: &Order) -> ((Vec<u8>, i32), (Vec<u8>, i32)) {
     let verdict = plain::judge(table, order);
     if verdict.number != 0 {
-        let refused = (write_line(&[verdict.number, 0]), status_of(verdict.number));
+        let refused = refused(verdict.number, 0);
         return (refused.clone(), refused);
     }
     let [before, after] = slack_fields(verdict.slack);
@@ -188,14 +203,103 @@ fn judge_and_finishes() {
         assert_eq!(command(&arguments, &sheet), finishes, "{table:?} {order:?}");
         tally.saw(judge.1);
         // Without an order, the planned one.
-        let plan = plain::plan(&table);
-        let planned = match plan.number {
-            0 => (finish_lines(&table, &plan.order), 0),
-            number => (write_line(&[number, plan.rows_left()]), status_of(number)),
-        };
+        let planned = planned(&table, finish_lines);
         assert_eq!(command(&["finishes", "--plain", "-"], &sheet), planned);
     }
     tally.assert_common(&[0, 1, 2], 40);
+}
+
+/// What stands above a report: what its last line has, and the name and the unit
+/// of each column.
+const REPORT_HEADING: &str = "\
+last line: sum of needs at N (slots), count of rows with slack below 0 slots
+                                   worst
+     place       row need at N    finish     slack
+  (from 1)  (from 1)   (slots)   (slots)   (slots)
+";
+
+/// The bytes of the report of a table under an order of it.
+fn report_bytes(table: &Table, order: &Order) -> Vec<u8> {
+    let mut report = vec![0; LONGEST_REPORT];
+    let (number, length) = plain::report(table, order, &mut report);
+    assert_eq!(number, 0, "{table:?} {order:?}");
+    report.truncate(length as usize);
+    report
+}
+
+/// The report that the command has to write for an order, and its status.
+fn reported(table: &Table, order: &Order) -> (Vec<u8>, i32) {
+    match check_order(table.n, order) {
+        0 => (report_bytes(table, order), 0),
+        number => refused(number, 0),
+    }
+}
+
+/// The command writes this report with `--plain`, and under the heading without;
+/// of a refusal only the plain form has anything on standard output.
+fn assert_report(words: &[&str], sheet: &[u8], (report, status): &(Vec<u8>, i32)) {
+    let plain = [&["report", "--plain", "-"], words].concat();
+    assert_eq!(command(&plain, sheet), (report.clone(), *status));
+    let headed = match status {
+        0 => [REPORT_HEADING.as_bytes(), report].concat(),
+        _ => Vec::new(),
+    };
+    let headed_words = [&["report", "-"], words].concat();
+    assert_eq!(command(&headed_words, sheet), (headed, *status));
+}
+
+/// Reports of given orders, correct and not, of the planned order, and of
+/// numbers that are no order.
+#[test]
+fn reports() {
+    let mut random = Random::seeded(711);
+    let mut tally = Tally::new("command report, by status and late rows");
+    let mut compare = |words: &[&str], sheet: &[u8], expected: (Vec<u8>, i32)| {
+        assert_report(words, sheet, &expected);
+        let late = expected.1 == 0 && !expected.0.ends_with(b"         0\n");
+        tally.saw((expected.1, late));
+    };
+    for sheet in sample_sheets() {
+        let (number, table) = read_sheet(&sheet);
+        assert_eq!(number, 0, "samples are accepted");
+        compare(&[], &sheet, planned(&table, report_bytes));
+    }
+    for _ in 0..400 {
+        let table = a_table(&mut random);
+        let order = any_order(&mut random, table.n, 4);
+        let sheet = sheet_of(&table);
+        let words = order_words(&order);
+        let words: Vec<&str> = words.iter().map(String::as_str).collect();
+        compare(&words, &sheet, reported(&table, &order));
+        compare(&[], &sheet, planned(&table, report_bytes));
+    }
+    tally.assert_common(&[(0, false), (0, true), (1, false), (2, false)], 40);
+}
+
+/// A sheet that is refused has no report: its number stands in the plain form,
+/// and the explanation is that of the other commands.
+#[test]
+fn reports_of_refused_sheets() {
+    let mut random = Random::seeded(712);
+    let mut tally = Tally::new("command report, by the sheet's number");
+    for _ in 0..200 {
+        for sheet in sheets(&mut random) {
+            let (number, table) = read_sheet(&sheet);
+            let expected = match number {
+                0 => planned(&table, report_bytes),
+                _ => refused(number, 0),
+            };
+            let (report, errors, status) = command_with_errors(&["report", "--plain", "-"], &sheet);
+            assert_eq!((report, status), expected, "{}", text_or_bytes(&sheet));
+            let explained = match status {
+                0 => Vec::new(),
+                _ => command(&["explain", "-"], &sheet).0,
+            };
+            assert_eq!(errors.as_bytes(), explained);
+            tally.saw(if status == 1 { 7 } else { number });
+        }
+    }
+    tally.assert_common(&[0, 1, 2, 3, 4, 5, 7], 20);
 }
 
 /// A line for each slot of the run on paper: slot, row, got, work, how it closed.

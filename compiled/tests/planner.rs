@@ -4,23 +4,14 @@
 
 mod common;
 
-use common::{for_each_small_table, large_table, small_table, spoil_table, Tally};
+use common::{for_each_small_table, large_table, small_table, spoil_table, Tally, MODEL_LARGE};
 use compiled::library;
 use compiled::sheets::{easy, hard, largest, tight};
 use model::order::NO_ORDER;
 use model::plain;
 use model::plan::{plan, Plan};
-use model::random::{Random, Ranges};
+use model::random::Random;
 use model::table::{check_table, Table, LO};
-
-/// Figures of tables of up to 64 rows that the model can still plan.
-const MODEL_LARGE: Ranges = Ranges {
-    rows: 64,
-    speed: 5,
-    release: 60,
-    need: 2,
-    window: 1,
-};
 
 fn compare_all(table: &Table, tally: &mut Tally<u32>) {
     let of_model = plan(table);

@@ -9,7 +9,10 @@ use common::sheets::{
     damaged, for_each_length, for_each_of_several_changes, for_each_single_byte_change,
     sheets_at_limits, small_sheets, text, LONGEST,
 };
-use common::{for_each_small_table, large_table, small_table, spoil_table, Tally};
+use common::{
+    for_each_length_of_figures, for_each_small_table, for_each_word_changed, large_table, rubbish,
+    small_table, spoil_by_several, Tally,
+};
 use compiled::sheets::{easy, hard, largest, longest_windows};
 use compiled::{library, raw};
 use model::cases::{p1, p2, p3, p4, table};
@@ -19,11 +22,6 @@ use model::sheet::{field_of, read_sheet, sheet_of, write_back, LONGEST_SHEET};
 use model::table::Table;
 use std::collections::HashMap;
 use std::fs;
-
-/// Bytes that no sheet has, each other than its neighbours.
-fn rubbish(length: usize) -> Vec<u8> {
-    (0..length).map(|index| 128 | index as u8).collect()
-}
 
 /// Bytes in the sheet of a table of n rows (rule 15.8).
 fn length_of(n: u32) -> usize {
@@ -205,23 +203,14 @@ fn every_room() {
     assert_eq!(length_of(64), LONGEST_SHEET);
 }
 
-/// Where a number gets a digit more: 0, 1, 9, 10, 99, 100 and so on up to
-/// 1,000,000, in each field that may hold it.
+/// In each field, every length of figure that it may hold, and 0.
 #[test]
 fn figures_of_every_length() {
     let mut tally = Tally::new("writer, figures of every length");
-    let powers = (0..=6).map(|digits| 10u32.pow(digits));
-    let figures: Vec<u32> = powers.flat_map(|power| [power - 1, power]).collect();
-    for &release in &figures {
-        for &work in &figures {
-            for &deadline in &figures {
-                for level in [0, 1] {
-                    let one = table(10, 9, &[[release, work, deadline, level]]);
-                    compare(&one, length_of(1), &mut tally);
-                }
-            }
-        }
-    }
+    for_each_length_of_figures(|figures| {
+        let one = table(10, 9, &[figures]);
+        compare(&one, length_of(1), &mut tally);
+    });
     for normal in 1..=1_000 {
         for degraded in [1, 9, 10, 99, 100, 999, 1_000] {
             let paced = table(normal, degraded, &[[0, 1, 1, 0]]);
@@ -260,16 +249,6 @@ fn one_figure_edited() {
     assert_eq!(read_sheet(&lent), (0, edited));
 }
 
-/// Damages the table so that 3, 4 or 5 refuses it, or several of them would.
-fn damage(random: &mut Random, table: &mut Table) {
-    let wanted = random.between(1, 7);
-    for number in [5, 4, 3] {
-        if wanted >> (number - 3) & 1 == 1 {
-            spoil_table(random, table, number);
-        }
-    }
-}
-
 /// One refusal and several at once, with too little room and with enough: the
 /// first in the order 3, 4, 5, 10 is given (rule 11.6).
 #[test]
@@ -285,7 +264,7 @@ fn damaged_tables() {
         };
         let length = length_of(table.n);
         if !random.once_in(4) {
-            damage(&mut random, &mut table);
+            spoil_by_several(&mut random, &mut table);
         }
         let room = random.one_of(&[0, 24, length - 1, length, length + 1, LONGEST]);
         let number = compare(&table, room, &mut tally);
@@ -301,30 +280,12 @@ fn damaged_tables() {
 #[test]
 fn every_word_changed() {
     let mut tally = Tally::new("writer, every word changed");
-    let figures = [
-        0,
-        1,
-        2,
-        4,
-        64,
-        65,
-        1_000,
-        1_001,
-        1_000_000,
-        1_000_001,
-        u32::MAX,
-    ];
     for table in [p1(), hard(64)] {
-        let words = raw::table_words(&table);
-        for index in 0..words.len() {
-            for figure in figures {
-                let mut changed = words;
-                changed[index] = figure;
-                for room in [0, length_of(table.n) - 1, length_of(table.n), LONGEST] {
-                    compare(&raw::table_of(&changed), room, &mut tally);
-                }
+        for_each_word_changed(&table, |changed| {
+            for room in [0, length_of(table.n) - 1, length_of(table.n), LONGEST] {
+                compare(changed, room, &mut tally);
             }
-        }
+        });
     }
     tally.assert_common(&[0, 5, 10], 1_000);
     tally.assert_common(&[3, 4], 40);

@@ -1,7 +1,7 @@
-//! The tables and answers of cases P1 to P4 (section 13 of the rules), for tests
-//! here and of the compiled library.
+//! The tables and answers of cases P1 to P4 (section 13 of the rules), and
+//! reports worked out by hand, for tests here and of the compiled library.
 
-use crate::order::{order_of, NO_ORDER};
+use crate::order::{order_of, Order, NO_ORDER};
 use crate::plan::Plan;
 use crate::table::{Row, Table};
 
@@ -76,3 +76,77 @@ pub const P1_TEXT: &str = concat!(
     "       3       3       0\n",
     "       4       4       0\n",
 );
+
+/// Tables, an order of each, and their reports byte for byte (section 16 of the
+/// rules). P1 is reported under the planner's order and from its last row up,
+/// P3 under both of its orders. Then come single rows: the most slack that there
+/// is, the last slack that is not late, and the first that is.
+pub fn reports() -> [(Table, Order, &'static str); 7] {
+    let alone = order_of(&[1]);
+    [
+        (
+            p1(),
+            order_of(&[1, 2, 3, 4]),
+            concat!(
+                "         1         1         4        10         0\n",
+                "         2         2         3         8         2\n",
+                "         3         3         3        19         0\n",
+                "         4         4         1         5         0\n",
+                "        11         0\n",
+            ),
+        ),
+        (
+            p1(),
+            order_of(&[4, 3, 2, 1]),
+            concat!(
+                "         1         4         1         1         4\n",
+                "         2         3         3        11         8\n",
+                "         3         2         3        11        -1\n",
+                "         4         1         4        20       -10\n",
+                "        11         2\n",
+            ),
+        ),
+        (
+            p3(),
+            order_of(&[1, 2]),
+            concat!(
+                "         1         1         1         1         1\n",
+                "         2         2         2         5        -1\n",
+                "         3         1\n",
+            ),
+        ),
+        (
+            p3(),
+            order_of(&[2, 1]),
+            concat!(
+                "         1         2         2         4         0\n",
+                "         2         1         1         3        -1\n",
+                "         3         1\n",
+            ),
+        ),
+        (
+            table(1, 1, &[[0, 1, 1_000_000, 0]]),
+            alone,
+            concat!(
+                "         1         1         1         1    999999\n",
+                "         1         0\n",
+            ),
+        ),
+        (
+            table(10, 1, &[[3, 7, 10, 1]]),
+            alone,
+            concat!(
+                "         1         1         1        10         0\n",
+                "         1         0\n",
+            ),
+        ),
+        (
+            table(10, 1, &[[3, 7, 9, 1]]),
+            alone,
+            concat!(
+                "         1         1         1        10        -1\n",
+                "         1         1\n",
+            ),
+        ),
+    ]
+}

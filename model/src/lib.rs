@@ -23,6 +23,7 @@
 //! | `judge`   | the judge of orders                                          |
 //! | `sheet`   | the sheet's fields, its reader and its writer                |
 //! | `place`   | where a refused sheet is at fault                           |
+//! | `report`  | the report: its figures, lines and totals                    |
 //! | `program` | the planning program from input bytes to output bytes        |
 //! | `cases`   | the tables and answers of cases P1 to P4                     |
 //! | `random`  | a fixed-seed generator of numbers and tables for tests       |
@@ -38,6 +39,7 @@ pub mod plan;
 pub mod program;
 pub mod random;
 pub mod record;
+pub mod report;
 pub mod run;
 pub mod sheet;
 pub mod table;

@@ -11,7 +11,8 @@ use crate::judge::Verdict;
 use crate::order::{Order, NO_ORDER};
 use crate::plan::Plan;
 use crate::record::Record;
-use crate::sheet::{read_sheet, write_field, write_line, FIELD, FIRST_LINE, LINE_END, ROW_LINE};
+use crate::report::{figure, LAST_LINE, PLACE_LINE};
+use crate::sheet::{read_sheet, write_field, write_line, FIRST_LINE, LINE_END, ROW_LINE};
 use crate::table::{check_table, need, Table, HI, LO, ROWS};
 
 /// What a row can take in its worst runs, and the rows by release.
@@ -286,21 +287,54 @@ pub fn write_back(table: &Table, lent: &mut [u8]) -> (u32, u32) {
         return (10, 0);
     };
     let (first, rows) = sheet.split_at_mut(FIRST_LINE);
-    put_line(first, &[table.n, table.normal, table.degraded]);
+    put_line(first, &[table.n, table.normal, table.degraded], write_field);
     for (index, line) in rows.chunks_exact_mut(ROW_LINE).enumerate() {
         let (release, work) = (table.release[index], table.work[index]);
         let (deadline, level) = (table.deadline[index], table.level[index]);
-        put_line(line, &[release, work, deadline, level]);
+        put_line(line, &[release, work, deadline, level], write_field);
     }
     (0, length as u32)
 }
 
-/// These numbers as fields, and the line end in the last byte.
-fn put_line(line: &mut [u8], numbers: &[u32]) {
-    for (field, &number) in line.chunks_exact_mut(FIELD).zip(numbers) {
-        field.copy_from_slice(&write_field(number));
+/// These numbers, each as the bytes that `write` gives, and the line end in the
+/// last byte.
+fn put_line<Number: Copy, const WIDTH: usize>(
+    line: &mut [u8],
+    numbers: &[Number],
+    write: impl Fn(Number) -> [u8; WIDTH],
+) {
+    for (bytes, &number) in line.chunks_exact_mut(WIDTH).zip(numbers) {
+        bytes.copy_from_slice(&write(number));
     }
-    line[FIELD * numbers.len()] = LINE_END;
+    line[WIDTH * numbers.len()] = LINE_END;
+}
+
+/// The report: number and length of its lines in bytes. It allocates nothing,
+/// and takes both totals over the lines while it writes them.
+pub fn report(table: &Table, order: &Order, lent: &mut [u8]) -> (u32, u32) {
+    let (refusal, finishes) = finishes(table, order);
+    if refusal != 0 {
+        return (refusal, 0);
+    }
+    let of_places = PLACE_LINE * table.n as usize;
+    let length = of_places + LAST_LINE;
+    let Some(report) = lent.get_mut(..length) else {
+        return (10, 0);
+    };
+    let (places, last) = report.split_at_mut(of_places);
+    let (mut needs, mut late) = (0, 0);
+    for (place, line) in places.chunks_exact_mut(PLACE_LINE).enumerate() {
+        let index = order[place] as usize - 1;
+        let need = i64::from(need(table.work[index], table.normal));
+        let finish = i64::from(finishes[index]);
+        let slack = i64::from(table.deadline[index]) - finish;
+        needs += need;
+        late += i64::from(slack < 0);
+        let numbers = [place as i64 + 1, index as i64 + 1, need, finish, slack];
+        put_line(line, &numbers, figure);
+    }
+    put_line(last, &[needs, late], figure);
+    (0, length as u32)
 }
 
 /// What the planning program writes: the model's reader and writer around this

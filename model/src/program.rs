@@ -19,14 +19,14 @@ pub fn planning_program(input: &[u8]) -> Vec<u8> {
     }
     let answer = plan(&table);
     match answer.number {
-        0 => report(&table, &answer),
+        0 => lines_after_success(&table, &answer),
         number => write_line(&[number, answer.rows_left()]),
     }
 }
 
 /// The lines after a success: 0 and n, then place, row and slack (in slots) of
 /// each place (rules 12.4 and 12.5).
-fn report(table: &Table, answer: &Plan) -> Vec<u8> {
+fn lines_after_success(table: &Table, answer: &Plan) -> Vec<u8> {
     let mut output = write_line(&[0, table.n]);
     for place in 1..=table.n {
         let row = answer.order[place as usize - 1];

@@ -152,14 +152,19 @@ pub fn sheet_of(table: &Table) -> Vec<u8> {
 /// before the room (rules 15.4 and 11.6). Bytes after the sheet stay as they
 /// were, and with a refusal all do (rules 15.3 and 15.5).
 pub fn write_back(table: &Table, lent: &mut [u8]) -> (u32, u32) {
-    let refusal = check_table(table);
-    if refusal != 0 {
-        return (refusal, 0);
+    match check_table(table) {
+        0 => put_text(&sheet_of(table), lent),
+        refusal => (refusal, 0),
     }
-    let sheet = sheet_of(table);
-    if lent.len() < sheet.len() {
+}
+
+/// Puts a sheet or a report at the start of lent bytes and leaves those after it
+/// as they were; gives 0 and its length in bytes. With fewer lent bytes than it
+/// has it gives 10 and 0, and leaves them all (rule 10.10).
+pub fn put_text(text: &[u8], lent: &mut [u8]) -> (u32, u32) {
+    if lent.len() < text.len() {
         return (10, 0);
     }
-    lent[..sheet.len()].copy_from_slice(&sheet);
-    (0, sheet.len() as u32)
+    lent[..text.len()].copy_from_slice(text);
+    (0, text.len() as u32)
 }

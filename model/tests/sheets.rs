@@ -2,6 +2,9 @@
 //! inputs longer than any sheet. The writer: what was read comes back, and lent
 //! bytes of every length (section 15 of the rules).
 
+mod common;
+
+use common::rubbish;
 use model::cases::{p1, p2, row, table};
 use model::program::{planning_program, KEPT};
 use model::random::{table_in, Random, Ranges};
@@ -208,11 +211,6 @@ fn bytes_after_those_kept_change_no_answer() {
     }
     assert_eq!(seen[0], 0);
     assert!(seen[1] > 20 && seen[2] > 20 && seen[3] > 20, "{seen:?}");
-}
-
-/// Bytes that no sheet has, each other than its neighbours.
-fn rubbish(length: usize) -> Vec<u8> {
-    (0..length).map(|index| 128 | index as u8).collect()
 }
 
 /// Writes an accepted table into just enough bytes, and reads it again (rules

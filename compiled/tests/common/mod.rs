@@ -1,9 +1,11 @@
-//! What several test files share: tallies of answers, tables, orders, supplies.
+//! What several test files share: tallies of answers, tables, orders, supplies,
+//! lent bytes.
 #![allow(dead_code)]
 
 pub mod records;
 pub mod sheets;
 
+use compiled::raw;
 use compiled::sheets::{random_order, tight};
 use model::cases::row;
 use model::order::{check_order, Order, NO_ORDER};
@@ -46,6 +48,11 @@ impl<Kind: Ord + Debug> Drop for Tally<Kind> {
     }
 }
 
+/// Bytes that neither a sheet nor a report has, each other than its neighbours.
+pub fn rubbish(length: usize) -> Vec<u8> {
+    (0..length).map(|index| 128 | index as u8).collect()
+}
+
 /// Calls `with` on every table of one to three rows whose figures come from a
 /// small grid: 239,940 tables, some with an order and some with none.
 pub fn for_each_small_table(mut with: impl FnMut(&Table)) {
@@ -77,6 +84,48 @@ fn grid_rows() -> Vec<Row> {
     rows
 }
 
+/// Calls `with` on the four figures of a row at both levels, where release, work
+/// and deadline are every one of 0, 1, 9, 10, 99, 100 and so on up to 1,000,000.
+pub fn for_each_length_of_figures(mut with: impl FnMut([u32; 4])) {
+    let powers = (0..=6).map(|digits| 10u32.pow(digits));
+    let figures: Vec<u32> = powers.flat_map(|power| [power - 1, power]).collect();
+    for &release in &figures {
+        for &work in &figures {
+            for &deadline in &figures {
+                for level in [0, 1] {
+                    with([release, work, deadline, level]);
+                }
+            }
+        }
+    }
+}
+
+/// Calls `with` on this table with each of its words, those after the last row
+/// too, changed to figures at and past the limits.
+pub fn for_each_word_changed(table: &Table, mut with: impl FnMut(&Table)) {
+    let figures = [
+        0,
+        1,
+        2,
+        4,
+        64,
+        65,
+        1_000,
+        1_001,
+        1_000_000,
+        1_000_001,
+        u32::MAX,
+    ];
+    let words = raw::table_words(table);
+    for index in 0..words.len() {
+        for figure in figures {
+            let mut changed = words;
+            changed[index] = figure;
+            with(&raw::table_of(&changed));
+        }
+    }
+}
+
 /// Figures for tables that the model plans quickly.
 pub const SMALL: Ranges = Ranges {
     rows: 6,
@@ -92,6 +141,15 @@ pub const LARGE: Ranges = Ranges {
     speed: 1_000,
     release: 150,
     need: 6,
+    window: 1,
+};
+
+/// Figures of tables of up to 64 rows that the model can still work.
+pub const MODEL_LARGE: Ranges = Ranges {
+    rows: 64,
+    speed: 5,
+    release: 60,
+    need: 2,
     window: 1,
 };
 
@@ -170,6 +228,16 @@ pub fn spoil_table(random: &mut Random, table: &mut Table, number: u32) {
             4 => table.deadline[index] = 0,
             _ => spoil_tail(random, table),
         },
+    }
+}
+
+/// The table changed so that 3, 4 or 5 refuses it, or several of them would.
+pub fn spoil_by_several(random: &mut Random, table: &mut Table) {
+    let wanted = random.between(1, 7);
+    for number in [5, 4, 3] {
+        if wanted >> (number - 3) & 1 == 1 {
+            spoil_table(random, table, number);
+        }
     }
 }
 

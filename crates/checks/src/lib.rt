@@ -1,4 +1,4 @@
-// The need of a job (rule 1.8), and checks 3 to 6 on tables and orders (section 5 of the rules).
+// The need of a job (rule 1.8), checks 3 to 6 on tables and orders (section 5 of the rules), and check 10 on lent bytes (rule 10.10).
 ghost use mathlib.Core.Path.{_≡_};
 ghost use mathlib.Core.Bool.{_&&_};
 ghost use Prim.Native.Nat.{ℕ, _≤_};
@@ -8,7 +8,8 @@ ghost use Rattle.rules.specs.Lists.{all, allZero, count, rowsTo};
 ghost use Rattle.rules.specs.Need.{need};
 ghost use Rattle.rules.specs.Rows.{rowsOf};
 ghost use Rattle.rules.specs.Tables.{countOk, speedsOk, rowOk, tailOk, checkTable};
-ghost use Rattle.rules.specs.Orders.{checkOrder, checkBoth};
+ghost use Rattle.rules.specs.Orders.{checkOrder, andThen, checkBoth};
+ghost use Rattle.rules.specs.Lent.{checkRoom};
 ghost use Rattle.checks.specs.Limits.{limitsOk};
 use rules::Check;
 use rules::Refusal;
@@ -186,5 +187,25 @@ pub fn check_both(t: Table, order: [u8; 64]) -> Check
     match table {
         Check::Refused(why) => Check::Refused(why),
         Check::Passed => check_order(t, order),
+    }
+}
+
+// Check 10: room bytes are enough for a text of size bytes.
+pub fn check_room(size: usize, room: usize) -> Check
+    ensures { λ r. ⌜ r ≡ checkRoom size room ⌝ }
+{
+    if room < size {
+        return Check::Refused(Refusal::NoRoom);
+    }
+    Check::Passed
+}
+
+// The second check where the first passed.
+pub fn and_then(first: Check, second: Check) -> Check
+    ensures { λ r. ⌜ r ≡ andThen first second ⌝ }
+{
+    match first {
+        Check::Refused(why) => Check::Refused(why),
+        Check::Passed => second,
     }
 }

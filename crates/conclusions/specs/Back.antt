@@ -1,5 +1,5 @@
 -- The table author's conclusions about the writer, from its definition and the theorems on reading and writing.
-use Prim.Native.Nat.{ℕ, _+_, _*_, _<_}
+use Prim.Native.Nat.{ℕ, _+_}
 use mathlib.Core.Bool.{_&&_}
 use mathlib.Core.List.{List, _++_}
 use mathlib.Core.Path.{_≡_, refl, sym, ap, _∙_}
@@ -13,12 +13,12 @@ use Rattle.rules.specs.declared.Check.{Check}
 use Rattle.rules.specs.declared.Check.the-variants.{Passed, Refused}
 use Rattle.rules.specs.declared.Reading.{Reading}
 use Rattle.rules.specs.Fields.{fitsField, written}
+use Rattle.rules.specs.Lent.{WrittenBack, writeChecked}
 use Rattle.rules.specs.Lists.{all}
 use Rattle.rules.specs.Numbers.{refusalNumber, checkNumber}
-use Rattle.rules.specs.Orders.{andThen}
 use Rattle.rules.specs.Rows.{rowsOf}
 use Rattle.rules.specs.Sheets as Sheets
-use Rattle.rules.specs.Sheets.{numberAt, checkSheet, readChecked, readOf, sheetOf, checkRoom, checkWrite, WrittenBack, writeChecked, writeOf}
+use Rattle.rules.specs.Sheets.{numberAt, checkSheet, readChecked, readOf, sheetOf, checkWrite, writeOf}
 use Rattle.rules.specs.Tables.{countOk, speedsOk, rowOk, tailOk, checkTable, Accepted, FullTable, zeroTable}
 use Rattle.theory.specs.Tests.{by-bool, by-ltb}
 use Rattle.fields.specs.Values.{value-written, field-written, last-digits}
@@ -26,18 +26,19 @@ use Rattle.fields.specs.Lengths.{written-long}
 use Rattle.planner.specs.Promise.{refusal-number}
 use Rattle.sheet.specs.SheetsDiffer.{accepts}
 use Rattle.sheet.specs.RoundTrip.{read-back, sheet-back, only-sheet, table-full}
-use Rattle.sheet.specs.Writer.{sheet-long, passes, fits, too-short, long-enough, back-refused, back-passed}
+use Rattle.sheet.specs.Writer.{sheet-long, passes, fits, back-refused, back-passed}
 use Rattle.jasminebrace.specs.Finishes.{yesWord}
 use Rattle.jasminebrace.specs.Words.{tableIn, wordsOf}
 use Rattle.jasminebrace.specs.Inverse.{words-of-table-in, table-in-words-of}
 use Rattle.conclusions.specs.declared.Again.{Again}
 use Rattle.conclusions.specs.Author.{passed-check}
 use Rattle.conclusions.specs.Entries.{full-table}
+use Rattle.conclusions.specs.Rooms.{ten-is, own-is}
 use Rattle.conclusions.specs.Conclusions.{SheetBack, SheetAgain, NumberField}
 
 -- ---- the numbers of the writer's checks
 -- the table's own refusals are not 10
-table-not-ten : (t : Table) → checkNumber (checkTable t) ≡ 10 → ⊥
+pub table-not-ten : (t : Table) → checkNumber (checkTable t) ≡ 10 → ⊥
 unfolding checkTable checkNumber refusalNumber
 table-not-ten t e =
     by-bool (countOk (t .n))
@@ -53,28 +54,6 @@ table-not-ten t e =
 not-passed : (r : Refusal) → checkNumber (Refused r) ≡ 0 → ⊥
 unfolding checkNumber
 not-passed r e = refusal-number r .0 e
-
-module _ (t : Table) (room : ℕ) where
-  -- 10 is said of the room alone
-  ten-room : (c : Check) → checkTable t ≡ c → checkNumber (andThen c (checkRoom t room)) ≡ 10 → Accepted t × (room < 25 + 33 * t .n)
-  unfolding checkNumber
-  ten-room Passed e h = (
-    e,
-    by-ltb room (25 + 33 * t .n)
-        (λ _ k. k)
-        (λ _ k. let z : _≡_ {A = ℕ} 0 10 = rw (long-enough t room k) at h in absurd (omega arith)),
-  )
-  ten-room (Refused r) e h = absurd (table-not-ten t (ap checkNumber e ∙ h))
-
-  -- another number is the table's own
-  own-number : (c : Check) → checkTable t ≡ c → (checkNumber (andThen c (checkRoom t room)) ≡ 10 → ⊥)
-      → checkNumber (andThen c (checkRoom t room)) ≡ checkNumber (checkTable t)
-  unfolding checkNumber refusalNumber
-  own-number Passed e h =
-      by-ltb room (25 + 33 * t .n)
-      (λ _ k. absurd (h (rw (too-short t room k))))
-      (λ _ k. rw (long-enough t room k, e))
-  own-number (Refused r) e h = rw e
 
 -- ---- bytes that read as a table in words
 -- every table that is answered has full columns, that of zeros too
@@ -120,7 +99,7 @@ module _ (table lent : List ℕ) (words : length table ≡ 259) where
   abbrev Back : WrittenBack → Type 0
   Back b = SheetBack table lent (checkNumber (b .said .check)) (b .said .size) (b .bytes)
 
-  by-check : (c : Check) → checkWrite u (length lent) ≡ c → Back (writeChecked c u lent)
+  by-check : (c : Check) → checkWrite u (length lent) ≡ c → Back (writeChecked c (sheetOf u) lent)
   unfolding checkNumber checkWrite
   by-check Passed e =
       let f = fits u (length lent) e in
@@ -151,8 +130,10 @@ module _ (table lent : List ℕ) (words : length table ≡ 259) where
         rest = λ z. absurd (not-passed r z);
         whole = refl;
         refused = λ _. (refl, refl);
-        ten = λ z. let p = ten-room u (length lent) (checkTable u) refl (ap checkNumber e ∙ z) in (p .0, omega (arith, p .1, count));
-        own = λ z. ap checkNumber (sym e) ∙ own-number u (length lent) (checkTable u) refl (λ w. z (ap checkNumber (sym e) ∙ w));
+        ten = λ z.
+            let p = ten-is (checkTable u) (length (sheetOf u)) (length lent) (table-not-ten u) (ap checkNumber e ∙ z) in
+            (p .0, omega (arith, p .1, sheet-long u, count));
+        own = λ z. ap checkNumber (sym e) ∙ own-is (checkTable u) (length (sheetOf u)) (length lent) (λ w. z (ap checkNumber (sym e) ∙ w));
       }
 
   pub written-back : let b = writeOf u lent in SheetBack table lent (checkNumber (b .said .check)) (b .said .size) (b .bytes)
@@ -202,7 +183,7 @@ module _ (sheet lent : List ℕ) (long : length lent ≡ 2137) where
         none = λ n. absurd (n refl);
       }
   by-sheet (Refused r) e =
-      let w : writeOf (tableIn (wordsOf zeroTable)) lent ≡ writeChecked (Refused RowCount) zeroTable lent =
+      let w : writeOf (tableIn (wordsOf zeroTable)) lent ≡ writeChecked (Refused RowCount) (sheetOf zeroTable) lent =
       ap (λ (x : Table). writeOf x lent) (table-in-words-of zeroTable zeros-full) ∙ back-refused zeroTable lent RowCount zeros-refused in
       record {
         same = λ z. absurd (not-passed r z);

@@ -2,7 +2,7 @@
 -- A table's words are n, N, G and then release, work, deadline and level of row 1 to 64; a state's words are the clock and then three figures
 -- of row 1 to 64: its work got, its slots used, its closing slot. Times are in slots, work and supplies in work units, speeds in work units per slot.
 use Prim.Native.Nat.{ℕ, _+_, _-_, _*_, _/_, _%_, _^_, _≤_, _<_, min}
-use mathlib.Core.Bool.{true, false}
+use mathlib.Core.Bool.{true, false, cond}
 use mathlib.Core.Logic.{_⊎_}
 use mathlib.Core.Path.{_≡_}
 use mathlib.Core.List.{List, [], _∷_, _++_}
@@ -13,17 +13,18 @@ use Rattle.rules.specs.declared.Table.{Table}
 use Rattle.rules.specs.Calls.{Call, one, forward, Said, tellAll, supplyAt}
 use Rattle.rules.specs.Choice.{choice, padded, word}
 use Rattle.rules.specs.Fields.{valueOf, isField}
-use Rattle.rules.specs.Lists.{count}
+use Rattle.rules.specs.Lists.{count, rowsTo, sum}
 use Rattle.rules.specs.Meaning.{Serves}
 use Rattle.rules.specs.Need.{need}
 use Rattle.rules.specs.Numbers.{checkNumber}
-use Rattle.rules.specs.Orders.{isOrder}
+use Rattle.rules.specs.Orders.{isOrder, checkBoth}
 use Rattle.rules.specs.Program.{programText}
+use Rattle.rules.specs.Reports.{figure}
 use Rattle.rules.specs.Rows.{at}
 use Rattle.rules.specs.Sheets.{isLine, numberAt, readOf}
 use Rattle.rules.specs.Slots.{fresh, after}
 use Rattle.rules.specs.Tables.{checkTable, Accepted}
-use Rattle.rules.specs.Worst.{horizon, worstSpeed}
+use Rattle.rules.specs.Worst.{horizon, worstSpeed, slack}
 use Rattle.record.specs.Answers.{slotSaid, forwardSaid}
 use Rattle.record.specs.Records.{isSound, freshRun, oneSlot, forwardOver}
 use Rattle.jasminebrace.specs.Words.{tableIn, wordsOf, runIn, stateWords}
@@ -310,3 +311,43 @@ pub record SalesDesk (t : Table) (o : List ℕ) (said : Opinion) (least : ℤ) (
   -- of several rows with the least slack it is the lowest
   pub lowest : said .number ≡ 0 → (i : ℕ) → 1 ≤ i → i < said .row → ltZ least (pos (at (t .deadline) i) -ℤ pos (at finishes i)) ≡ true
   pub no-less : said .number ≡ 0 → (i : ℕ) → 1 ≤ i → i ≤ t .n → ltZ (pos (at (t .deadline) i) -ℤ pos (at finishes i)) least ≡ false
+
+-- ten bytes of a text: the j-th figure (from 1) of the line that starts at a byte (rules 16.1 to 16.3)
+abbrev pub tenAt : List ℕ → ℕ → ℕ → List ℕ
+tenAt text start j = take 10 (drop (start + 10 * (j - 1)) text)
+
+-- The line of place k, with row i at the place, whose worst run finishes it at f (rules 16.2, 16.4): the place, the row, and in slots
+-- the row's work at N rounded up, that finish, and the row's deadline less it.
+pub record JobListed (t : Table) (text : List ℕ) (k i f : ℕ) : Type 0 where
+  pub place : tenAt text (51 * (k - 1)) 1 ≡ figure (pos k)
+  pub row : tenAt text (51 * (k - 1)) 2 ≡ figure (pos i)
+  pub need : tenAt text (51 * (k - 1)) 3 ≡ figure (pos (need (at (t .work) i) (t .normal)))
+  pub finish : tenAt text (51 * (k - 1)) 4 ≡ figure (pos f)
+  pub slack : tenAt text (51 * (k - 1)) 5 ≡ figure (pos (at (t .deadline) i) -ℤ pos f)
+  pub ends : getD text (51 * (k - 1) + 50) 0 ≡ 10
+
+-- What the sales desk gets that has every job listed (section 16 of the rules): the lent bytes as they were and as they are afterwards.
+pub record Listing (t : Table) (o lent : List ℕ) (number size : ℕ) (after : List ℕ) : Type 0 where
+  -- 0 exactly if the table is accepted, the order is one of its orders and the report fits: 51 bytes for each row, and 21 (rules 16.7, 16.9)
+  pub passed : number ≡ 0 → Accepted t × (isOrder t o ≡ true)
+  pub fits : number ≡ 0 → 51 * t .n + 21 ≤ length lent
+  pub passes : Accepted t → isOrder t o ≡ true → 51 * t .n + 21 ≤ length lent → number ≡ 0
+  pub long : number ≡ 0 → size ≡ 51 * t .n + 21
+  -- a line for each place, with the finish of its row's worst run (rule 16.2)
+  pub job : number ≡ 0 → (k : ℕ) → 1 ≤ k → k ≤ t .n → (f : ℕ) → WorstRun t o (at o k) f → JobListed t after k (at o k) f
+  pub run : number ≡ 0 → (k : ℕ) → 1 ≤ k → k ≤ t .n → (f : ℕ) × WorstRun t o (at o k) f
+  -- the last line has the needs of all rows and the count of those that are late, each row counted once, whatever its place (rule 16.3)
+  pub needs : number ≡ 0 → tenAt after (51 * t .n) 1 ≡ figure (pos (sum (λ i. need (at (t .work) i) (t .normal)) (rowsTo (t .n))))
+  pub late : number ≡ 0 → tenAt after (51 * t .n) 2 ≡ figure (pos (sum (λ i. cond (ltZ (slack t o i) (pos 0)) 1 0) (rowsTo (t .n))))
+  pub ends : number ≡ 0 → getD after (51 * t .n + 20) 0 ≡ 10
+  -- no row is late exactly if the order serves under every course of speed (rule 16.10)
+  pub serves : number ≡ 0 → tenAt after (51 * t .n) 2 ≡ figure (pos 0) → Serves t o
+  pub none-late : number ≡ 0 → Serves t o → tenAt after (51 * t .n) 2 ≡ figure (pos 0)
+  -- the bytes after the report are as they were (rule 16.6)
+  pub rest : number ≡ 0 → drop size after ≡ drop size lent
+  pub whole : length after ≡ length lent
+  -- a refusal has the length 0 and writes no byte (rule 16.8)
+  pub refused : (number ≡ 0 → ⊥) → (size ≡ 0) × (after ≡ lent)
+  -- it is 10 if only the room is missing, and else what table or order are refused for (rules 10.10, 11.7)
+  pub ten : number ≡ 10 → Accepted t × (isOrder t o ≡ true) × (length lent < 51 * t .n + 21)
+  pub own : (number ≡ 10 → ⊥) → number ≡ checkNumber (checkBoth t o)

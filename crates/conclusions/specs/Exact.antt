@@ -1,6 +1,6 @@
 -- The conclusions about the writer leave nothing open: whatever meets them is what the archive answers. So a conclusion that loses a clause
 -- which does not follow from its others is noticed here.
-use Prim.Native.Nat.{ℕ, _+_, _*_, _≤_}
+use Prim.Native.Nat.{ℕ, _+_}
 use mathlib.Core.List.{List, _++_}
 use mathlib.Core.Path.{_≡_, refl, sym, ap, _∙_}
 use native.Mathlib.Omega.{arith}
@@ -14,7 +14,8 @@ use Rattle.rules.specs.declared.Check.the-variants.{Passed, Refused}
 use Rattle.rules.specs.declared.Reading.{Reading}
 use Rattle.rules.specs.Fields.{fitsField, written, valueOf, isField}
 use Rattle.rules.specs.Numbers.{refusalNumber, checkNumber}
-use Rattle.rules.specs.Sheets.{readOf, sheetOf, checkWrite, WrittenBack, writeChecked, writeOf}
+use Rattle.rules.specs.Lent.{WrittenBack}
+use Rattle.rules.specs.Sheets.{readOf, sheetOf, checkWrite, writeOf}
 use Rattle.rules.specs.Tables.{checkTable}
 use Rattle.theory.specs.Tests.{by-ltb, by-eqb}
 use Rattle.fields.specs.Lengths.{written-long}

@@ -3,21 +3,19 @@ use Prim.Native.Nat.{ℕ, zero, suc, _≤_, _<_, max}
 use mathlib.Core.Bool.{Bool, true, false, cond}
 use mathlib.Core.Logic.{_⊎_, inl, inr}
 use mathlib.Core.List.{List, [], _∷_, _++_}
-use mathlib.Core.Path.{_≡_, refl, sym, ap, _∙_}
+use mathlib.Core.Path.{_≡_, refl, sym, _∙_}
 use native.Mathlib.Omega.{arith}
 use borrow.Author.Tests.{ltb-true, ltb-false, lt-ltb, le-ltb}
-use lib.Dec.{ltb}
 use lib.IntN.{ℤ, pos, negsuc, _-ℤ_}
-use lib.ListN.{replicate}
 use lib.Signed.{ltZ}
 use Rattle.rules.specs.declared.Table.{Table}
 use Rattle.rules.specs.declared.Refusal.{Refusal}
 use Rattle.rules.specs.declared.Check.{Check}
 use Rattle.rules.specs.declared.Check.the-variants.{Passed, Refused}
 use Rattle.rules.specs.Lists.{rowsTo}
-use Rattle.rules.specs.Judge.{leastSlack, tightest, verdictAt, judgeOf}
-use Rattle.rules.specs.Meaning.{Serves, correct-serves, serves-correct}
-use Rattle.rules.specs.Numbers.{refusalNumber, checkNumber, verdictNumber, verdictYes, verdictRow, verdictSlack}
+use Rattle.rules.specs.Judge.{leastSlack, tightest, judgeOf}
+use Rattle.rules.specs.Meaning.{correct-serves, serves-correct}
+use Rattle.rules.specs.Numbers.{checkNumber, verdictNumber, verdictYes, verdictRow, verdictSlack}
 use Rattle.rules.specs.Orders.{isOrder, checkOrder, checkBoth}
 use Rattle.rules.specs.Rows.{at, rowsOf}
 use Rattle.rules.specs.Tables.{Accepted}
@@ -77,7 +75,7 @@ module _ (t : Table) (o : List ℕ) where
       (λ _ q. rw q (not-less (slack t o i) (slack t o b) (slack t o (leastSlack t o b l)) e (least-first b l)))
       (λ f q. least-among b l x (rw f at j))))
 
-  least-slack : (x : ℕ) → In x (rowsOf t) → ltZ (slack t o x) (slack t o (tightest t o)) ≡ false
+  pub least-slack : (x : ℕ) → In x (rowsOf t) → ltZ (slack t o x) (slack t o (tightest t o)) ≡ false
   unfolding tightest
   least-slack x j = least-among 1 (rowsOf t) x j
 
@@ -154,15 +152,15 @@ module _ (t : Table) (o : List ℕ) where
     unfolding verdictNumber
     number-is = rw (judge-passed t o e) (by-bool (ltZ (slack t o tight) (pos 0)) (λ l. rw l) (λ l. rw l))
 
-    row-is : verdictRow (judgeOf t o) ≡ tight
+    pub row-is : verdictRow (judgeOf t o) ≡ tight
     unfolding verdictRow
     row-is = rw (judge-passed t o e) (by-bool (ltZ (slack t o tight) (pos 0)) (λ l. rw l) (λ l. rw l))
 
-    slack-is : verdictSlack (judgeOf t o) ≡ slack t o tight
+    pub slack-is : verdictSlack (judgeOf t o) ≡ slack t o tight
     unfolding verdictSlack
     slack-is = rw (judge-passed t o e) (by-bool (ltZ (slack t o tight) (pos 0)) (λ l. rw l) (λ l. rw l))
 
-    tight-row : Row t tight
+    pub tight-row : Row t tight
     tight-row = tightest-row t o (facts t (checked t o e .accepted) .some)
 
     finish-is : (i : ℕ) → 1 ≤ i → i ≤ t .n → at (finishesOf t o) i ≡ worstFinish t o i
@@ -172,16 +170,16 @@ module _ (t : Table) (o : List ℕ) where
     unfolding slack
     slack-at i l h = rw (finish-is i l h)
 
-    worst-run : (i : ℕ) → 1 ≤ i → i ≤ t .n → WorstRun t o i (at (finishesOf t o) i)
+    -- a row's worst finish is that of its worst run
+    pub worst-run : (i : ℕ) → 1 ≤ i → i ≤ t .n → WorstRun t o i (worstFinish t o i)
     worst-run i l h =
         let c = checked t o e in
         let f = lasting t (c .accepted) o (c .order) i (is-row t i (record { from = l; upTo = h })) in
-        rw (finish-is i l h)
-        (record {
+        record {
           some = f (horizon t (worstSpeed t i)) (omega arith) .from;
           closing = λ k m. f k m .closing;
           got = λ k m. f k m .got;
-        })
+        }
 
     lower : (i : ℕ) → 1 ≤ i → i < tight → ltZ (slack t o tight) (pos (at (t .deadline) i) -ℤ pos (at (finishesOf t o) i)) ≡ true
     unfolding tightest
@@ -200,7 +198,7 @@ module _ (t : Table) (o : List ℕ) where
           yes-serves = λ y. correct-serves t o (promised t o (judgeOf t o) refl .exact e .0 (yes-true (verdictYes (judgeOf t o)) y));
           serves-yes = λ _ s. rw (promised t o (judgeOf t o) refl .exact e .1 (serves-correct t o s));
           yes-or-no = yes-either (verdictYes (judgeOf t o));
-          finish = λ _ i l h. worst-run i l h;
+          finish = λ _ i l h. rw (finish-is i l h) (worst-run i l h);
           row = λ _. rw row-is (tight-row .from, tight-row .upTo);
           slack = λ _. rw (row-is, slack-is) (sym (slack-at tight (tight-row .from) (tight-row .upTo)));
           lowest = λ _ i l w. rw slack-is (lower i l (rw row-is at w));

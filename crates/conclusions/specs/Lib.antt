@@ -2,11 +2,14 @@ pub mod Conclusions
 pub mod Entries
 pub mod Planned
 pub mod Author
+pub mod Rooms
 pub mod Back
 pub mod Exact
 pub mod Firmware
 pub mod Forwarded
 pub mod Drawn
 pub mod Judged
+pub mod Listed
+pub mod ListedExact
 pub mod Written
 pub mod Begins

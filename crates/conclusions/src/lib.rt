@@ -2,7 +2,7 @@
 // C boundary alone, and its contract is that caller's conclusion in plain terms (specs/Conclusions). None of it is shipped.
 ghost use mathlib.Core.Path.{_≡_};
 ghost use Rattle.jasminebrace.specs.Words.{tableIn};
-ghost use Rattle.conclusions.specs.Conclusions.{TableAuthor, SheetBack, SheetAgain, NumberField, Text, Planner, FreshRecord, FirmwareWriter, Forwarding, Drawn, SalesDesk};
+ghost use Rattle.conclusions.specs.Conclusions.{TableAuthor, SheetBack, SheetAgain, NumberField, Text, Planner, FreshRecord, FirmwareWriter, Forwarding, Drawn, SalesDesk, Listing};
 
 // What reading a sheet and writing its table back said: both numbers, and the length in bytes.
 pub struct Again {
@@ -204,6 +204,13 @@ pub fn sales_desk(
         row,
         finishes: timed,
     }
+}
+
+// The sales desk has every job listed under an order, into as many bytes as there are.
+pub fn job_list(table: [u32; 259], order: [u8; 64], report: &mut [u8], size: &mut u32) -> u32
+    ensures { λ r. ⌜ Listing (tableIn table) order (now (report .entry)) r (now (size .exit)) (now (report .exit)) ⌝ }
+{
+    jasminebrace::jb_report(&table, &order, report, size)
 }
 
 // Whoever links the archive asks which interface it has.

@@ -14,7 +14,7 @@ use Rattle.rules.specs.Lists.{all}
 use Rattle.theory.specs.Tests.{and-left, and-right}
 
 -- an entry of a mapped list
-entry-map : (f : ℕ → ℕ) (l : List ℕ) (i : ℕ) → i < length l → getD (map f l) i 0 ≡ f (getD l i 0)
+pub entry-map : (f : ℕ → ℕ) (l : List ℕ) (i : ℕ) → i < length l → getD (map f l) i 0 ≡ f (getD l i 0)
 entry-map f [] i h = absurd (omega arith)
 entry-map f (x ∷ l) zero h = refl
 entry-map f (x ∷ l) (suc i) h = entry-map f l i (omega arith)

@@ -1,16 +1,14 @@
 -- How long fields and lines are, and lines one after another, one line more at a time.
-use Prim.Native.Nat.{ℕ, suc, _+_, _*_, _≤_}
+use Prim.Native.Nat.{ℕ, suc, _+_, _*_}
 use mathlib.Core.Path.{_≡_, refl, sym, ap, _∙_}
 use mathlib.Core.List.{List, [], _∷_, _++_, append-assoc, append-nil}
 use native.Mathlib.Nat.{mul-suc}
 use native.Mathlib.Numerals.{add-one}
 use native.Mathlib.Omega.{arith}
 use lib.ListN.{length, length-append}
-use lib.Seq.{paste, take-all}
 use Rattle.rules.specs.Fields.{written, line}
 use Rattle.rules.specs.Lists.{rowsTo, joined}
 use Rattle.theory.specs.Places.{length-rows}
-use Rattle.fields.specs.Wrote.{Wrote}
 
 pub written-long : (v : ℕ) → length (written v) ≡ 8
 unfolding written
@@ -19,12 +17,6 @@ written-long v = refl
 pub line-long : (vs : List ℕ) → length (line vs) ≡ 8 * length vs + 1
 line-long [] = refl
 line-long (v ∷ vs) = omega (arith, length-append (written v) (line vs), written-long v, line-long vs)
-
--- a field, copied byte by byte
-pub wrote-field : (out : List ℕ) (at v : ℕ) (field out' : List ℕ) (i : ℕ) → at + 8 ≤ length out → field ≡ written v → i ≡ 8 → out' ≡ paste out at field i
-    → Wrote out at out' (at + 8) (written v)
-wrote-field out at v field out' i h f e p =
-    record { after = omega (arith, written-long v); room = h; text = p ∙ rw (e, f, take-all 8 (written v) (omega (arith, written-long v))) }
 
 -- ---- pieces one after another, each of w bytes
 module _ (f : ℕ → List ℕ) where

@@ -4,3 +4,4 @@ pub mod Digits
 pub mod Wrote
 pub mod Lengths
 pub mod Values
+pub mod Figures

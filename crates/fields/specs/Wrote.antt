@@ -5,7 +5,7 @@ use mathlib.Core.List.{List, [], _∷_, _++_, append-assoc, append-nil}
 use native.Mathlib.Numerals.{add-one}
 use native.Mathlib.Omega.{arith}
 use lib.ListN.{length, take, drop, set, length-append, length-drop, take-append-drop}
-use lib.Seq.{append-snoc, set-split, take-at, drop-append-add, drop-drop, length-take-le}
+use lib.Seq.{paste, take-all, append-snoc, set-split, take-at, drop-append-add, drop-drop, length-take-le}
 
 -- the bytes stand in out' from index at up to next, and out' is out before and after them
 pub record Wrote (out : List ℕ) (at : ℕ) (out' : List ℕ) (next : ℕ) (bytes : List ℕ) : Type 0 where
@@ -32,9 +32,23 @@ pub wrote-byte : (out : List ℕ) (at b : ℕ) → at < length out → Wrote out
 wrote-byte out at b h =
     record { after = refl; room = omega arith; text = rw (add-one at) (set-split out at b h ∙ sym (append-snoc (take at out) b (drop (suc at) out))) }
 
+-- bytes, copied one after the other
+pub wrote-bytes : (out : List ℕ) (at : ℕ) (bytes out' : List ℕ) (i : ℕ) → at + length bytes ≤ length out → i ≡ length bytes → out' ≡ paste out at bytes i
+    → Wrote out at out' (at + i) bytes
+wrote-bytes out at bytes out' i h e p =
+    record { after = rw e; room = omega arith; text = p ∙ rw (e, take-all (length bytes) bytes (omega arith)) }
+
 -- the same bytes under another name
 pub wrote-as : {out : List ℕ} {at : ℕ} {out' : List ℕ} {next : ℕ} {x y : List ℕ} → x ≡ y → Wrote out at out' next x → Wrote out at out' next y
 wrote-as {out} {at} {out'} {next} e w = subst (Wrote out at out' next) e w
+
+-- from byte 0 on: the byte after them is their count, and what stands after them is as it was
+module _ {out out' : List ℕ} {next : ℕ} {bytes : List ℕ} (w : Wrote out 0 out' next bytes) where
+  pub wrote-size : next ≡ length bytes
+  wrote-size = omega (arith, w .after)
+
+  pub wrote-all : out' ≡ bytes ++ drop (length bytes) out
+  wrote-all = w .text ∙ ap (λ (k : ℕ). bytes ++ drop k out) wrote-size
 
 -- first x, then y
 pub wrote-then : {out : List ℕ} {at : ℕ} {out₁ : List ℕ} {mid : ℕ} {x out₂ : List ℕ} {next : ℕ} {y : List ℕ}

@@ -1,16 +1,20 @@
 // Fields: a decimal number in 8 bytes, read, and written into lent bytes, alone and on lines (rules 6.1 to 6.4). Reader, writer and program
-// share them. Each function that puts something writes from a byte on and answers the byte after what it wrote.
+// share them. Figures: a whole number in 10 bytes, for the report (rule 16.1). Digits of both come by the same eight weights. Each function
+// that puts something writes from a byte on and answers the byte after what it wrote.
 ghost use mathlib.Core.Path.{_≡_};
 ghost use mathlib.Core.Bool.{true, _&&_};
 ghost use mathlib.Core.List.{[], _∷_};
 ghost use Prim.Native.Nat.{_+_, _-_, _*_, _/_, _%_, _≤_, _<_};
-ghost use lib.Dec.{leb};
+ghost use lib.Dec.{ltb, leb};
+ghost use lib.IntN.{pos, natAbs};
 ghost use lib.ListN.{length};
 ghost use Rattle.rules.specs.Fields.{digitAt, written, digitOf, valueOf, isField, fieldAt, line};
+ghost use Rattle.rules.specs.Reports.{figure};
 ghost use Rattle.fields.specs.Scan.{stands, fieldIn};
 ghost use Rattle.fields.specs.Wrote.{Wrote};
+ghost use Rattle.fields.specs.Figures.{signedAt, signedColumns};
 
-// What a digit counts for at each of a field's eight places (rule 6.3).
+// What a digit counts for at each of a field's eight places (rule 6.3), which are the last eight of a figure's ten (rule 16.1).
 const WEIGHTS: [u32; 8] = [10000000, 1000000, 100000, 10000, 1000, 100, 10, 1];
 
 // What a field of eight bytes holds: a number, or nothing that is well formed.
@@ -134,7 +138,7 @@ pub fn written(value: u32) -> [u8; 8]
 }
 
 // One byte.
-fn put_byte(out: &mut [u8], at: usize, byte: u8) -> usize
+pub fn put_byte(out: &mut [u8], at: usize, byte: u8) -> usize
     requires { ⌜ at < length (now out) ⌝ }
     ensures { λ r. ⌜ Wrote (now (out .entry)) at (now (out .exit)) r (byte ∷ []) ⌝ }
 {
@@ -173,4 +177,74 @@ pub fn put_triple(out: &mut [u8], at: usize, first: u32, second: u32, third: u32
 {
     let after_first = put_field(out, at, first);
     put_pair(out, after_first, second, third)
+}
+
+// A whole number without its sign.
+fn size_of(value: i32) -> u32
+    ensures { λ r. ⌜ r ≡ natAbs value ⌝ }
+{
+    if value < 0 {
+        let below = -1 - value;
+        below as u32 + 1
+    } else {
+        value as u32
+    }
+}
+
+// The column at a weight has the minus: right before the first digit of a number below 0.
+fn has_minus(below: bool, size: u32, weight: u32) -> bool
+    requires { ⌜ size < 100000000 ⌝ }
+    ensures { λ r. ⌜ r ≡ (below && ltb size weight && leb weight (10 * size)) ⌝ }
+{
+    if !below {
+        return false;
+    }
+    if weight <= size {
+        return false;
+    }
+    weight <= 10 * size
+}
+
+// The byte of a figure at a weight: a minus, or the byte of its size.
+fn figure_byte(below: bool, size: u32, weight: u32) -> u8
+    requires { ⌜ (1 ≤ weight) × (size < 100000000) ⌝ }
+    ensures { λ r. ⌜ r ≡ signedAt below size weight ⌝ }
+{
+    if has_minus(below, size, weight) {
+        return 45;
+    }
+    byte_at(size, weight)
+}
+
+// The last eight bytes of a figure of at most eight digits, told whether it is below 0, and its size.
+fn put_columns(out: &mut [u8], at: usize, below: bool, size: u32) -> usize
+    requires { ⌜ (size < 100000000) × (at + 8 ≤ length (now out)) ⌝ }
+    ensures { λ r. ⌜ Wrote (now (out .entry)) at (now (out .exit)) r (signedColumns below size) ⌝ }
+{
+    let mut i: usize = 0;
+    while i < 8 {
+        out[at + i] = figure_byte(below, size, WEIGHTS[i]);
+        i += 1;
+    }
+    at + 8
+}
+
+// A whole number of at most eight digits as a figure: a space, a space or the minus, and eight bytes by the weights.
+pub fn put_figure(out: &mut [u8], at: usize, value: i32) -> usize
+    requires { ⌜ (natAbs value < 100000000) × (at + 10 ≤ length (now out)) ⌝ }
+    ensures { λ r. ⌜ Wrote (now (out .entry)) at (now (out .exit)) r (figure value) ⌝ }
+{
+    let below = value < 0;
+    let size = size_of(value);
+    let second = put_byte(out, at, 32);
+    let third = put_byte(out, second, figure_byte(below, size, 100000000));
+    put_columns(out, third, below, size)
+}
+
+// A number that is not below 0 as a figure.
+pub fn put_count(out: &mut [u8], at: usize, value: u32) -> usize
+    requires { ⌜ (value < 100000000) × (at + 10 ≤ length (now out)) ⌝ }
+    ensures { λ r. ⌜ Wrote (now (out .entry)) at (now (out .exit)) r (figure (pos value)) ⌝ }
+{
+    put_figure(out, at, value as i32)
 }

@@ -1,7 +1,7 @@
 // The C boundary: the library's calls over lent arrays of numbers. specs/Words says how they hold a table and a run record.
 // Times are in slots, work and supplies in work units, speeds in work units per slot. What is lent as & is only read, and
-// what is lent as &mut is written whole by every call, refusals included, but for the bytes that a sheet is written to: those after it stay
-// as they were, and with a refusal all of them do. A list is a pointer and its length.
+// what is lent as &mut is written whole by every call, refusals included, but for the bytes that a sheet or a report is written to: those
+// after it stay as they were, and with a refusal all of them do. A list is a pointer and its length.
 ghost use mathlib.Core.Path.{_≡_};
 ghost use mathlib.Core.List.{_++_};
 ghost use mir.Syntax.{w32};
@@ -15,6 +15,7 @@ ghost use Rattle.rules.specs.Judge.{judgeOf, tableOf};
 ghost use Rattle.rules.specs.Numbers.{checkNumber, plannedNumber, rowsLeft, verdictNumber, verdictYes, verdictRow, verdictSlack};
 ghost use Rattle.rules.specs.Orders.{checkBoth};
 ghost use Rattle.rules.specs.Program.{programText};
+ghost use Rattle.rules.specs.Reports.{reportOf};
 ghost use Rattle.rules.specs.Sheets.{readOf, writeOf};
 ghost use Rattle.record.specs.Answers.{slotSaid, forwardSaid};
 ghost use Rattle.record.specs.Records.{freshOf, comingSlot, oneSlot, forwardOver};
@@ -323,6 +324,28 @@ pub extern "C" fn jb_finishes(table: &[u32; 259], order: &[u8; 64], finishes: &m
             numbers::refusal_number(why)
         }
     }
+}
+
+// Writes the report of a table under an order to the start of lent bytes and gives its length in bytes (rule 16.5); no byte and 0 on a
+// refusal (rule 16.8). Gives the number of the report's checks (rule 11.7).
+#[no_mangle]
+pub extern "C" fn jb_report(
+    table: &[u32; 259],
+    order: &[u8; 64],
+    report: &mut [u8],
+    size: &mut u32,
+) -> u32
+    ensures { λ r. ⌜ (let back = reportOf (tableIn (now (table .entry))) (now (order .entry)) (now (report .entry)) in
+        (r ≡ checkNumber (back .said .check))
+        × (now (size .exit) ≡ back .said .size)
+        × (now (report .exit) ≡ back .bytes)) ⌝ }
+{
+    let t = table_in(table);
+    let placed = *order;
+    let writing = report::report(t, placed, report);
+    let check = writing.check;
+    *size = writing.size;
+    numbers::check_number(check)
 }
 
 // Starts a run record of a table and an order, at clock 0. All zero on a refusal of checks 3 to 6 (rule 8.2).

@@ -6,3 +6,4 @@ pub mod Late
 pub mod Least
 pub mod Promise
 pub mod Gather
+pub mod Needs

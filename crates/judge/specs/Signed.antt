@@ -8,7 +8,7 @@ use lib.IntN.{ℤ, pos, negsuc, _-ℤ_}
 use lib.Signed.{mag}
 use mir.Syntax.{w32}
 use mir.Val.{SFits, toZ}
-use mir.Facts.{toZ-ofZ}
+use Rattle.theory.specs.Signed.{as-signed}
 
 mag-cond : (b : Bool) (x y k : ℕ) → x < k → y < k → mag (cond b (negsuc x) (pos y)) < k
 mag-cond true x y k p q = p
@@ -17,10 +17,6 @@ mag-cond false x y k p q = q
 mag-difference : (d f k : ℕ) → d < k → f < k → mag (pos d -ℤ pos f) < k
 mag-difference d zero k p q = omega arith
 mag-difference d (suc f) k p q = mag-cond (ltb d (suc f)) (suc f - suc d) (d - suc f) k (omega arith) (omega arith)
-
--- a small number read back as signed is itself
-as-signed : (n : ℕ) → n < 2 ^ 31 → toZ w32 n ≡ pos n
-as-signed n h = toZ-ofZ {w = w32} {z = pos n} (record { sfits = h })
 
 module _ (d f : ℕ) (p : d < 2 ^ 31) (q : f < 2 ^ 31) where
   pub difference : toZ w32 d -ℤ toZ w32 f ≡ pos d -ℤ pos f

@@ -7,7 +7,7 @@ ghost use lib.IntN.{pos, _-ℤ_};
 ghost use lib.ListN.{getD};
 ghost use Rattle.rules.specs.declared.Check.the-variants.{Passed};
 ghost use Rattle.rules.specs.Lists.{rowsTo};
-ghost use Rattle.rules.specs.Rows.{rowsOf};
+ghost use Rattle.rules.specs.Rows.{rowsOf, needOf};
 ghost use Rattle.rules.specs.Orders.{checkBoth};
 ghost use Rattle.rules.specs.Worst.{worstFinish};
 ghost use Rattle.rules.specs.Choice.{padded};
@@ -20,6 +20,12 @@ use rules::Check;
 use rules::Row;
 use rules::Table;
 use rules::Verdict;
+
+// The rows of a table under an order, in slots, zeros after the last: each row's need at N, whatever its level, and its worst finish.
+pub struct Times {
+    pub need: [u32; 64],
+    pub finish: [u32; 64],
+}
 
 // The finish of a row, in slots, in a sweep over the rows of a word with caps at the row's worst speed:
 // normal for LO, degraded for HI. queue has the rows by rising release.
@@ -44,10 +50,10 @@ fn swept<'a>(
     }
 }
 
-// The worst finish of each row under an order, in slots: from the top, each row with the rows above it.
-pub fn worst_finishes(t: Table, order: [u8; 64]) -> [u32; 64]
+// Each row's need at N and its worst finish under an order, in slots: from the top, each row with the rows above it.
+pub fn timed(t: Table, order: [u8; 64]) -> Times
     requires { ⌜ checkBoth t order ≡ Passed ⌝ }
-    ensures { λ r. ⌜ r ≡ padded (map (worstFinish t order) (rowsOf t)) ⌝ }
+    ensures { λ r. ⌜ (r .need ≡ padded (map (needOf t) (rowsOf t))) × (r .finish ≡ padded (map (worstFinish t order) (rowsOf t))) ⌝ }
 {
     let n = t.n;
     let release = t.release;
@@ -64,11 +70,23 @@ pub fn worst_finishes(t: Table, order: [u8; 64]) -> [u32; 64]
         down = upto;
         k += 1;
     }
-    out
+    Times {
+        need: normal,
+        finish: out,
+    }
+}
+
+// The worst finish of each row under an order, in slots.
+pub fn worst_finishes(t: Table, order: [u8; 64]) -> [u32; 64]
+    requires { ⌜ checkBoth t order ≡ Passed ⌝ }
+    ensures { λ r. ⌜ r ≡ padded (map (worstFinish t order) (rowsOf t)) ⌝ }
+{
+    let times = timed(t, order);
+    times.finish
 }
 
 // Slots left from a finish to the deadline, below zero when late.
-fn slack(deadline: u32, finish: u32) -> i32
+pub fn slack(deadline: u32, finish: u32) -> i32
     requires { ⌜ (deadline < 2 ^ 31) × (finish < 2 ^ 31) ⌝ }
     ensures { λ r. ⌜ r ≡ pos deadline -ℤ pos finish ⌝ }
 {

@@ -12,7 +12,9 @@ pub mod Judge
 pub mod Calls
 pub mod Numbers
 pub mod Fields
+pub mod Lent
 pub mod Sheets
 pub mod Program
+pub mod Reports
 pub mod Cases
 pub mod TextCases

@@ -23,7 +23,7 @@ refusalNumber ClockOver = 8
 refusalNumber Unsound = 9
 refusalNumber NoRoom = 10
 
--- the number of the reader, of the writer, of the checks of tables and orders, of the fresh record: 0 where no check refuses (rule 10.0)
+-- the number of the reader, of the writer, of the report, of the checks of tables and orders, of the fresh record: 0 where no check refuses (rule 10.0)
 unfoldable pub checkNumber : Check → ℕ
 unfolding refusalNumber
 checkNumber Checks.Passed = 0

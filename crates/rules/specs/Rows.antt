@@ -1,4 +1,4 @@
--- A table's rows and their figures (rules 1.1 to 1.3).
+-- A table's rows and their figures (rules 1.1 to 1.3), with the need at N (rule 1.8).
 use Prim.Native.Nat.{ℕ, _-_}
 use mathlib.Core.Bool.{Bool, not, _&&_}
 use mathlib.Core.List.{List}
@@ -6,6 +6,7 @@ use lib.Dec.{eqb, ltb, leb}
 use lib.ListN.{getD, set}
 use Rattle.rules.specs.declared.Table.{Table}
 use Rattle.rules.specs.Lists.{rowsTo}
+use Rattle.rules.specs.Need.{need}
 
 -- row i's entry of a column (rule 1.3)
 abbrev pub at : List ℕ → ℕ → ℕ
@@ -34,6 +35,10 @@ workOf t i = at (t .work) i
 -- the deadline d, in slots (rule 1.6)
 abbrev pub deadlineOf : Table → ℕ → ℕ
 deadlineOf t i = at (t .deadline) i
+
+-- the need at N, in slots, whatever the row's level (rule 1.8)
+abbrev pub needOf : Table → ℕ → ℕ
+needOf t i = need (workOf t i) (t .normal)
 
 -- a LO row: level 0 (rule 1.2)
 abbrev pub isLow : Table → ℕ → Bool

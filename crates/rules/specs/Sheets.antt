@@ -4,14 +4,14 @@ use Prim.Native.Nat.{ℕ, _+_, _-_, _*_}
 use mathlib.Core.Bool.{Bool, cond, _&&_}
 use mathlib.Core.List.{List, [], _∷_, _++_, map}
 use lib.Dec.{eqb, ltb}
-use lib.ListN.{length, getD, take, drop, replicate}
+use lib.ListN.{length, getD, take, replicate}
 use Rattle.rules.specs.declared.Table.{Table}
-use Rattle.rules.specs.declared.Refusal.the-variants.{Length, Malformed, RowCount, NoRoom}
+use Rattle.rules.specs.declared.Refusal.the-variants.{Length, Malformed, RowCount}
 use Rattle.rules.specs.declared.Check.{Check}
 use Rattle.rules.specs.declared.Check.the-variants.{Passed, Refused}
 use Rattle.rules.specs.declared.Reading.{Reading}
-use Rattle.rules.specs.declared.Writing.{Writing}
 use Rattle.rules.specs.Fields.{valueOf, isField, fieldAt, line}
+use Rattle.rules.specs.Lent.{checkRoom, WrittenBack, writeChecked}
 use Rattle.rules.specs.Lists.{all, rowsTo, joined}
 use Rattle.rules.specs.Orders.{andThen}
 use Rattle.rules.specs.Rows.{at, rowsOf, releaseOf, workOf, deadlineOf}
@@ -78,26 +78,10 @@ rowLine t i = line (releaseOf t i ∷ workOf t i ∷ deadlineOf t i ∷ at (t .l
 unfoldable pub sheetOf : Table → List ℕ
 sheetOf t = line (t .n ∷ t .normal ∷ t .degraded ∷ []) ++ joined (rowLine t) (rowsOf t)
 
--- check 10: there are as many bytes to write to as the sheet has, or more (rules 10.10, 15.4)
-unfoldable pub checkRoom : Table → ℕ → Check
-checkRoom t room = cond (ltb room (length (sheetOf t))) (Refused NoRoom) Passed
-
 -- the writer's checks: those of the table first, 10 last (rules 11.6, 15.4)
 unfoldable pub checkWrite : Table → ℕ → Check
-checkWrite t room = andThen (checkTable t) (checkRoom t room)
-
--- what the writer says, and all of the lent bytes as it leaves them (rule 15.2)
-pub record WrittenBack : Type 0 where
-  pub said : Writing
-  pub bytes : List ℕ
-
--- where no check refuses the sheet stands at the start of the lent bytes, and those after it are as they were; on a refusal all of them
--- are, and the length is 0 (rules 15.2, 15.3, 15.5)
-abbrev pub writeChecked : Check → Table → List ℕ → WrittenBack
-writeChecked Passed t lent =
-    record { said = record { check = Passed; size = length (sheetOf t) }; bytes = sheetOf t ++ drop (length (sheetOf t)) lent }
-writeChecked (Refused r) t lent = record { said = record { check = Refused r; size = 0 }; bytes = lent }
+checkWrite t room = andThen (checkTable t) (checkRoom (length (sheetOf t)) room)
 
 -- the writer's answer for any table and any lent bytes (rules 15.2 to 15.5)
 unfoldable pub writeOf : Table → List ℕ → WrittenBack
-writeOf t lent = writeChecked (checkWrite t (length lent)) t lent
+writeOf t lent = writeChecked (checkWrite t (length lent)) (sheetOf t) lent

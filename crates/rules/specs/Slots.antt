@@ -6,8 +6,7 @@ use lib.Dec.{eqb, leb}
 use lib.ListN.{replicate}
 use Rattle.rules.specs.declared.Table.{Table}
 use Rattle.rules.specs.Lists.{first}
-use Rattle.rules.specs.Need.{need}
-use Rattle.rules.specs.Rows.{at, put, isRow, releaseOf, workOf, isLow}
+use Rattle.rules.specs.Rows.{at, put, isRow, releaseOf, workOf, needOf, isLow}
 
 -- the clock in slots; for each row the work units got, the slots used and the closing slot, 0 while open (rules 2.10, 2.13)
 pub record State : Type 0 where
@@ -31,7 +30,7 @@ chosen t o s = first (isReady t s) o
 
 -- the slots that a LO row may use, at whatever speed: its need at N (rule 1.9; at G it would be the fault of rule 14.2)
 abbrev pub allowance : Table → ℕ → ℕ
-allowance t i = need (workOf t i) (t .normal)
+allowance t i = needOf t i
 
 -- Row i with g work units got and u slots used is over: it is done, having got c, or it is LO and has used up its allowance
 -- (rules 2.6, 2.7, 2.8). Its deadline does not come into it (rules 2.9, 14.3). Where both hold it is done and not dropped, since a row that

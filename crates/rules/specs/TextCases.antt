@@ -1,6 +1,7 @@
 -- Sheets and what reader and program make of them, as texts: the program's text for P1 (rule 13.10), sheets for each number from 1 to 5 and for
 -- 7, sheets with two faults that tell which check comes first (rule 11.2), 64 rows with nothing and with one byte after them (rule 6.7),
--- numbers as fields (rules 6.1 to 6.3), and tables written back into bytes that are too few, enough, and more (section 15 of the rules).
+-- numbers as fields (rules 6.1 to 6.3), tables written back into bytes that are too few, enough, and more (section 15 of the rules), and
+-- the reports of P1 and of P3 under two orders each, of ten rows, and of a row with the largest slack there is (section 16).
 use Prim.Native.Nat.{ℕ, zero, suc}
 use Prim.Native.Char.{code}
 use Prim.Native.String.{String}
@@ -9,6 +10,7 @@ use mathlib.Core.Bool.{Bool, true, not, _&&_}
 use mathlib.Core.List.{List, [], _∷_, _++_}
 use lib.Count.{ones, onesIn}
 use lib.Dec.{T, eqb}
+use lib.IntN.{ℤ, pos, negsuc}
 use lib.ListN.{getD, replicate}
 use Rattle.rules.specs.declared.Table.{Table}
 use Rattle.rules.specs.declared.Refusal.the-variants.{NotAnOrder}
@@ -18,11 +20,14 @@ use Rattle.rules.specs.Fields.{digitAt, written, fitsField, digitOf, val
 use Rattle.rules.specs.Lists.{same}
 use Rattle.rules.specs.Need.{need}
 use Rattle.rules.specs.Numbers.{refusalNumber, checkNumber}
+use Rattle.rules.specs.Orders.{isOrder, checkOrder, checkBoth}
 use Rattle.rules.specs.Program.{placeLine, planText, programText}
-use Rattle.rules.specs.Sheets.{isLine, numberAt, columnOf, tableIn, checkSheet, readOf, rowLine, sheetOf, checkRoom, checkWrite, writeOf}
+use Rattle.rules.specs.Reports.{figureAt, figure, jobLine, needsOf, lateRows, lastLine, reportText, checkReport, reportOf}
+use Rattle.rules.specs.Lent.{checkRoom}
+use Rattle.rules.specs.Sheets.{isLine, numberAt, columnOf, tableIn, checkSheet, readOf, rowLine, sheetOf, checkWrite, writeOf}
 use Rattle.rules.specs.Slots.{fresh, isReady, chosen, isOver, serve, slot, after}
 use Rattle.rules.specs.Tables.{rowOk, tailOk, checkTable}
-use Rattle.rules.specs.Worst.{horizon, worstFinish, meets}
+use Rattle.rules.specs.Worst.{horizon, worstFinish, slack, meets}
 
 -- the bytes of a text of plain characters
 abbrev bytes : String → List ℕ
@@ -40,6 +45,10 @@ pub data Text : Type 0 where
   refused : String → ℕ → Text
   -- a table (n, N and G, and the four columns) and lent bytes; the writer's number and length, and all bytes afterwards
   write : List ℕ → List ℕ → List ℕ → List ℕ → List ℕ → List ℕ → ℕ → ℕ → List ℕ → Text
+  -- a table (n, N and G, and the four columns), an order and lent bytes; the report's number and length, and all bytes afterwards
+  report : List ℕ → List ℕ → List ℕ → List ℕ → List ℕ → List ℕ → List ℕ → ℕ → ℕ → List ℕ → Text
+  -- a whole number and its ten bytes
+  tenBytes : ℤ → String → Text
   -- a number and its eight bytes
   field : ℕ → String → Text
   -- a number that no field holds, and its last eight digits
@@ -83,6 +92,10 @@ holds (refused sheet number) =
 holds (write first release work deadline level lent number size after) =
     let b = writeOf (tableFor first release work deadline level) lent in
     eqb (checkNumber (b .said .check)) number && eqb (b .said .size) size && same (b .bytes) after
+holds (report first release work deadline level order lent number size after) =
+    let b = reportOf (tableFor first release work deadline level) (padded order) lent in
+    eqb (checkNumber (b .said .check)) number && eqb (b .said .size) size && same (b .bytes) after
+holds (tenBytes z digits) = same (figure z) (bytes digits)
 holds (field v digits) = same (written v) (bytes digits) && isField (bytes digits) && eqb (valueOf (bytes digits)) v && fitsField v
 holds (cut v digits) = same (written v) (bytes digits) && not (fitsField v)
 holds (noField digits v) = not (isField (bytes digits)) && eqb (valueOf (bytes digits)) v
@@ -163,7 +176,8 @@ writeP3 lent number size after = write (2 ∷ 2 ∷ 1 ∷ []) (0 ∷ 0 ∷ []) (
 abbrev sheetP3 : List ℕ
 sheetP3 = bytes "       2       2       1\n       0       2       2       0\n       0       4       4       1\n"
 
--- tables and what the writer makes of them (section 15 of the rules): room, and then the order of the checks with no room at all (rule 11.6)
+-- tables and what the writer makes of them (section 15 of the rules): room, and then the order of the checks, with too little room and with
+-- enough (rule 11.6)
 abbrev writings : List Text
 writings =
     writeP3 (sevens 91) 0 91 sheetP3
@@ -183,13 +197,65 @@ writings =
     ∷ write (1 ∷ 2 ∷ 1 ∷ []) (0 ∷ 1 ∷ []) (1 ∷ []) (1 ∷ []) (0 ∷ []) (sevens 58) 5 0 (sevens 58)
     ∷ []
 
+-- whole numbers and their figures (rule 16.1)
+abbrev tens : List Text
+tens =
+    tenBytes (pos 0) "         0"
+    ∷ tenBytes (pos 7) "         7"
+    ∷ tenBytes (negsuc 0) "        -1"
+    ∷ tenBytes (negsuc 8) "        -9"
+    ∷ tenBytes (negsuc 9) "       -10"
+    ∷ tenBytes (pos 1000000) "   1000000"
+    ∷ tenBytes (negsuc 98) "       -99"
+    ∷ tenBytes (negsuc 99) "      -100"
+    ∷ tenBytes (negsuc 998) "      -999"
+    ∷ tenBytes (negsuc 1023) "     -1024"
+    ∷ tenBytes (negsuc 12344) "    -12345"
+    ∷ tenBytes (negsuc 999998) "   -999999"
+    ∷ tenBytes (negsuc 9999998) "  -9999999"
+    ∷ tenBytes (negsuc 63999999) " -64000000"
+    ∷ tenBytes (pos 99999999) "  99999999"
+    ∷ tenBytes (negsuc 99999998) " -99999999"
+    ∷ tenBytes (pos 123456789) " 123456789"
+    ∷ tenBytes (negsuc 123456788) "-123456789"
+    ∷ tenBytes (pos 2147483647) "2147483647"
+    ∷ []
+
+-- the tables of P1 and of P3 under an order, lent so many bytes (51 x 4 + 21 are 225, 51 x 2 + 21 are 123)
+abbrev reportP1 : List ℕ → List ℕ → ℕ → ℕ → List ℕ → Text
+reportP1 = report (4 ∷ 5 ∷ 2 ∷ []) (0 ∷ 5 ∷ 5 ∷ 0 ∷ []) (20 ∷ 15 ∷ 11 ∷ 5 ∷ []) (10 ∷ 10 ∷ 19 ∷ 5 ∷ []) (1 ∷ 0 ∷ 1 ∷ 0 ∷ [])
+
+abbrev reportP3 : List ℕ → List ℕ → ℕ → ℕ → List ℕ → Text
+reportP3 = report (2 ∷ 2 ∷ 1 ∷ []) (0 ∷ 0 ∷ []) (2 ∷ 4 ∷ []) (2 ∷ 4 ∷ []) (0 ∷ 1 ∷ [])
+
+-- tables, orders and their reports (section 16 of the rules): room, and then the order of the checks, with too little room and with enough
+-- (rule 11.7)
+abbrev reports : List Text
+reports =
+    reportP1 (1 ∷ 2 ∷ 3 ∷ 4 ∷ []) (sevens 225) 0 225 (bytes "         1         1         4        10         0\n         2         2         3         8         2\n         3         3         3        19         0\n         4         4         1         5         0\n        11         0\n")
+    ∷ reportP3 (1 ∷ 2 ∷ []) (sevens 123) 0 123 (bytes "         1         1         1         1         1\n         2         2         2         5        -1\n         3         1\n")
+    ∷ reportP3 (2 ∷ 1 ∷ []) (sevens 126) 0 123 (bytes "         1         2         2         4         0\n         2         1         1         3        -1\n         3         1\n" ++ 7 ∷ 7 ∷ 7 ∷ [])
+    ∷ report (1 ∷ 1 ∷ 1 ∷ []) (0 ∷ []) (1 ∷ []) (1000000 ∷ []) (1 ∷ []) (1 ∷ []) (sevens 3285) 0 72 (bytes "         1         1         1         1    999999\n         1         0\n" ++ sevens 3213)
+    ∷ reportP1 (4 ∷ 3 ∷ 2 ∷ 1 ∷ []) (sevens 225 ++ 1 ∷ 2 ∷ 3 ∷ []) 0 225 (bytes "         1         4         1         1         4\n         2         3         3        11         8\n         3         2         3        11        -1\n         4         1         4        20       -10\n        11         2\n" ++ 1 ∷ 2 ∷ 3 ∷ [])
+    ∷ report (2 ∷ 2 ∷ 1 ∷ []) (0 ∷ 0 ∷ []) (1 ∷ 1 ∷ []) (5 ∷ 5 ∷ []) (0 ∷ 0 ∷ []) (2 ∷ 1 ∷ []) (sevens 123) 0 123 (bytes "         1         2         1         1         4\n         2         1         1         2         3\n         2         0\n")
+    ∷ report (10 ∷ 1 ∷ 1 ∷ []) (replicate 10 0) (replicate 10 1) (replicate 10 64) (replicate 10 0) (10 ∷ 9 ∷ 8 ∷ 7 ∷ 6 ∷ 5 ∷ 4 ∷ 3 ∷ 2 ∷ 1 ∷ []) (sevens 531) 0 531 (bytes "         1        10         1         1        63\n         2         9         1         2        62\n         3         8         1         3        61\n         4         7         1         4        60\n         5         6         1         5        59\n         6         5         1         6        58\n         7         4         1         7        57\n         8         3         1         8        56\n         9         2         1         9        55\n        10         1         1        10        54\n        10         0\n")
+    ∷ reportP3 (1 ∷ 2 ∷ []) (sevens 122) 10 0 (sevens 122)
+    ∷ reportP3 (2 ∷ 1 ∷ []) [] 10 0 []
+    ∷ reportP3 (2 ∷ 2 ∷ []) [] 6 0 []
+    ∷ reportP3 (2 ∷ 2 ∷ []) (sevens 130) 6 0 (sevens 130)
+    ∷ reportP3 (1 ∷ 2 ∷ 3 ∷ []) (sevens 123) 6 0 (sevens 123)
+    ∷ report (65 ∷ 2 ∷ 3 ∷ []) [] [] [] [] [] (sevens 3) 3 0 (sevens 3)
+    ∷ report (1 ∷ 2 ∷ 3 ∷ []) (4 ∷ []) (1 ∷ []) (4 ∷ []) (0 ∷ []) [] (sevens 3) 4 0 (sevens 3)
+    ∷ report (1 ∷ 2 ∷ 1 ∷ []) (4 ∷ []) (1 ∷ []) (4 ∷ []) (0 ∷ []) [] (sevens 3) 5 0 (sevens 3)
+    ∷ []
+
 -- every text of a list holds
 abbrev allHold : List Text → Bool
 allHold [] = true
 allHold (x ∷ xs) = holds x && allHold xs
 
-pub texts-hold : T (allHold (texts ++ readings ++ fields ++ writings))
-unfolding planOf padded passes sequence choice fill taker word digitAt written digitOf valueOf isField need refusalNumber checkNumber placeLine programText isLine numberAt columnOf tableIn checkSheet readOf rowLine sheetOf checkRoom checkWrite writeOf fresh isReady chosen isOver serve slot after rowOk tailOk checkTable horizon worstFinish meets ones onesIn
+pub texts-hold : T (allHold (texts ++ readings ++ fields ++ writings ++ tens ++ reports))
+unfolding isOrder checkOrder checkBoth slack figureAt figure jobLine needsOf lateRows lastLine reportText checkReport reportOf planOf padded passes sequence choice fill taker word digitAt written digitOf valueOf isField need refusalNumber checkNumber placeLine programText isLine numberAt columnOf tableIn checkSheet readOf rowLine sheetOf checkRoom checkWrite writeOf fresh isReady chosen isOver serve slot after rowOk tailOk checkTable horizon worstFinish meets ones onesIn
 texts-hold = tt
 
 -- a planner's refusal (rule 12.4), which the checks of a sheet that is read leave no table for

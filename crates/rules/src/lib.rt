@@ -47,7 +47,8 @@ pub struct Reading {
     pub table: Table,
 }
 
-// The writer's answer, and the sheet's length in bytes (0 on a refusal) (rules 15.2, 15.5).
+// The answer of a call that writes text into lent bytes, the writer or the report, and the text's length in bytes (0 on a refusal)
+// (rules 15.2, 15.5, 16.5, 16.8).
 pub struct Writing {
     pub check: Check,
     pub size: u32,

@@ -1,6 +1,6 @@
 -- There and back: reading the sheet of an accepted table gives that table, and each sheet that the reader accepts is the sheet of the table
 -- that it states. So of all byte strings just one reads as a table (rules 15.6 to 15.8).
-use Prim.Native.Nat.{ℕ, zero, suc, _+_, _-_, _*_, _≤_, _<_}
+use Prim.Native.Nat.{ℕ, zero, suc, _+_, _*_, _≤_, _<_}
 use mathlib.Core.Bool.{true, _&&_}
 use mathlib.Core.List.{List, [], _∷_, _++_, append-assoc, append-nil}
 use mathlib.Core.Path.{_≡_, refl, sym, ap, _∙_}
@@ -19,12 +19,12 @@ use Rattle.rules.specs.Rows.{at, releaseOf, workOf, deadlineOf}
 use Rattle.rules.specs.Sheets.{isLine, numberAt, columnOf, tableIn, checkSheet, readChecked, readOf, rowLine, sheetOf}
 use Rattle.rules.specs.Tables.{tailOk, Accepted, FullTable}
 use Rattle.checks.specs.RowLists.{zero-at}
-use Rattle.theory.specs.Facts.{Row, TableFacts, facts}
+use Rattle.theory.specs.Facts.{clash, Row, TableFacts, facts}
 use Rattle.theory.specs.Tests.{by-eqb, by-ltb, and-left, and-right}
 use Rattle.fields.specs.Lengths.{written-long, joined-more}
 use Rattle.fields.specs.Values.{value-written, field-written}
 use Rattle.sheet.specs.Lines.{linesOk, fieldsOk, up-down, fields-go, fields-end, lines-go}
-use Rattle.sheet.specs.SheetsDiffer.{column-long, column-at, column-zero, clash, accepts, sheets-differ}
+use Rattle.sheet.specs.SheetsDiffer.{column-long, column-at, column-zero, accepts, sheets-differ}
 use Rattle.sheet.specs.Writer.{rows-long, head-long, sheet-long}
 
 -- ---- a line of fields at the start of some bytes

@@ -10,13 +10,13 @@ use lib.Dec.{eqb, leb, ltb}
 use lib.ListN.{length, getD, replicate, length-map, length-take, length-append, length-replicate}
 use lib.Seq.{getD-take, getD-append-add, ext-getD, getD-set-same, getD-set-other}
 use Rattle.rules.specs.declared.Table.{Table}
-use Rattle.rules.specs.declared.Refusal.{Refusal}
-use Rattle.rules.specs.declared.Check.the-variants.{Passed, Refused}
+use Rattle.rules.specs.declared.Check.the-variants.{Passed}
 use Rattle.rules.specs.Fields.{written, valueOf, isField, fieldAt}
 use Rattle.rules.specs.Lists.{all, same, rowsTo}
 use Rattle.rules.specs.Sheets.{isLine, numberAt, lineOf, columnOf, tableIn, checkSheet}
 use Rattle.rules.specs.Tables.{countOk, Accepted}
 use Rattle.theory.specs.Places.{length-rows}
+use Rattle.theory.specs.Facts.{clash}
 use Rattle.theory.specs.Tests.{by-bool, by-ltb, by-eqb, and-left, and-right}
 use Rattle.fields.specs.Bytes.{field-byte}
 use Rattle.sheet.specs.Lines.{linesOk, line-field, lines-line, column-more, up-down}
@@ -95,10 +95,6 @@ pub record Accepts (bytes : List ℕ) : Type 0 where
   pub long : length bytes ≡ 25 + 33 * numberAt bytes 0 1
   pub lines : linesOk bytes (numberAt bytes 0 1) ≡ true
   pub accepted : Accepted (tableIn bytes)
-
--- a refusal is not a check that passed
-pub clash : {A : Type 0} {r : Refusal} → Refused r ≡ Passed → A
-clash e = let z : _≡_ {A = ℕ} 0 1 = cc in absurd (omega arith)
 
 pub accepts : (bytes : List ℕ) → checkSheet bytes ≡ Passed → Accepts bytes
 unfolding checkSheet

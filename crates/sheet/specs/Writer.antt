@@ -1,10 +1,9 @@
 -- How long the sheet of a table is, what the writer's checks say of table and room, and what stands in the lent bytes once it is written.
 use Prim.Native.Nat.{ℕ, _+_, _*_, _≤_, _<_}
-use mathlib.Core.List.{List, [], _∷_, _++_}
-use mathlib.Core.Path.{_≡_, refl, ap, _∙_}
+use mathlib.Core.List.{List, [], _∷_}
+use mathlib.Core.Path.{_≡_, ap}
 use native.Mathlib.Omega.{arith}
-use borrow.Author.Tests.{lt-ltb, le-ltb}
-use lib.ListN.{length, getD, drop, length-append}
+use lib.ListN.{length, getD, length-append}
 use Rattle.rules.specs.declared.Table.{Table}
 use Rattle.rules.specs.declared.Refusal.{Refusal}
 use Rattle.rules.specs.declared.Refusal.the-variants.{NoRoom}
@@ -12,15 +11,14 @@ use Rattle.rules.specs.declared.Check.{Check}
 use Rattle.rules.specs.declared.Check.the-variants.{Passed, Refused}
 use Rattle.rules.specs.Fields.{line}
 use Rattle.rules.specs.Lists.{rowsTo, joined}
-use Rattle.rules.specs.Orders.{andThen}
 use Rattle.rules.specs.Rows.{at, releaseOf, workOf, deadlineOf}
-use Rattle.rules.specs.Sheets.{rowLine, sheetOf, checkRoom, checkWrite, writeChecked, writeOf}
+use Rattle.rules.specs.Lent.{checkRoom, writeChecked}
+use Rattle.rules.specs.Sheets.{rowLine, sheetOf, checkWrite, writeOf}
 use Rattle.rules.specs.Tables.{checkTable, Accepted}
-use Rattle.theory.specs.Tests.{by-ltb}
+use Rattle.theory.specs.Room as Room
+use Rattle.theory.specs.Room.{both-passed, room-passed}
 use Rattle.fields.specs.Lengths.{line-long, joined-long}
-use Rattle.fields.specs.Wrote.{Wrote}
 use Rattle.sheet.specs.Lines.{up-down}
-use Rattle.sheet.specs.SheetsDiffer.{clash}
 
 -- the line of the row at index k
 pub row-line : (t : Table) (k : ℕ)
@@ -47,24 +45,14 @@ sheet-long t =
 
 -- ---- the checks
 module _ (t : Table) (room : ℕ) where
-  pub too-short : room < 25 + 33 * t .n → checkRoom t room ≡ Refused NoRoom
-  unfolding checkRoom
-  too-short h = rw (lt-ltb room (length (sheetOf t)) (omega (arith, sheet-long t)))
+  abbrev roomFor : Check
+  roomFor = checkRoom (length (sheetOf t)) room
 
-  pub long-enough : 25 + 33 * t .n ≤ room → checkRoom t room ≡ Passed
-  unfolding checkRoom
-  long-enough h = rw (le-ltb room (length (sheetOf t)) (omega (arith, sheet-long t)))
+  pub too-short : room < 25 + 33 * t .n → roomFor ≡ Refused NoRoom
+  too-short h = Room.too-short (length (sheetOf t)) room (omega (arith, sheet-long t))
 
-  both : (c : Check) → andThen c (checkRoom t room) ≡ Passed → (c ≡ Passed) × (checkRoom t room ≡ Passed)
-  both Passed e = (refl, e)
-  both (Refused r) e = clash e
-
-  room-passed : checkRoom t room ≡ Passed → 25 + 33 * t .n ≤ room
-  unfolding checkRoom
-  room-passed e =
-      by-ltb room (length (sheetOf t))
-      (λ b h. clash (rw b at e))
-      (λ b h. omega (arith, sheet-long t))
+  pub long-enough : 25 + 33 * t .n ≤ room → roomFor ≡ Passed
+  long-enough h = Room.long-enough (length (sheetOf t)) room (omega (arith, sheet-long t))
 
   -- an accepted table whose sheet fits is not refused
   pub passes : Accepted t → 25 + 33 * t .n ≤ room → checkWrite t room ≡ Passed
@@ -74,21 +62,14 @@ module _ (t : Table) (room : ℕ) where
   -- where nothing is refused the table is accepted and its sheet fits
   pub fits : checkWrite t room ≡ Passed → Accepted t × (25 + 33 * t .n ≤ room)
   unfolding checkWrite
-  fits e = let p = both (checkTable t) e in (p .0, room-passed (p .1))
+  fits e = let p = both-passed (checkTable t) roomFor e in (p .0, omega (arith, room-passed (length (sheetOf t)) room (p .1), sheet-long t))
 
 -- ---- what is said and what stands in the lent bytes
 module _ (t : Table) (lent : List ℕ) where
-  pub back-refused : (r : Refusal) → checkWrite t (length lent) ≡ Refused r → writeOf t lent ≡ writeChecked (Refused r) t lent
+  pub back-refused : (r : Refusal) → checkWrite t (length lent) ≡ Refused r → writeOf t lent ≡ writeChecked (Refused r) (sheetOf t) lent
   unfolding writeOf
-  back-refused r e = ap (λ (c : Check). writeChecked c t lent) e
+  back-refused r e = ap (λ (c : Check). writeChecked c (sheetOf t) lent) e
 
-  pub back-passed : checkWrite t (length lent) ≡ Passed → writeOf t lent ≡ writeChecked Passed t lent
+  pub back-passed : checkWrite t (length lent) ≡ Passed → writeOf t lent ≡ writeChecked Passed (sheetOf t) lent
   unfolding writeOf
-  back-passed e = ap (λ (c : Check). writeChecked c t lent) e
-
-  -- written from byte 0 on: the byte after it is its length
-  pub wrote-size : (out : List ℕ) (next : ℕ) → Wrote lent 0 out next (sheetOf t) → next ≡ length (sheetOf t)
-  wrote-size out next w = omega (arith, w .after)
-
-  pub wrote-all : (out : List ℕ) (next : ℕ) → Wrote lent 0 out next (sheetOf t) → out ≡ sheetOf t ++ drop (length (sheetOf t)) lent
-  wrote-all out next w = w .text ∙ ap (λ (k : ℕ). sheetOf t ++ drop k lent) (wrote-size out next w)
+  back-passed e = ap (λ (c : Check). writeChecked c (sheetOf t) lent) e

@@ -5,9 +5,8 @@ ghost use mathlib.Core.Bool.{true};
 ghost use Prim.Native.Nat.{_+_, _*_, _≤_, _<_};
 ghost use lib.ListN.{length};
 ghost use Rattle.rules.specs.Lists.{joined};
-ghost use Rattle.rules.specs.Orders.{andThen};
 ghost use Rattle.rules.specs.Rows.{rowsOf};
-ghost use Rattle.rules.specs.Sheets.{isLine, numberAt, columnOf, tableIn, readChecked, readOf, rowLine, sheetOf, checkRoom, checkWrite, writeOf};
+ghost use Rattle.rules.specs.Sheets.{isLine, numberAt, columnOf, tableIn, readChecked, readOf, rowLine, sheetOf, checkWrite, writeOf};
 ghost use Rattle.rules.specs.Tables.{zeroTable};
 ghost use Rattle.fields.specs.Wrote.{Wrote};
 ghost use Rattle.sheet.specs.Lines.{linesOk, Lined};
@@ -176,31 +175,14 @@ fn put_sheet(out: &mut [u8], t: Table) -> usize
     put_rows(out, next, t)
 }
 
-// Check 10 on any table: room bytes are enough for its sheet.
-fn check_room(t: Table, room: usize) -> Check
-    ensures { λ r. ⌜ r ≡ checkRoom t room ⌝ }
-{
-    if room < 25 + 33 * (t.n as usize) {
-        return Check::Refused(Refusal::NoRoom);
-    }
-    Check::Passed
-}
-
-// The second check where the first passed.
-fn and_then(first: Check, second: Check) -> Check
-    ensures { λ r. ⌜ r ≡ andThen first second ⌝ }
-{
-    match first {
-        Check::Refused(why) => Check::Refused(why),
-        Check::Passed => second,
-    }
-}
-
 // The writer's checks: 3, 4, 5, then 10.
 fn check_write(t: Table, room: usize) -> Check
     ensures { λ r. ⌜ r ≡ checkWrite t room ⌝ }
 {
-    and_then(checks::check_table(t), check_room(t, room))
+    let size = 25 + 33 * (t.n as usize);
+    let table = checks::check_table(t);
+    let enough = checks::check_room(size, room);
+    checks::and_then(table, enough)
 }
 
 // The writer's answer for any table and any lent bytes: the sheet from byte 0 on and its length, the bytes after it as they were; or the

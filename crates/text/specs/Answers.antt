@@ -6,7 +6,6 @@ use native.Mathlib.Omega.{arith}
 use lib.Count.{ones}
 use lib.ListN.{length, take, drop, length-append}
 use Rattle.rules.specs.declared.Table.{Table}
-use Rattle.rules.specs.declared.Refusal.{Refusal}
 use Rattle.rules.specs.declared.Check.{Check}
 use Rattle.rules.specs.declared.Check.the-variants as Checks
 use Rattle.rules.specs.declared.Reading.{Reading}
@@ -20,7 +19,7 @@ use Rattle.rules.specs.Tables.{Accepted}
 use Rattle.rules.specs.Sheets.{tableIn, checkSheet, readChecked, readOf}
 use Rattle.rules.specs.Choice.{planOf}
 use Rattle.rules.specs.Program.{placeLine, planText, readText, programText}
-use Rattle.theory.specs.Facts.{facts}
+use Rattle.theory.specs.Facts.{clash, facts}
 use Rattle.sheet.specs.SheetsDiffer.{accepts}
 use Rattle.text.specs.Lines.{pair-long, places-long}
 use Rattle.fields.specs.Wrote.{Wrote}
@@ -32,9 +31,6 @@ pub record Answered (input out out' : List ℕ) (r : ℕ) : Type 0 where
   pub within : r ≤ length out'
   pub text : out' ≡ programText input ++ drop (length (programText input)) out
 
-clash : (r : Refusal) → Checks.Refused r ≡ Checks.Passed → ⊥
-clash r e = let z : _≡_ {A = ℕ} 0 1 = cc in omega arith
-
 -- a sheet that passes states an accepted table, and so does what the reader makes of it
 read-accepted : (bytes : List ℕ) → readOf bytes .check ≡ Checks.Passed → Accepted (readOf bytes .table)
 unfolding readOf
@@ -42,7 +38,7 @@ read-accepted bytes h = go (checkSheet bytes) refl h
   where
     go : (c : Check) → checkSheet bytes ≡ c → readChecked c (tableIn bytes) .check ≡ Checks.Passed → Accepted (readChecked c (tableIn bytes) .table)
     go Checks.Passed e q = accepts bytes e .accepted
-    go (Checks.Refused r) e q = absurd (clash r q)
+    go (Checks.Refused r) e q = clash q
 
 -- a table read from a sheet that passed
 pub reading-accepted : (bytes : List ℕ) (r : Reading) → r ≡ readOf bytes → r .check ≡ Checks.Passed → Accepted (r .table)

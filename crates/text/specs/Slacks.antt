@@ -1,12 +1,10 @@
 -- A correct order has a row of the table at each of its first n places, and no row finishes after its deadline.
-use Prim.Native.Nat.{ℕ, zero, suc, _-_, _≤_, _<_}
+use Prim.Native.Nat.{ℕ, _-_, _≤_}
 use mathlib.Core.Bool.{true}
-use mathlib.Core.Path.{_≡_, sym, ap, _∙_}
+use mathlib.Core.Path.{_≡_, ap, _∙_}
 use mathlib.Core.List.{List, [], _∷_, map}
 use native.Mathlib.Omega.{arith}
 use borrow.Author.Tests.{leb-true}
-use lib.ListN.{length, getD, take}
-use lib.Seq.{getD-take}
 use Rattle.rules.specs.declared.Table.{Table}
 use Rattle.rules.specs.declared.Check.the-variants.{Passed}
 use Rattle.rules.specs.declared.Planned.the-variants.{Ordered}
@@ -20,9 +18,8 @@ use Rattle.rules.specs.Choice.{padded}
 use Rattle.rules.specs.Fields.{line}
 use Rattle.rules.specs.Numbers.{plannedNumber}
 use Rattle.rules.specs.Program.{placeLine}
-use Rattle.theory.specs.Counts.{In, in-head, in-tail, same-size}
-use Rattle.theory.specs.Facts.{Row, rows-in, facts}
-use Rattle.theory.specs.Places.{length-rows, order-rows}
+use Rattle.theory.specs.Facts.{Row, facts}
+use Rattle.theory.specs.Places as Places
 use Rattle.theory.specs.Verdict.{all-meet}
 use Rattle.sweep.specs.Padded.{padded-at}
 use Rattle.planner.specs.Promise.{Promise}
@@ -37,11 +34,6 @@ pub record Right (t : Table) (o : List ℕ) : Type 0 where
 pub record Timed (t : Table) (o finishes : List ℕ) : Type 0 where
   pub right : Right t o
   pub worst : finishes ≡ padded (map (worstFinish t o) (rowsOf t))
-
-entry-in : (l : List ℕ) (k : ℕ) → k < length l → In (getD l k 0) l
-entry-in [] k h = absurd (omega arith)
-entry-in (x ∷ l) zero h = in-head x l
-entry-in (x ∷ l) (suc k) h = in-tail (getD l k 0) x l (entry-in l k (omega arith))
 
 -- checks 3 to 6 pass
 pub both-pass : (t : Table) (o : List ℕ) → Right t o → checkBoth t o ≡ Passed
@@ -62,12 +54,7 @@ ordered-right t r a p e =
 module _ (t : Table) (o finishes : List ℕ) (timed : Timed t o finishes) where
   -- the row at a place
   pub place-row : (k : ℕ) → 1 ≤ k → k ≤ t .n → Row t (at o k)
-  place-row k a b =
-      let s = order-rows t o (timed .right .order) in
-      let l : length (take (t .n) o) ≡ t .n = sym (same-size (rowsOf t) (take (t .n) o) s) ∙ length-rows (t .n) in
-      let i : In (getD (take (t .n) o) (k - 1) 0) (take (t .n) o) = entry-in (take (t .n) o) (k - 1) (omega arith) in
-      let j : In (at o k) (take (t .n) o) = rw (getD-take (t .n) o (k - 1) 0 (omega arith)) at i in
-      rows-in t (at o k) (omega (arith, s (at o k)))
+  place-row k a b = Places.place-row t o (timed .right .order) k a b
 
   pub finish-is : (i : ℕ) → Row t i → at finishes i ≡ worstFinish t o i
   finish-is i r = rw (timed .worst) (padded-at (worstFinish t o) (t .n) i (r .from) (r .upTo) (few t o (timed .right)))

@@ -1,9 +1,10 @@
 -- Lists of rows as sets: how often a row stands in a list, and sums over lists that hold the same rows.
-use Prim.Native.Nat.{_<_, zero, ℕ, suc, _+_, _-_, _≤_}
+use Prim.Native.Nat.{_<_, zero, ℕ, suc, _+_, _-_, _*_, _≤_}
 use mathlib.Core.Bool.{Bool, true, false}
 use mathlib.Core.Path.{_≡_, refl, sym, _∙_}
 use mathlib.Core.List.{List, [], _∷_, _++_}
 use mathlib.Core.Logic.{_⊎_, inl, inr}
+use native.Mathlib.Nat.{mul-suc}
 use native.Mathlib.Omega.{arith}
 use lib.Dec.{eqb}
 use lib.ListN.{length, getD}
@@ -163,6 +164,11 @@ sum-zero f (x ∷ l) h = omega (arith, h x (in-head x l), sum-zero f l (λ y i. 
 -- what one row of the list has is part of the sum
 pub sum-part : (f : ℕ → ℕ) (x : ℕ) (l : List ℕ) → In x l → f x ≤ sum f l
 sum-part f x l h = omega (arith, sum-erase f x l h)
+
+-- no row has more than m
+pub sum-most : (f : ℕ → ℕ) (m : ℕ) (l : List ℕ) → ((x : ℕ) → In x l → f x ≤ m) → sum f l ≤ m * length l
+sum-most f m [] h = omega arith
+sum-most f m (x ∷ l) h = omega (arith, mul-suc m (length l), h x (in-head x l), sum-most f m l (λ y i. h y (in-tail y x l i)))
 
 -- one row falls by one and none grows: the sum falls
 pub sum-falls : (f g : ℕ → ℕ) (x : ℕ) (l : List ℕ) → In x l → ((y : ℕ) → In y l → f y ≤ g y) → suc (f x) ≤ g x → suc (sum f l) ≤ sum g l

@@ -8,7 +8,6 @@ use lib.Dec.{ltb, leb}
 use borrow.Author.Tests.{leb-true, ltb-true, lt-ltb, le-leb}
 use Rattle.rules.specs.declared.Table.{Table}
 use Rattle.rules.specs.declared.Refusal.{Refusal}
-use Rattle.rules.specs.declared.Refusal.the-variants.{RowCount, Speeds, RowLimits, NotAnOrder}
 use Rattle.rules.specs.declared.Check.{Check}
 use Rattle.rules.specs.declared.Check.the-variants.{Passed, Refused}
 use Rattle.rules.specs.Lists.{all, rowsTo, count}
@@ -112,8 +111,9 @@ pub record TableFacts (t : Table) : Type 0 where
   pub row : (i : ℕ) → Row t i → RowFacts t i
   pub tail : tailOk t ≡ true
 
-clash : (r : Refusal) → Refused r ≡ Passed → ⊥
-clash r e = let z : _≡_ {A = ℕ} 0 1 = cc in omega arith
+-- a refusal is not a check that passed
+pub clash : {A : Type 0} {r : Refusal} → Refused r ≡ Passed → A
+clash e = let z : _≡_ {A = ℕ} 0 1 = cc in absurd (omega arith)
 
 pub facts : (t : Table) → Accepted t → TableFacts t
 unfolding checkTable
@@ -131,9 +131,9 @@ facts t h =
       row = λ i k. row-facts t i (all-in (rowOk t) (rowsOf t) (and-left (all (rowOk t) (rowsOf t)) (tailOk t) e3) i (in-rows t i k));
       tail = and-right (all (rowOk t) (rowsOf t)) (tailOk t) e3;
     })
-    (λ e3. absurd (clash RowLimits (rw (e1, e2, e3) at h))))
-    (λ e2. absurd (clash Speeds (rw (e1, e2) at h))))
-    (λ e1. absurd (clash RowCount (rw e1 at h)))
+    (λ e3. clash (rw (e1, e2, e3) at h)))
+    (λ e2. clash (rw (e1, e2) at h)))
+    (λ e1. clash (rw e1 at h))
   where
     p : Bool
     p = leb 1 (t .normal)
@@ -160,4 +160,4 @@ pub both-order : (t : Table) (o : List ℕ) → checkBoth t o ≡ Passed → isO
 unfolding checkBoth checkOrder
 both-order t o e =
     let f : checkOrder t o ≡ Passed = rw (both-accepted t o e) at e in
-    by-bool (isOrder t o) (λ h. h) (λ h. absurd (clash NotAnOrder (rw h at f)))
+    by-bool (isOrder t o) (λ h. h) (λ h. clash (rw h at f))

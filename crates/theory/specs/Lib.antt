@@ -1,10 +1,12 @@
 pub mod Tests
+pub mod Signed
 pub mod Counts
 pub mod Sorting
 pub mod Backlog
 pub mod Sweep
 pub mod Caps
 pub mod Facts
+pub mod Room
 pub mod Cells
 pub mod Demand
 pub mod Invariant

@@ -1,18 +1,19 @@
 -- Where the rows of an order stand: an order that passes check 6 holds each row once in its first n places, and nothing else.
-use Prim.Native.Nat.{ℕ, zero, suc, _+_, _≤_}
+use Prim.Native.Nat.{ℕ, zero, suc, _+_, _-_, _≤_}
 use mathlib.Core.Bool.{true}
 use mathlib.Core.Path.{_≡_, refl, sym, ap, _∙_}
 use mathlib.Core.List.{List, [], _∷_, _++_, append-assoc}
 use native.Mathlib.Omega.{arith}
 use lib.Dec.{eqb}
-use lib.ListN.{length, take, drop, length-append, length-take, take-append-drop}
+use lib.ListN.{length, getD, take, drop, length-append, length-take, take-append-drop}
+use lib.Seq.{getD-take, take-suc}
 use borrow.Author.Tests.{eqb-true}
 use Rattle.rules.specs.declared.Table.{Table}
-use Rattle.rules.specs.Lists.{all, allZero, rowsTo, count, erase}
-use Rattle.rules.specs.Rows.{rowsOf}
+use Rattle.rules.specs.Lists.{all, allZero, rowsTo, count, erase, sum}
+use Rattle.rules.specs.Rows.{at, rowsOf}
 use Rattle.rules.specs.Orders.{isOrder}
 use Rattle.theory.specs.Tests.{by-eqb, by-leb, and-left, and-right}
-use Rattle.theory.specs.Counts.{In, Once, Within, Same, part, count-append, count-same, count-other, count-erase-same, count-erase-other, length-erase}
+use Rattle.theory.specs.Counts.{In, Once, Within, Same, part, in-entry, sum-append, sum-same, same-size, count-append, count-same, count-other, count-erase-same, count-erase-other, length-erase}
 use Rattle.theory.specs.Facts.{Row, in-rows, rows-in, all-in, count-rows, count-zero, count-no-row}
 
 -- a list of zeros holds no row
@@ -71,6 +72,31 @@ order-rows t o e = same-length (rowsOf t) (take (t .n) o) within (omega (arith, 
               (and-right (all (λ i. eqb (count i o) 1) (rowsOf t)) (allZero (drop (t .n) o)) e),
         ))
         (λ _ i. omega arith)
+
+-- there are n of them
+pub order-long : (t : Table) (o : List ℕ) → isOrder t o ≡ true → length (take (t .n) o) ≡ t .n
+order-long t o e = sym (same-size (rowsOf t) (take (t .n) o) (order-rows t o e)) ∙ length-rows (t .n)
+
+-- the row at a place
+pub place-row : (t : Table) (o : List ℕ) → isOrder t o ≡ true → (k : ℕ) → 1 ≤ k → k ≤ t .n → Row t (at o k)
+place-row t o e k a b =
+    let l = order-long t o e in
+    let i : In (getD (take (t .n) o) (k - 1) 0) (take (t .n) o) = in-entry (take (t .n) o) (k - 1) (omega arith) in
+    let j : In (at o k) (take (t .n) o) = rw (getD-take (t .n) o (k - 1) 0 (omega arith)) at i in
+    rows-in t (at o k) (omega (arith, order-rows t o e (at o k)))
+
+-- a sum over places, one after the other
+sum-places : (f : ℕ → ℕ) (o : List ℕ) (n : ℕ) → n ≤ length o → sum (λ k. f (at o k)) (rowsTo n) ≡ sum f (take n o)
+sum-places f o zero h = refl
+sum-places f o (suc n) h =
+    let q : suc n - 1 ≡ n = omega arith in
+    sum-append (λ k. f (at o k)) (rowsTo n) (suc n ∷ [])
+    ∙ rw (take-suc o n 0 (omega arith), sum-append f (take n o) (getD o n 0 ∷ []), sum-places f o n (omega arith), q)
+
+-- over all places it is the sum over the rows of the table
+pub sum-lines : (t : Table) (o : List ℕ) → isOrder t o ≡ true → (f : ℕ → ℕ) → sum (λ k. f (at o k)) (rowsOf t) ≡ sum f (rowsOf t)
+sum-lines t o e f =
+    sum-places f o (t .n) (omega (arith, order-long t o e, length-take (t .n) o)) ∙ sym (sum-same f (rowsOf t) (take (t .n) o) (order-rows t o e))
 
 -- row i in an order: the rows above it are rows of the table, and none of them, nor i, stands there twice
 pub record Placed (t : Table) (o : List ℕ) (i : ℕ) : Type 0 where

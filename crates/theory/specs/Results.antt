@@ -1,14 +1,13 @@
 -- The results of this crate, to be cited by name. Each is a statement about the definitions of `rules` and is preceded by what it says.
 -- Lists of rows are compared by how often each row stands in them (Counts): `In x l`, row x stands in l; `Within a b`, what stands in a
 -- stands in b; `Same a b`, the two hold the same rows. A list that is within the table's rows holds each row at most once.
-use Prim.Native.Nat.{ℕ, _+_, _-_, _*_, _≤_}
+use Prim.Native.Nat.{ℕ, _+_, _-_, _≤_}
 use mathlib.Core.Bool.{true, false}
 use mathlib.Core.Path.{_≡_, sym, subst}
 use mathlib.Core.List.{List, [], _∷_, _++_}
 use mathlib.Core.Logic.{_↔_}
 use native.Mathlib.Omega.{arith}
 use lib.IntN.{pos}
-use lib.ListN.{length}
 use lib.Signed.{ltZ}
 use borrow.Author.Tests.{leb-true}
 use Rattle.rules.specs.declared.Table.{Table}
@@ -21,7 +20,7 @@ use Rattle.rules.specs.Correct.{KeptIn, Correct, Window}
 use Rattle.rules.specs.Worst.{worstSpeed, horizon, worstFinish, slack, meets}
 use Rattle.rules.specs.Choice.{passes, choice, padded}
 use Rattle.theory.specs.Tests.{not-is}
-use Rattle.theory.specs.Counts.{In, Within, Same, in-head, in-tail, erase-last, count-append, sum-within}
+use Rattle.theory.specs.Counts.{In, Within, Same, in-head, in-tail, erase-last, count-append, sum-within, sum-most}
 use Rattle.theory.specs.Backlog.{finish-set, finish-only}
 use Rattle.theory.specs.Sorting.{Sorted}
 use Rattle.theory.specs.Sweep.{sweep}
@@ -128,17 +127,12 @@ module _ (t : Table) (accepted : Accepted t) where
       omega (
         arith,
         sum-within (cap t s) l (rowsOf t) w,
-        most (rowsOf t) (λ x i. rows-in t x i),
+        sum-most (cap t s) 1000000 (rowsOf t) (λ x i. omega (arith, cap-most t s x (f .runs) s1, f .row x (rows-in t x i) .light)),
         latest (rowsOf t) (λ x i. rows-in t x i),
         length-rows (t .n),
         f .few,
       )
     where
-      most : (l : List ℕ) → ((x : ℕ) → In x l → Row t x) → sum (cap t s) l ≤ 1000000 * length l
-      most [] r = omega arith
-      most (x ∷ l) r =
-          omega (arith, cap-most t s x (f .runs) s1, f .row x (r x (in-head x l)) .light, most l (λ y i. r y (in-tail y x l i)))
-
       latest : (l : List ℕ) → ((x : ℕ) → In x l → Row t x) → greatest (releaseOf t) l ≤ 1000000
       latest [] r = omega arith
       latest (x ∷ l) r =

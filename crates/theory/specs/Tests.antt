@@ -1,7 +1,7 @@
 -- Case analysis on a test, and what passed tests say.
 use Prim.Native.Nat.{ℕ, _≤_, _<_}
 use mathlib.Core.Bool.{Bool, true, false, not, _&&_}
-use mathlib.Core.Path.{_≡_, refl, _∙_}
+use mathlib.Core.Path.{_≡_, refl, _∙_, sym}
 use native.Mathlib.Omega.{arith}
 use lib.Dec.{ltb, leb, eqb}
 use borrow.Author.Tests.{ltb-true, ltb-false, leb-true, leb-false, eqb-true, eqb-false}
@@ -42,6 +42,10 @@ and-both false b p q = p
 pub not-is : (b : Bool) → not b ≡ true → b ≡ false
 not-is true e = absurd (not-both false e refl)
 not-is false e = refl
+
+pub is-not : (b : Bool) → not b ≡ false → b ≡ true
+is-not true e = refl
+is-not false e = sym e
 
 pub and-true : (a : Bool) → a && true ≡ a
 and-true true = refl

@@ -8,8 +8,10 @@
 //! on; the last one is repeated. Without any, every slot supplies N.
 
 use model::calls::one_slot_on_paper;
+use model::order::Order;
 use model::plan::plan;
 use model::program::KEPT;
+use model::report::{report, LONGEST_REPORT};
 use model::run::{chosen, kept_deadline, State};
 use model::sheet::{read_sheet, write_back, LONGEST_SHEET};
 use model::table::Table;
@@ -122,7 +124,25 @@ fn sheet_line(read: &[u8], written: &[u8]) -> String {
     )
 }
 
-/// Reads a sheet, writes it back, plans and runs it; gives the exit status.
+/// Prints every job under an order as the report has it, headings before it;
+/// gives the report's number.
+fn print_report(out: &mut impl Write, table: &Table, order: &Order) -> io::Result<u32> {
+    let mut lent = [0; LONGEST_REPORT];
+    let (number, length) = report(table, order, &mut lent);
+    if number == 0 {
+        writeln!(
+            out,
+            "report: need, worst finish and slack in slots; \
+             last line: sum of needs in slots, rows with slack below 0"
+        )?;
+        writeln!(out, "     place       row need at N    finish     slack")?;
+        out.write_all(&lent[..length as usize])?;
+    }
+    Ok(number)
+}
+
+/// Reads a sheet, writes it back, plans, reports and runs it; gives the exit
+/// status.
 fn plan_and_run(out: &mut impl Write, sheet: &[u8], supplies: &[u32]) -> io::Result<u8> {
     let (number, table) = read_sheet(sheet);
     if number != 0 {
@@ -143,6 +163,10 @@ fn plan_and_run(out: &mut impl Write, sheet: &[u8], supplies: &[u32]) -> io::Res
     let places = answer.order.into_iter().take(table.n as usize);
     writeln!(out, "number 0: {}", words_for(0))?;
     writeln!(out, "order:{}", listed(places))?;
+    let number = print_report(out, &table, &answer.order)?;
+    if number != 0 {
+        return refuse(out, number);
+    }
     let mut state = State::FRESH;
     while state.closing[..table.n as usize].contains(&0) {
         let slot = state.clock;

@@ -1,4 +1,4 @@
-//! What several test files share: tables, answers, random runs.
+//! What several test files share: tables, answers, random runs, lent bytes.
 #![allow(dead_code)]
 
 use model::judge::Verdict;
@@ -35,6 +35,11 @@ pub fn refused_verdict(number: u32) -> Verdict {
         row: 0,
         slack: 0,
     }
+}
+
+/// Bytes that neither a sheet nor a report has, each other than its neighbours.
+pub fn rubbish(length: usize) -> Vec<u8> {
+    (0..length).map(|index| 128 | index as u8).collect()
 }
 
 /// Small tables on which both answers, 0 and 7, are common.

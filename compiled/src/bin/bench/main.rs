@@ -13,6 +13,7 @@ use compiled::stack;
 use model::order::{order_of, Order};
 use model::plain;
 use model::record::Record;
+use model::report::LONGEST_REPORT;
 use model::sheet::LONGEST_SHEET;
 use model::table::{Row, Table, HI};
 use std::hint::black_box;
@@ -26,15 +27,16 @@ const ROW_COUNTS: [u32; 4] = [8, 16, 32, 64];
 fn main() {
     println!("Ratio: time of the library divided by time of plain Rust, same run and inputs.");
     println!("Buffers for results are not cleared before a call, on either side; both sides");
-    println!("write them whole, but of a sheet's buffer just the sheet. Run records stay in");
-    println!("place from slot to slot; a forward call starts from a copy of a fresh record,");
-    println!("and the copy is in the time of both.");
+    println!("write them whole, but of a sheet's or a report's buffer just the text. Run");
+    println!("records stay in place from slot to slot; a forward call starts from a copy of a");
+    println!("fresh record, and the copy is in the time of both.");
     println!("Times are the best of several batches that take turns.\n");
     pairs::print_head();
     for_each_count(|n| measure_plan("hard", &hard(n)));
     for_each_count(|n| measure_plan("easy", &easy(n)));
     for_each_count(|n| measure_judge(&hard(n)));
     for_each_count(|n| measure_write(&hard(n)));
+    for_each_count(|n| measure_report(&hard(n)));
     for_each_count(|n| measure_slot(&last_row_open(n)));
     for_each_count(|n| measure_forward(&busy(n)));
     print_stack();
@@ -112,6 +114,25 @@ fn measure_write(table: &Table) {
         black_box(&other);
     };
     pairs::measure("write a sheet", table.n, &mut library, &mut plain);
+}
+
+fn measure_report(table: &Table) {
+    let input = Input::of(table);
+    let (mut report, mut length) = ([0; LONGEST_REPORT], 0);
+    let mut library = || {
+        let (words, order) = black_box((&input.words, &input.order));
+        let (lent, room) = (report.as_mut_ptr(), report.len());
+        // SAFETY: as in `measure_plan`.
+        black_box(unsafe { raw::jb_report(words, order, lent, room, &mut length) });
+        black_box((&report, length));
+    };
+    let mut other = [0; LONGEST_REPORT];
+    let mut plain = || {
+        let (table, order) = black_box((&input.table, &input.order));
+        black_box(plain::report(table, order, &mut other));
+        black_box(&other);
+    };
+    pairs::measure("report", table.n, &mut library, &mut plain);
 }
 
 /// A record in which the row at the lowest place alone is open, so that every

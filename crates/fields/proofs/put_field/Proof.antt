@@ -1,12 +1,13 @@
 -- The first i bytes of the field are copied.
 use Prim.Native.Nat.{_-_, _≤_}
 use borrow.Author.Needs.{needs}
-use mathlib.Core.Path.{_≡_, refl, ap, _∙_}
+use mathlib.Core.Path.{_≡_, refl, sym, ap, _∙_}
 use native.Mathlib.Numerals.{add-one}
 use native.Mathlib.Omega.{arith}
 use lib.ListN.{length, length-set}
 use lib.Seq.{paste, paste-zero, paste-suc}
-use Rattle.fields.specs.Lengths.{written-long, wrote-field}
+use Rattle.fields.specs.Lengths.{written-long}
+use Rattle.fields.specs.Wrote.{wrote-as, wrote-bytes}
 use Rattle.fields.proofs.put_field.Statement.{statement}
 use Rattle.fields.proofs.put_field.Tie as tie
 
@@ -59,7 +60,9 @@ returns c =
     let w = c .before .before in
     let s = w .before .before in
     let l = c .before .loop in
-    wrote-field (s .args .out .now) (s .args .at) (s .args .value) (w .written .result) (l .out) (l .i) (s .pre) (w .written .ensures) (omega arith) (l .inv .2)
+    let n : length (w .written .result) ≡ 8 = ap length (w .written .ensures) ∙ written-long (s .args .value) in
+    let e : l .i ≡ 8 = omega arith in
+    wrote-as (w .written .ensures) (wrote-bytes (s .args .out .now) (s .args .at) (w .written .result) (l .out) 8 (omega (arith, n, s .pre)) (sym n) (rw e at (l .inv .2)))
 
 pub put-field-spec : {M : Type 1} → statement M
 put-field-spec =

@@ -1,6 +1,5 @@
 -- Below zero, -1 less the slack is not, and its bits are what the slack's are short of 2^32 - 1.
-use borrow.Author.Needs.{needs}
-use Rattle.jasminebrace.specs.Packed.{less-fits, less-cast, less-within, less-bits, plain-cast, plain-bits}
+use Rattle.theory.specs.Signed.{less-fits, less-cast, less-within, less-bits, plain-cast, plain-bits}
 use Rattle.jasminebrace.proofs.slack_bits.Statement.{statement}
 use Rattle.jasminebrace.proofs.slack_bits.Tie as tie
 

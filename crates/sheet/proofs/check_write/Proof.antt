@@ -1,8 +1,18 @@
--- The table's check, and check 10 after it.
+-- A sheet of n rows has 25 + 33 n bytes: the table's check, and check 10 after it.
 use borrow.Author.Needs.{needs}
 use Rattle.rules.specs.Sheets.{checkWrite}
+use Rattle.sheet.specs.Writer.{sheet-long}
 use Rattle.sheet.proofs.check_write.Statement.{statement}
 use Rattle.sheet.proofs.check_write.Tie as tie
+
+cast-size : tie.Need-cast-size
+cast-size c = search needs
+
+mul-size : tie.Need-mul-size
+mul-size c = search needs
+
+add-size : tie.Need-add-size
+add-size c = search needs
 
 check-table-requires : tie.Need-check-table-requires
 check-table-requires c κs = search needs
@@ -15,7 +25,9 @@ and-then-requires c κs = search needs
 
 returns : tie.Need-returns
 unfolding checkWrite
-returns c = rw (← c .before .before .check-table .ensures, ← c .before .check-room .ensures) (c .and-then .ensures)
+returns c =
+    let k = c .before .before in
+    rw (sheet-long (k .before .before .args .t), ← k .check-table .ensures, ← c .before .check-room .ensures) (c .and-then .ensures)
 
 pub check-write-spec : {M : Type 1} → statement M
-check-write-spec = tie.close (tie.spec check-table-requires check-room-requires and-then-requires returns)
+check-write-spec = tie.close (tie.spec cast-size mul-size add-size check-table-requires check-room-requires and-then-requires returns)

@@ -4,10 +4,11 @@ use native.Mathlib.Omega.{arith}
 use mathlib.Core.Path.{sym, ap, _∙_}
 use Prim.Native.Nat.{_+_, _*_, _≤_}
 use lib.ListN.{length}
-use Rattle.rules.specs.Sheets.{WrittenBack}
+use Rattle.rules.specs.Lent.{WrittenBack}
 use Rattle.rules.specs.Tables.{Accepted}
 use Rattle.theory.specs.Facts.{facts}
-use Rattle.sheet.specs.Writer.{fits, sheet-long, back-refused, back-passed, wrote-size, wrote-all}
+use Rattle.fields.specs.Wrote.{wrote-size, wrote-all}
+use Rattle.sheet.specs.Writer.{fits, sheet-long, back-refused, back-passed}
 use Rattle.sheet.proofs.write.Statement.{statement}
 use Rattle.sheet.proofs.write.Tie as tie
 
@@ -36,7 +37,7 @@ cast-t12 c =
     let g = c .before .before in
     let t = checked (g .before) .before .before .args .t in
     let f = accepted-fits (g .before) in
-    let w = wrote-size t _ _ _ (g .put-sheet .ensures) in
+    let w = wrote-size (g .put-sheet .ensures) in
     let few = facts t (f .0) .few in
     omega (arith, sheet-long t)
 
@@ -56,8 +57,8 @@ returns-2 c =
     let t = k .before .before .args .t in
     let lent = k .before .before .args .out .now in
     let e = back-passed t lent (sym (k .check-write .ensures) ∙ g .before .before .enum-told .given .1) in (
-      rw (wrote-size t lent _ _ (g .put-sheet .ensures)) (sym (ap (λ (b : WrittenBack). b .said) e)),
-      wrote-all t lent _ _ (g .put-sheet .ensures) ∙ sym (ap (λ (b : WrittenBack). b .bytes) e),
+      rw (wrote-size (g .put-sheet .ensures)) (sym (ap (λ (b : WrittenBack). b .said) e)),
+      wrote-all (g .put-sheet .ensures) ∙ sym (ap (λ (b : WrittenBack). b .bytes) e),
     )
 
 pub write-spec : {M : Type 1} → statement M

@@ -1,7 +1,7 @@
 -- The first refusal counts.
 use borrow.Author.Needs.{needs}
-use Rattle.sheet.proofs.and_then.Statement.{statement}
-use Rattle.sheet.proofs.and_then.Tie as tie
+use Rattle.checks.proofs.and_then.Statement.{statement}
+use Rattle.checks.proofs.and_then.Tie as tie
 
 enum-known-first : tie.Need-enum-known-first
 enum-known-first c = search needs

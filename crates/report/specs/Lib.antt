@@ -1,0 +1,3 @@
+pub mod Jobs
+pub mod Totals
+pub mod Lines
