@@ -67,7 +67,7 @@ static int status_of(uint32_t number) {
  * A figure as a field of 8 bytes, which holds it: all that are put are below
  * 100,000,000. The largest are worst finishes, and slots after a deadline. A
  * finish is at most the latest release, 999,999 slots, and the needs of 64 rows,
- * 1,000,000 slots each: below 65,000,000 slots.
+ * 1,000,016 slots each: at most 65,001,023 slots.
  */
 static void put_field(uint32_t figure) {
     uint8_t field[JB_FIELD];
@@ -92,11 +92,12 @@ static const char *level_word(uint32_t level) {
 /* ---- what is wrong with a sheet ---- */
 
 /* A sheet of one row that the reader accepts. Probes put one part of another sheet in its place. */
-static const char PROBE[] = "       1       1       1\n"
+static const char PROBE[] = "       1       1       1       0\n"
                             "       0       1       1       0\n";
 enum {
     PROBE_LENGTH = JB_FIRST_LINE + JB_ROW_LINE,
-    FIRST_LINE_FIELDS = 3,
+    FIRST_LINE_FIELDS = 4,
+    LOADING_FIELD = 4, /* that of K in the first line, from 1 */
     ROW_FIELDS = 4,
     LINE_END = 10
 };
@@ -271,22 +272,31 @@ static void find_length_fault(const uint8_t *bytes, size_t length, fault *found)
     }
 }
 
-/* A whole field at fault: the first of its bytes, and its figure. */
-static void note_field(const uint8_t *bytes, uint32_t row, uint32_t field, fault *found) {
+/* Where a field of a sheet begins, from 0. */
+static size_t field_begin(uint32_t row, uint32_t field) {
     const size_t line = row == 0 ? 0 : JB_FIRST_LINE + (row - 1) * (size_t)JB_ROW_LINE;
-    const size_t begin = line + (field - 1) * (size_t)JB_FIELD;
-    const char *text = (const char *)bytes + begin;
-    int spaces = 0;
-    while (spaces < JB_FIELD && text[spaces] == ' ') {
-        spaces++;
-    }
-    found->row = row;
-    found->field = field;
-    found->byte = begin + 1;
-    snprintf(found->what, sizeof found->what, "the figure is %.*s", JB_FIELD - spaces, text + spaces);
+    return line + (field - 1) * (size_t)JB_FIELD;
 }
 
-/* Which speed made the reader answer 4: N if it is refused beside a G of 1, else G. */
+/* The figure of a field that the reader takes for well formed. */
+static uint32_t figure_of(const uint8_t *bytes, uint32_t row, uint32_t field) {
+    uint8_t copy[JB_FIELD];
+    const text_piece whole = {copy, JB_FIELD};
+    uint32_t figure = 0;
+    memcpy(copy, bytes + field_begin(row, field), JB_FIELD);
+    read_figure(without_blanks_before(whole), &figure);
+    return figure;
+}
+
+/* A whole field at fault: the first of its bytes, and its figure. */
+static void note_field(const uint8_t *bytes, uint32_t row, uint32_t field, fault *found) {
+    found->row = row;
+    found->field = field;
+    found->byte = field_begin(row, field) + 1;
+    snprintf(found->what, sizeof found->what, "the figure is %" PRIu32, figure_of(bytes, row, field));
+}
+
+/* Which speed made the reader answer 4: N if it is refused beside the probe's G of 1, else G. */
 static void find_speed_fault(const uint8_t *bytes, fault *found) {
     const bool normal = ask_probe(JB_FIELD, bytes + JB_FIELD, JB_FIELD) == JB_SPEEDS;
     note_field(bytes, 0, normal ? 2 : 3, found);
@@ -323,15 +333,23 @@ static void find_fault(uint32_t number, const uint8_t *bytes, size_t length, fau
     case JB_MALFORMED: find_malformed(bytes, length, found); break;
     case JB_ROW_COUNT: note_field(bytes, 0, 1, found); break;
     case JB_SPEEDS: find_speed_fault(bytes, found); break;
+    case JB_LOADING: note_field(bytes, 0, LOADING_FIELD, found); break;
     case JB_ROW_LIMITS: find_row_fault(bytes, length, found); break;
     default: break;
     }
 }
 
+/* What belongs into a field; NULL for the row count, which no rows file has, and for a line end. */
+static const column_kind *kind_of_field(uint32_t row, uint32_t field) {
+    if (field > fields_of(row) || (row == 0 && field == 1)) {
+        return NULL;
+    }
+    return row == 0 ? &TABLE_KINDS[field - 2] : &ROW_KINDS[field - 1];
+}
+
 static const char *field_name(uint32_t row, uint32_t field) {
-    static const char *const first[] = {"row count n", "normal speed N", "degraded speed G", "line end"};
-    static const char *const others[] = {"release", "work", "deadline", "level", "line end"};
-    return row == 0 ? first[field - 1] : others[field - 1];
+    const column_kind *kind = kind_of_field(row, field);
+    return kind != NULL ? kind->name : field > fields_of(row) ? "line end" : "row count n";
 }
 
 /* The line of a byte as an editor counts it, and where that line begins; all from 1. */
@@ -373,6 +391,22 @@ static void put_place(FILE *to, const uint8_t *bytes, const fault *found) {
     fprintf(to, " %s\n", found->what);
 }
 
+/* Says what is allowed in place of a figure that the reader refused. */
+static void put_allowed(FILE *to, const uint8_t *bytes, const fault *found) {
+    const column_kind *kind = kind_of_field(found->row, found->field);
+    char allowed[ALLOWED];
+    uint32_t other = 0;
+    if (kind == NULL) {
+        put_allowed_rows(to);
+        return;
+    }
+    if (kind->other != 0) {
+        other = figure_of(bytes, found->row, (uint32_t)kind->other + (found->row == 0));
+    }
+    name_allowed(kind, kind->other == 0 ? NULL : &other, allowed, sizeof allowed);
+    fprintf(to, "allowed: %s\n", allowed);
+}
+
 /* Says why the reader answered this number, and what to do. */
 static void explain_refusal(FILE *to, uint32_t number, const uint8_t *bytes, size_t length) {
     fault found;
@@ -385,6 +419,9 @@ static void explain_refusal(FILE *to, uint32_t number, const uint8_t *bytes, siz
         fprintf(to, "length: the sheet has %zu bytes%s; %s %zu\n", length, more, of, found.whole);
     }
     put_place(to, bytes, &found);
+    if (number != JB_LENGTH && number != JB_MALFORMED) {
+        put_allowed(to, bytes, &found);
+    }
     put_remedy(to, number);
 }
 
@@ -400,12 +437,22 @@ static void explain_no_order(FILE *to, uint64_t left) {
     put_remedy(to, JB_NO_ORDER);
 }
 
-/* Says what to do with a rows file that was given for a sheet. */
+/* The first line is well formed up to K's field, and ends where that begins: so it was before a sheet had K. */
+static bool lacks_loading(const uint8_t *bytes, size_t length) {
+    const size_t begin = field_begin(0, LOADING_FIELD);
+    return length > begin && is_line_end(bytes[begin]) && ask_probe(0, bytes, begin) != JB_MALFORMED;
+}
+
+/* Says what to do with a rows file that was given for a sheet, and with a sheet from before K. */
 static void put_hint(FILE *to, const sheet_file *sheet) {
     sheet_file copy = *sheet;
     const text_piece text = {copy.bytes, copy.length};
     if (begins_as_rows_file(text)) {
         fputs("hint: this is a rows file; 'jasminebrace sheet ROWS.csv' makes a sheet of it\n", to);
+    } else if (lacks_loading(sheet->bytes, sheet->length)) {
+        fputs("hint: the field of K (loading, in slots) is missing; a sheet from before K is brought up by a field "
+              "'       0' before its first line end: sed '1s/$/       0/' SHEET\n",
+              to);
     }
 }
 
@@ -799,37 +846,57 @@ static void put_closing(const jb_run *run, uint32_t row) {
     }
 }
 
-static void put_slot(const request *asked, const jb_run *run, uint32_t slot, uint32_t row, uint32_t supply) {
+/* How many of the slots between two records were loading slots of the row that ran in them; 0 for row 0. */
+static uint32_t loading_between(const jb_run *before, const jb_run *after, uint32_t row) {
+    return jb_loaded(after, row) - jb_loaded(before, row);
+}
+
+/* Says what the slot between two records did. */
+static void put_slot(const request *asked, const jb_run *before, const jb_run *run, uint32_t row, uint32_t supply) {
+    const uint32_t slot = before->clock;
     const uint32_t got = row == 0 ? 0 : run->got[row - 1];
     const uint32_t work = row == 0 ? 0 : run->table.work[row - 1];
+    const uint32_t loading = loading_between(before, run, row);
     if (asked->plain) {
         put_field(slot);
         put_field(row);
         put_field(got);
         put_field(work);
         put_field(closing_figure(run, row));
+        put_field(loading);
     } else if (row == 0) {
         printf("slot %" PRIu32 ": idle, supply %" PRIu32 " work units", slot, supply);
     } else {
-        printf("slot %" PRIu32 ": row %" PRIu32 ", supply %" PRIu32 " work units, got %" PRIu32 " of %" PRIu32 " work units",
-               slot, row, supply, got, work);
+        printf("slot %" PRIu32 ": row %" PRIu32, slot, row);
+        if (loading != 0) {
+            printf(", loading slot %" PRIu32 " of %" PRIu32, jb_loaded(run, row), run->table.loading);
+        }
+        printf(", supply %" PRIu32 " work units, got %" PRIu32 " of %" PRIu32 " work units", supply, got, work);
         put_closing(run, row);
     }
     putchar('\n');
 }
 
-static void put_stretch(const request *asked, const jb_run *run, uint32_t first, uint32_t length, uint32_t row) {
+/* Says what the stretch of slots between two records did. */
+static void put_stretch(const request *asked, const jb_run *before, const jb_run *run, uint32_t row) {
+    const uint32_t first = before->clock;
+    const uint32_t length = run->clock - first;
+    const uint32_t loading = loading_between(before, run, row);
     if (asked->plain) {
         put_field(first);
         put_field(length);
         put_field(row);
         put_field(closing_figure(run, row));
+        put_field(loading);
     } else {
-        printf("from slot %" PRIu32 ", %" PRIu32 " %s: ", first, length, slots(length));
+        printf("from slot %" PRIu32 ", %" PRIu32 " %s", first, length, slots(length));
+        if (loading != 0) {
+            printf(" (%" PRIu32 " loading)", loading);
+        }
         if (row == 0) {
-            fputs("idle", stdout);
+            fputs(": idle", stdout);
         } else {
-            printf("row %" PRIu32, row);
+            printf(": row %" PRIu32, row);
             put_closing(run, row);
         }
     }
@@ -873,12 +940,12 @@ static uint32_t work_stretch(jb_run *run, const uint32_t *supplies, size_t count
 static uint32_t run_slots(const request *asked, jb_run *run, const uint32_t *supplies, size_t count) {
     for (size_t index = 0; index < count && !ferror(stdout); index++) {
         uint32_t row;
-        const uint32_t slot = run->clock;
+        const jb_run before = *run;
         const uint32_t number = jb_work_slot(run, supplies[index], &row);
         if (number != JB_OK) {
             return number;
         }
-        put_slot(asked, run, slot, row, supplies[index]);
+        put_slot(asked, &before, run, row, supplies[index]);
     }
     return JB_OK;
 }
@@ -886,12 +953,12 @@ static uint32_t run_slots(const request *asked, jb_run *run, const uint32_t *sup
 static uint32_t run_stretches(const request *asked, jb_run *run, const uint32_t *supplies, size_t count) {
     while (run->clock < count && !ferror(stdout)) {
         uint32_t row;
-        const uint32_t first = run->clock;
-        const uint32_t number = work_stretch(run, supplies + first, count - first, &row);
+        const jb_run before = *run;
+        const uint32_t number = work_stretch(run, supplies + before.clock, count - before.clock, &row);
         if (number != JB_OK) {
             return number;
         }
-        put_stretch(asked, run, first, run->clock - first, row);
+        put_stretch(asked, &before, run, row);
     }
     return JB_OK;
 }
@@ -983,9 +1050,10 @@ static int explain(const request *asked) {
 
 /* ---- writing a sheet, and the rows of one ---- */
 
-/* The file begins as a sheet does: the reader finds nothing malformed in its first line. */
+/* The file begins as a sheet does, or as one from before K: the reader finds nothing malformed in its first line. */
 static bool begins_as_sheet(text_piece text) {
-    return text.length >= JB_FIRST_LINE && ask_probe(0, text.bytes, JB_FIRST_LINE) != JB_MALFORMED;
+    const bool whole = text.length >= JB_FIRST_LINE && ask_probe(0, text.bytes, JB_FIRST_LINE) != JB_MALFORMED;
+    return whole || lacks_loading(text.bytes, text.length);
 }
 
 /* Why a file is no rows file, as far as its first bytes and its length tell; NULL if they do not. */
@@ -1032,22 +1100,31 @@ static int load_rows_file(const char *name, written_table *written) {
     return status;
 }
 
-/* Takes the speeds from the first two words. Gives FINE, or NOT_USABLE with the reason said. */
-static int take_speed_words(char **words, jb_table *table) {
-    text_piece cells[SPEED_COLUMNS];
-    uint32_t speeds[SPEED_COLUMNS];
+/* What to say besides of a word that is no figure: the first may be a rows file, and K may have been left out. */
+static const char *more_on_word(size_t column, text_piece word) {
+    if (column == 1 && is_text(word)) {
+        return "; a rows file is given alone, without other arguments";
+    }
+    if (column == LOADING_COLUMN && (word.length == 0 || piece_has(word, ','))) {
+        return "; K is missing: write N, G and K before the rows, K as 0 where no job loads";
+    }
+    return "";
+}
+
+/* Takes N, G and K from the first three words. Gives FINE, or NOT_USABLE with the reason said. */
+static int take_first_words(char **words, size_t count, jb_table *table) {
+    text_piece cells[TABLE_COLUMNS] = {{NULL, 0}};
+    uint32_t figures[TABLE_COLUMNS];
     char what[320];
-    for (size_t index = 0; index < SPEED_COLUMNS; index++) {
+    for (size_t index = 0; index < TABLE_COLUMNS && index < count; index++) {
         const text_piece word = {(uint8_t *)words[index], strlen(words[index])};
         cells[index] = without_blanks(word);
     }
-    const size_t wrong = read_cells(cells, SPEED_KINDS, SPEED_COLUMNS, speeds, what, sizeof what);
+    const size_t wrong = read_cells(cells, TABLE_KINDS, TABLE_COLUMNS, figures, what, sizeof what);
     if (wrong != 0) {
-        const char *more = wrong == 1 && is_text(cells[0]) ? "; a rows file is given alone, without other arguments" : "";
-        return not_usable("%s: %s%s", SPEED_KINDS[wrong - 1].name, what, more);
+        return not_usable("%s: %s%s", TABLE_KINDS[wrong - 1].name, what, more_on_word(wrong, cells[wrong - 1]));
     }
-    table->normal = speeds[0];
-    table->degraded = speeds[1];
+    set_first_line(table, figures);
     return FINE;
 }
 
@@ -1077,13 +1154,13 @@ static int take_row_word(char *word, size_t row, jb_table *table) {
     return FINE;
 }
 
-/* Takes a table from words: N, G and the rows. Gives FINE, or NOT_USABLE with the reason said. */
+/* Takes a table from words: N, G, K and the rows. Gives FINE, or NOT_USABLE with the reason said. */
 static int take_table_words(char **words, size_t count, written_table *written) {
     memset(written, 0, sizeof *written);
     written->file = NULL;
-    int status = take_speed_words(words, &written->table);
-    for (size_t index = SPEED_COLUMNS; index < count && status == FINE; index++) {
-        status = take_row_word(words[index], index - SPEED_COLUMNS + 1, &written->table);
+    int status = take_first_words(words, count, &written->table);
+    for (size_t index = TABLE_COLUMNS; index < count && status == FINE; index++) {
+        status = take_row_word(words[index], index - TABLE_COLUMNS + 1, &written->table);
     }
     return status;
 }
@@ -1169,11 +1246,11 @@ static const char REPORT_HELP[] =
     "lists every job under an order, with its need, worst finish and slack in slots\n"
     "\n"
     "ROW.. is the order as for judge; without it the planned order is taken. A line for\n"
-    "each place, highest first: place, row, the row's need at N in slots, its worst\n"
-    "finish in slots, its slack in slots. Then a last line: the needs of all rows added\n"
-    "up, in slots, and how many rows have a slack below 0 slots. That count is 0 rows\n"
-    "exactly if the order is correct; any order is listed, with status 0. The heading\n"
-    "names each column and its unit.\n"
+    "each place, highest first: place, row, the row's need at N in slots (K, and its work\n"
+    "at N rounded up), its worst finish in slots, its slack in slots. Then a last line:\n"
+    "the needs of all rows added up, in slots, and how many rows have a slack below 0\n"
+    "slots. That count is 0 rows exactly if the order is correct; any order is listed,\n"
+    "with status 0. The heading names each column and its unit.\n"
     "\n"
     "--plain: the report's bytes alone, without the heading, as the archive wrote them:\n"
     "each figure in 10 columns, a minus right before its first digit, byte 10 at each\n"
@@ -1188,6 +1265,9 @@ static const char RUN_HELP[] =
     "for as many slots, as 1000x5. --order gives an order of the sheet's rows, correct\n"
     "or not; without it the planned order is taken. --stretches says a line for each\n"
     "stretch of slots in which the same row runs, or none, and not one for each slot.\n"
+    "The first K slots that a row runs are its loading slots, which bring no work; a\n"
+    "row that was preempted does not load again. A loading slot is named as one, and a\n"
+    "stretch says how many of its slots are loading: they are its first ones.\n"
     "A row closes when it is done (all its work got) or dropped (a LO row that is\n"
     "not done when its need at N is used up). Done after its deadline it is late.\n"
     "The clock ends at 2,000,000 slots: a supply beyond that is refused with 8.\n"
@@ -1195,9 +1275,10 @@ static const char RUN_HELP[] =
     "--plain: first line: 0 and the row count, or a refusal's number and the count of\n"
     "rows left, 0 but for 7. After 0 a line for each slot: slot, row run (0 for\n"
     "none), work units that the row has got, its work in work units, how it closed: 0\n"
-    "not closed, 1 done, 2 dropped, 3 done late. With --stretches a line for each\n"
-    "stretch: first slot, number of slots, row (0 for none), how it closed at the end\n"
-    "of the stretch. Supplies are not repeated; some would not fit in 8 bytes.\n";
+    "not closed, 1 done, 2 dropped, 3 done late; loading slots: 1 if the slot is one,\n"
+    "else 0. With --stretches a line for each stretch: first slot, number of slots, row\n"
+    "(0 for none), how it closed at the end of the stretch, loading slots in it.\n"
+    "Supplies are not repeated; some would not fit in 8 bytes.\n";
 
 static const char EXPLAIN_HELP[] =
     "says what is wrong with a sheet, where, and what to do about it\n"
@@ -1215,8 +1296,8 @@ static const char SHEET_HELP[] =
     "ROWS.csv is a rows file, or - for standard input: what jasminebrace rows writes,\n"
     "and what a spreadsheet program saves of it as CSV, with commas:\n"
     "\n"
-    "  normal speed N (work units per slot),degraded speed G (work units per slot),,\n"
-    "  5,2,,\n"
+    "  normal speed N (work units per slot),degraded speed G (work units per slot),loading K (slots),\n"
+    "  5,2,0,\n"
     "  release (slots),work (work units),deadline (slots),level (HI or LO)\n"
     "  0,20,10,HI\n"
     "  5,15,10,LO\n"
@@ -1230,7 +1311,8 @@ static const char SHEET_HELP[] =
     "16,777,216 bytes.\n"
     "\n"
     "Without a file: N and G are the normal and the degraded speed in work units per\n"
-    "slot; RELEASE and DEADLINE are in slots, WORK in work units, LEVEL is as above.\n"
+    "slot, K is the loading of each job in slots, 0 where no job loads; RELEASE and\n"
+    "DEADLINE are in slots, WORK in work units, LEVEL is as above.\n"
     "\n"
     "What cannot be taken for a figure, a level or a heading ends with status 3, what\n"
     "the archive refuses with status 2; both name the place and what is allowed.\n"
@@ -1239,9 +1321,9 @@ static const char SHEET_HELP[] =
 static const char ROWS_HELP[] =
     "writes the rows of a sheet as comma-separated text for a spreadsheet program\n"
     "\n"
-    "The first line has the headings of the speeds, the second N and G, the third the\n"
-    "headings of the rows with their units; then a line for each row. From this text\n"
-    "jasminebrace sheet makes the same sheet again.\n"
+    "The first line has the headings of the speeds and of the loading, the second N, G\n"
+    "and K, the third the headings of the rows, all with their units; then a line for\n"
+    "each row. From this text jasminebrace sheet makes the same sheet again.\n"
     "\n"
     "--plain changes nothing: there is one form.\n";
 
@@ -1252,7 +1334,7 @@ static const command COMMANDS[] = {
     {"report", report, 1, 0, "report SHEET [ROW..]", REPORT_HELP},
     {"run", run, 2, 0, "run SHEET [--order ROW,ROW..] [--stretches] SUPPLY..", RUN_HELP},
     {"explain", explain, 1, 1, "explain SHEET", EXPLAIN_HELP},
-    {"sheet", sheet, 1, 0, "sheet {ROWS.csv | N G RELEASE,WORK,DEADLINE,LEVEL..}", SHEET_HELP},
+    {"sheet", sheet, 1, 0, "sheet {ROWS.csv | N G K RELEASE,WORK,DEADLINE,LEVEL..}", SHEET_HELP},
     {"rows", rows, 1, 1, "rows SHEET", ROWS_HELP},
 };
 enum { COMMAND_COUNT = sizeof COMMANDS / sizeof COMMANDS[0] };
@@ -1279,7 +1361,7 @@ static int put_help(const command *of) {
     if (of != NULL) {
         printf("usage: jasminebrace %s\n\n%s %s", of->usage, of->name, of->help);
         if (of->does == explain) {
-            for (uint32_t number = JB_LENGTH; number <= JB_NO_ROOM; number++) {
+            for (uint32_t number = JB_LENGTH; number <= JB_LAST_NUMBER; number++) {
                 printf("\nnumber %" PRIu32 ": %s\nremedy: %s\n", number, jb_words(number), jb_remedy(number));
             }
         }

@@ -88,7 +88,7 @@ static uint32_t supply_of(const supplies *from, uint32_t slot) {
     return from->list[slot < from->count ? slot : from->count - 1];
 }
 
-/* Firmware starts the row's job here, or lets the processor idle on row 0. */
+/* Firmware starts the row's job here, which loads while its code is not there, or lets the processor idle on row 0. */
 static void start_row(uint32_t slot, uint32_t row) {
     if (row == 0) {
         printf("slot %" PRIu32 ": idle", slot);

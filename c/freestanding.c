@@ -32,7 +32,7 @@ void *memset(void *to, int byte, size_t count) {
     return to;
 }
 
-static const char SHEET[] = "       4       5       2\n"
+static const char SHEET[] = "       4       5       2       0\n"
                             "       0      20      10       1\n"
                             "       5      15      10       0\n"
                             "       5      11      19       1\n"

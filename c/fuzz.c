@@ -24,7 +24,7 @@
 
 enum {
     DEFAULT_ROUNDS = 100000, /* of sixteen calls or so each */
-    NUMBERS = JB_NO_ROOM + 1,
+    NUMBERS = JB_LAST_NUMBER + 1,
     END = -1,          /* of a list of numbers */
     GUARD = 0xC5,      /* the pattern around a buffer */
     GUARD_SIZE = 256,  /* bytes of it that are checked */
@@ -122,7 +122,7 @@ static void expect_unwritten(const buffer *in) {
 /* ---- inputs ---- */
 
 static uint32_t any_figure(void) {
-    static const uint32_t edges[] = {0, 1, 2, 64, 65, 1000, 1001, 1000000, 1000001, 2000000, 2000001, UINT32_MAX};
+    static const uint32_t edges[] = {0, 1, 2, 16, 17, 64, 65, 1000, 1001, 1000000, 1000001, 2000000, 2000001, UINT32_MAX};
     return once_in(2) ? edges[between(0, sizeof edges / sizeof *edges - 1)] : (uint32_t)random_word();
 }
 
@@ -143,8 +143,9 @@ static void fill_accepted(jb_table *table) {
     table->n = any_count();
     table->normal = once_in(8) ? between(1, JB_MOST_SPEED) : between(1, 4);
     table->degraded = between(1, table->normal);
+    table->loading = once_in(2) ? 0 : once_in(4) ? between(0, JB_MOST_LOADING) : between(1, 3);
     uint32_t most_work = once_in(8) ? JB_MOST_WORK : 6;
-    uint32_t most_window = once_in(8) ? JB_LAST_DEADLINE - 20 : 4 * table->n;
+    uint32_t most_window = once_in(8) ? JB_LAST_DEADLINE - 20 : (4 + table->loading) * table->n;
     for (uint32_t index = 0; index < table->n; index++) {
         table->release[index] = between(0, 20);
         table->work[index] = between(1, most_work);
@@ -163,7 +164,7 @@ static void fill_table(jb_table *table) {
     if (once_in(4)) {
         unsigned char *bytes = (unsigned char *)table;
         uint32_t figure = any_figure();
-        uint32_t word = once_in(2) ? between(0, 2) : between(0, JB_TABLE_WORDS - 1);
+        uint32_t word = once_in(2) ? between(0, 3) : between(0, JB_TABLE_WORDS - 1);
         memcpy(bytes + 4 * word, &figure, sizeof figure);
     }
 }
@@ -188,6 +189,12 @@ static uint32_t any_clock(void) {
     return once_in(4) ? between(JB_LAST_CLOCK - 10, JB_LAST_CLOCK + 1) : between(0, 60);
 }
 
+/* Slots that an open row may have used: up to K, and to the clock. */
+static uint32_t any_loaded(const jb_run *run) {
+    const uint32_t most = run->table.loading < run->clock ? run->table.loading : run->clock;
+    return between(0, most < JB_MOST_LOADING ? most : JB_MOST_LOADING);
+}
+
 /* Most rows of the state are such that check 9 may pass. */
 static void fill_state(jb_run *run) {
     memset((unsigned char *)run + offsetof(jb_run, clock), 0, sizeof *run - offsetof(jb_run, clock));
@@ -199,6 +206,7 @@ static void fill_state(jb_run *run) {
             run->closing[index] = between(1, run->clock);
         } else {
             run->got[index] = between(0, run->table.work[index]) / 2;
+            run->used[index] = once_in(2) ? 0 : any_loaded(run);
         }
     }
     if (once_in(8)) {
@@ -210,11 +218,11 @@ static void fill_state(jb_run *run) {
 
 /* Puts a well-formed figure, often outside its limits, into some field of a sheet of n rows. */
 static void change_field(uint8_t *sheet, uint32_t n) {
-    static const char *const fields[] = {"       0", "       1", "       2", "       7", "      64", "      65",
-                                         "    1000", "    1001", " 1000000", " 1000001", "12345678", "99999999"};
+    static const char *const fields[] = {"       0", "       1", "       2", "       7", "      16", "      17", "      64",
+                                         "      65", "    1000", "    1001", " 1000000", " 1000001", "12345678", "99999999"};
     uint32_t row = once_in(3) ? 0 : between(1, n);
     uint32_t line = row == 0 ? 0 : JB_FIRST_LINE + (row - 1) * JB_ROW_LINE;
-    uint32_t field = between(0, row == 0 ? 2 : 3);
+    uint32_t field = between(0, 3);
     memcpy(sheet + line + field * JB_FIELD, fields[between(0, sizeof fields / sizeof *fields - 1)], JB_FIELD);
 }
 
@@ -255,19 +263,20 @@ static const struct {
     const char *name;
     int numbers[NUMBERS];
 } functions[FUNCTIONS] = {
-    [READ] = {"read", {0, 1, 2, 3, 4, 5, END}},
-    [WRITE] = {"write", {0, 3, 4, 5, 10, END}},
-    [PLAN] = {"plan", {0, 3, 4, 5, 7, END}},
-    [JUDGE] = {"judge", {0, 3, 4, 5, 6, END}},
-    [FINISHES] = {"finishes", {0, 3, 4, 5, 6, END}},
-    [REPORT] = {"report", {0, 3, 4, 5, 6, 10, END}},
-    [FRESH] = {"fresh", {0, 3, 4, 5, 6, END}},
+    [READ] = {"read", {0, 1, 2, 3, 4, 11, 5, END}},
+    [WRITE] = {"write", {0, 3, 4, 11, 5, 10, END}},
+    [PLAN] = {"plan", {0, 3, 4, 11, 5, 7, END}},
+    [JUDGE] = {"judge", {0, 3, 4, 11, 5, 6, END}},
+    [FINISHES] = {"finishes", {0, 3, 4, 11, 5, 6, END}},
+    [REPORT] = {"report", {0, 3, 4, 11, 5, 6, 10, END}},
+    [FRESH] = {"fresh", {0, 3, 4, 11, 5, 6, END}},
     [COMING] = {"coming", {0, 8, 9, END}},
     [SLOT] = {"slot", {0, 8, 9, END}},
     [FORWARD] = {"forward", {0, 8, 9, END}},
-    [PROGRAM] = {"program", {0, 1, 2, 3, 4, 5, 7, END}},
+    [PROGRAM] = {"program", {0, 1, 2, 3, 4, 11, 5, 7, END}},
 };
 static uint64_t counts[FUNCTIONS][NUMBERS];
+static uint64_t loading_slots, working_slots; /* slots worked one by one that brought no work by K, and other ones of a row */
 
 /* Counts an answer, whose number is one that the function can give. */
 static void count(int function, uint32_t number) {
@@ -335,7 +344,7 @@ static void try_read(void) {
     expect_guards(&text_at);
     expect(written >= 17 && written <= JB_PROGRAM_TEXT && (written - 17) % 25 == 0, "the text's length");
     expect(all_zero(text + written, JB_PROGRAM_TEXT - written), "zeros after the text");
-    uint32_t said = (uint32_t)(text[7] - '0');
+    uint32_t said = (uint32_t)(text[7] - '0') + (text[6] == ' ' ? 0 : 10 * (uint32_t)(text[6] - '0'));
     count(PROGRAM, said);
     expect(number == JB_OK ? said == JB_OK || said == JB_NO_ORDER : said == number, "the program says what the reader says");
 }
@@ -426,7 +435,8 @@ static void try_judge_list(const jb_table *table, const uint8_t *order, uint32_t
     }
     uint32_t list_yes, list_row;
     int32_t list_slack;
-    uint32_t list_number = jb_judge_list(rows, count, table->normal, table->degraded, order, &list_yes, &list_row, &list_slack);
+    uint32_t list_number = jb_judge_list(rows, count, table->normal, table->degraded, table->loading, order, &list_yes, &list_row,
+                                         &list_slack);
     if (number == JB_OK) {
         expect(list_number == JB_OK && list_yes == yes && list_row == row && list_slack == slack, "the judge says the same of a list");
     }
@@ -476,7 +486,7 @@ typedef struct {
 /* Adds the line of a place, which is looked up in the worst finishes, in slots. */
 static void list_place(listing *to, const jb_table *table, const uint8_t *order, uint32_t place, const uint32_t *finishes) {
     uint32_t row = order[place - 1];
-    uint32_t need = (table->work[row - 1] + table->normal - 1) / table->normal;
+    uint32_t need = table->loading + (table->work[row - 1] + table->normal - 1) / table->normal;
     int64_t slack = (int64_t)table->deadline[row - 1] - finishes[row - 1];
     to->length += (size_t)snprintf(to->text + to->length, sizeof to->text - to->length,
                                    "%10" PRIu32 "%10" PRIu32 "%10" PRIu32 "%10" PRIu32 "%10" PRId64 "\n", place, row, need,
@@ -554,8 +564,16 @@ static jb_run *fill_run(void) {
     return run;
 }
 
+/* The work that a row has got after a slot of this supply: a loading slot brings none. */
+static uint32_t got_after(const jb_run *before, uint32_t row, uint32_t supply) {
+    const uint32_t got = before->got[row - 1];
+    const uint32_t missing = before->table.work[row - 1] - got;
+    const uint32_t brought = before->used[row - 1] < before->table.loading ? 0 : supply;
+    return got + (brought < missing ? brought : missing);
+}
+
 /* What a slot may have changed: nothing with a refusal, the state alone with 0. */
-static void expect_slot(const jb_run *run, uint32_t number, uint32_t row) {
+static void expect_slot(const jb_run *run, uint32_t number, uint32_t row, uint32_t supply) {
     const jb_run *before = (const jb_run *)run_at.copy;
     if (number != JB_OK) {
         expect(row == 0, "no row with a refusal");
@@ -566,6 +584,13 @@ static void expect_slot(const jb_run *run, uint32_t number, uint32_t row) {
     expect(memcmp(run, before, offsetof(jb_run, clock)) == 0, "table and order stay");
     expect(run->clock == before->clock + 1, "the clock moves by one slot");
     expect(row <= run->table.n, "the row run is a row or 0");
+    if (row != 0) {
+        expect(run->got[row - 1] == got_after(before, row, supply), "work got grows by what the slot brings");
+        expect(run->used[row - 1] == before->used[row - 1] + 1, "slots used grow by one");
+        expect(jb_is_loading(before, row) == (jb_loaded(run, row) > jb_loaded(before, row)), "a loading slot is one more loaded");
+        loading_slots += (uint32_t)jb_is_loading(before, row);
+        working_slots += !jb_is_loading(before, row);
+    }
 }
 
 static void try_slot(void) {
@@ -581,7 +606,7 @@ static void try_slot(void) {
     count(SLOT, number);
     expect_guards(&row_at);
     expect(number == expected && *row == *coming, "the slot answers as the coming slot did");
-    expect_slot(run, number, *row);
+    expect_slot(run, number, *row, supply);
 
     jb_run *again = (jb_run *)place(&one_at, sizeof *again);
     memcpy(again, run_at.copy, sizeof *again);
@@ -623,8 +648,8 @@ static void try_forward(void) {
     }
 }
 
-/* The planner's number for a table of n such rows. */
-static uint32_t number_of(uint32_t n, uint32_t normal, uint32_t degraded, jb_row row) {
+/* The planner's number for a table of n such rows with loading. */
+static uint32_t number_with(uint32_t n, uint32_t normal, uint32_t degraded, uint32_t loading, jb_row row) {
     jb_table table;
     uint8_t order[JB_ROWS];
     uint64_t left;
@@ -632,6 +657,7 @@ static uint32_t number_of(uint32_t n, uint32_t normal, uint32_t degraded, jb_row
     table.n = n;
     table.normal = normal;
     table.degraded = degraded;
+    table.loading = loading;
     for (uint32_t index = 0; index < n && index < JB_ROWS; index++) {
         table.release[index] = row.release;
         table.work[index] = row.work;
@@ -639,6 +665,11 @@ static uint32_t number_of(uint32_t n, uint32_t normal, uint32_t degraded, jb_row
         table.level[index] = row.level;
     }
     return jb_plan_table(&table, order, &left);
+}
+
+/* The same without loading. */
+static uint32_t number_of(uint32_t n, uint32_t normal, uint32_t degraded, jb_row row) {
+    return number_with(n, normal, degraded, 0, row);
 }
 
 /* The header's limits are the library's: a figure at its limit is taken, and one past it is refused. */
@@ -662,14 +693,30 @@ static void try_limits(void) {
     /* At G 1 and N 2 a LO row of four work units is dropped after two slots and a HI row takes all four. */
     expect(number_of(1, 2, 1, (jb_row){0, 4, 2, JB_LO}) == JB_OK, "LO is tried at N");
     expect(number_of(1, 2, 1, (jb_row){0, 4, 2, JB_HI}) == JB_NO_ORDER, "HI is tried at G");
+    /* The longest loading and one slot of work take 17 slots. */
+    const uint32_t most = JB_MOST_LOADING;
+    expect(number_with(1, 1, 1, most, (jb_row){0, 1, most + 1, JB_LO}) == JB_OK, "the longest loading");
+    expect(number_with(1, 1, 1, most, (jb_row){0, 1, most, JB_LO}) == JB_NO_ORDER, "a slot too few for the longest loading");
+    expect(number_with(1, 1, 1, most + 1, (jb_row){0, 1, last, JB_LO}) == JB_LOADING, "a longer loading");
+    expect(number_with(1, 1, 1, UINT32_MAX, (jb_row){0, 1, last, JB_LO}) == JB_LOADING, "the largest figure as loading");
+    expect(number_with(1, 1, 1, most + 1, (jb_row){last, 1, last, JB_LO}) == JB_LOADING, "11 before 5");
+    expect(number_with(1, 1, 2, most + 1, (jb_row){0, 1, last, JB_LO}) == JB_SPEEDS, "4 before 11");
+    expect(number_with(0, 1, 1, most + 1, (jb_row){0, 1, last, JB_LO}) == JB_ROW_COUNT, "3 before 11");
+    /* At N 2 and G 1 four work units take 2 slots, and with K 3 the LO row is tried by 5 slots and the HI row by 7. */
+    expect(number_with(1, 2, 1, 3, (jb_row){0, 4, 5, JB_LO}) == JB_OK, "LO is tried at N with loading");
+    expect(number_with(1, 2, 1, 3, (jb_row){0, 4, 4, JB_LO}) == JB_NO_ORDER, "LO needs its loading");
+    expect(number_with(1, 2, 1, 3, (jb_row){0, 4, 7, JB_HI}) == JB_OK, "HI is tried at G with loading");
+    expect(number_with(1, 2, 1, 3, (jb_row){0, 4, 6, JB_HI}) == JB_NO_ORDER, "HI needs its loading");
 }
 
 /* The numbers that try_limits does not meet, and verdicts on a list of the most rows whose last is the tightest. */
 static void try_numbers(void) {
-    static const uint8_t sheet[] = "       1       1       x\n";
+    static const uint8_t sheet[] = "       1       1       1       x\n";
+    static const uint8_t before[] = "       1       1       1\n       0       1       1       0\n";
     jb_table table;
-    expect(jb_read_table(sheet, 24, &table) == JB_LENGTH, "24 bytes");
-    expect(jb_read_table(sheet, 25, &table) == JB_MALFORMED, "a letter in a field");
+    expect(jb_read_table(sheet, 32, &table) == JB_LENGTH, "32 bytes");
+    expect(jb_read_table(sheet, 33, &table) == JB_MALFORMED, "a letter in a field");
+    expect(jb_read_table(before, sizeof before - 1, &table) == JB_MALFORMED, "a sheet from before K");
     jb_row rows[JB_ROWS];
     uint8_t order[JB_ROWS];
     uint32_t yes, row;
@@ -680,11 +727,11 @@ static void try_numbers(void) {
     }
     for (int32_t spare = -2; spare <= 2; spare++) {
         rows[JB_ROWS - 1].deadline = (uint32_t)(JB_ROWS + spare);
-        expect(jb_judge_list(rows, JB_ROWS, 1, 1, order, &yes, &row, &slack) == JB_OK, "a list of the most rows");
+        expect(jb_judge_list(rows, JB_ROWS, 1, 1, 0, order, &yes, &row, &slack) == JB_OK, "a list of the most rows");
         expect(yes == (spare >= 0) && row == JB_ROWS && slack == spare, "the last row has the least slack");
     }
     order[0] = 0;
-    expect(jb_judge_list(rows, JB_ROWS, 1, 1, order, &yes, &row, &slack) == JB_NOT_AN_ORDER, "a row is missing");
+    expect(jb_judge_list(rows, JB_ROWS, 1, 1, 0, order, &yes, &row, &slack) == JB_NOT_AN_ORDER, "a row is missing");
     expect(yes == 0 && row == 0 && slack == 0, "all zero on a refusal");
 }
 
@@ -698,10 +745,10 @@ static void fill_in_turn(uint8_t order[JB_ROWS], uint32_t n) {
 
 /* The largest figures that a report can have: 64 rows of the largest need, all released in the last slot that is allowed. */
 static void try_largest_figures(void) {
-    static const char last_lines[] = "        64        64   1000000  64999999 -63999999\n"
-                                     "  64000000        64\n";
+    static const char last_lines[] = "        64        64   1000016  65001023 -64001023\n"
+                                     "  64001024        64\n";
     const size_t two_lines = sizeof last_lines - 1;
-    jb_table table = {JB_ROWS, 1, 1, {0}, {0}, {0}, {0}};
+    jb_table table = {JB_ROWS, 1, 1, JB_MOST_LOADING, {0}, {0}, {0}, {0}};
     uint8_t order[JB_ROWS], report[JB_LONGEST_REPORT];
     uint32_t length;
     for (uint32_t index = 0; index < JB_ROWS; index++) {
@@ -783,6 +830,8 @@ int main(int argc, char **argv) {
         try_forward();
     }
     print_counts();
+    printf("slots worked one by one: %" PRIu64 " loading, %" PRIu64 " other ones of a row\n", loading_slots, working_slots);
+    expect(loading_slots > 0 && working_slots > 0, "both kinds of slots come up");
     printf("%lu rounds, all held\n", rounds);
     return 0;
 }

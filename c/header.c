@@ -1,9 +1,9 @@
 /*
  * Tests of the header's own functions, in what C11 and C++11 have in common:
  * the interface's number, the words for every number, lists of no entries, a
- * sheet written back, reports, where a row of a run stands, and the packed verdict
- * taken apart. It says how many things it looked at; exit status 1 if one is not
- * as it should be.
+ * sheet written back, reports, K beyond its limit, where a row of a run stands and
+ * how far it has loaded, and the packed verdict taken apart. It says how many things
+ * it looked at; exit status 1 if one is not as it should be.
  */
 #include "jasminebrace.h"
 
@@ -21,20 +21,20 @@ static void look(int fine, const char *what, unsigned figure) {
     }
 }
 
-/* The sheet of case P3: N 2, G 1, a LO row 0 2 2 and a HI row 0 4 4. */
-static const char P3[] = "       2       2       1\n"
+/* The sheet of case P3: N 2, G 1, K 0, a LO row 0 2 2 and a HI row 0 4 4. */
+static const char P3[] = "       2       2       1       0\n"
                          "       0       2       2       0\n"
                          "       0       4       4       1\n";
 
 static void look_at_words(void) {
-    for (uint32_t number = JB_OK; number <= JB_NO_ROOM + 1; number++) {
+    for (uint32_t number = JB_OK; number <= JB_LAST_NUMBER + 1; number++) {
         look(strlen(jb_words(number)) > 0, "words for", number);
         look(strlen(jb_remedy(number)) > 0, "remedy for", number);
         for (uint32_t other = JB_OK; other < number; other++) {
             look(strcmp(jb_words(number), jb_words(other)) != 0, "words of its own for", number);
         }
     }
-    look(strcmp(jb_words(JB_NO_ROOM + 1), jb_words(UINT32_MAX)) == 0, "one text for all other numbers", UINT32_MAX);
+    look(strcmp(jb_words(JB_LAST_NUMBER + 1), jb_words(UINT32_MAX)) == 0, "one text for all other numbers", UINT32_MAX);
 }
 
 /* Null goes with a length of 0, and the answer is that of an empty list. */
@@ -50,7 +50,7 @@ static void look_at_empty_lists(void) {
     uint32_t length = 7;
     look(jb_read_table(NULL, 0, &table) == JB_LENGTH, "no sheet", 0);
     look(jb_program_text(NULL, 0, text) == 17 && memcmp(text, "       1       0\n", 17) == 0, "no input", 0);
-    look(jb_judge_list(NULL, 0, 2, 1, order, &yes, &row, &slack) == JB_ROW_COUNT && yes == 0 && row == 0 && slack == 0, "no rows", 0);
+    look(jb_judge_list(NULL, 0, 2, 1, 0, order, &yes, &row, &slack) == JB_ROW_COUNT && yes == 0 && row == 0 && slack == 0, "no rows", 0);
     look(jb_read_table((const uint8_t *)P3, sizeof P3 - 1, &table) == JB_OK, "P3", 0);
     look(jb_write_table(&table, NULL, 0, &length) == JB_NO_ROOM && length == 0, "no room", 0);
     length = 7;
@@ -159,6 +159,47 @@ static void look_at_fields(void) {
     }
 }
 
+static int all_zero(const void *memory, size_t size) {
+    return all_are((const uint8_t *)memory, size, 0);
+}
+
+/* K above its limit is 11, after 4 and before 5, 6 and 10, wherever a table goes in; what is lent to be written stays. */
+static void look_at_long_loading(void) {
+    const jb_row rows[] = {{0, 2, 2, JB_LO}, {0, 4, 4, JB_HI}};
+    const uint8_t order[JB_ROWS] = {1, 2};
+    char sheet[] = "       2       2       1      17\n"
+                   "       0       2       2       0\n"
+                   "       0       4       4       1\n";
+    jb_table table;
+    jb_run run;
+    uint8_t planned[JB_ROWS];
+    uint32_t finishes[JB_ROWS];
+    uint64_t left = 7;
+    uint32_t length = 7;
+    uint32_t yes = 7;
+    uint32_t row = 7;
+    int32_t slack = 7;
+    look(jb_read_table((const uint8_t *)sheet, sizeof sheet - 1, &table) == JB_LOADING, "a sheet with K", 17);
+    look(all_zero(&table, sizeof table), "a table of zeros with K", 17);
+    sheet[31] = '6';
+    look(jb_read_table((const uint8_t *)sheet, sizeof sheet - 1, &table) == JB_OK && table.loading == JB_MOST_LOADING, "a sheet with K", 16);
+    table.loading = JB_MOST_LOADING + 1;
+    look(jb_write_table(&table, NULL, 0, &length) == JB_LOADING && length == 0, "no sheet with K", table.loading);
+    look(jb_plan_table(&table, planned, &left) == JB_LOADING && left == 0 && all_zero(planned, sizeof planned), "no plan with K", 17);
+    look(jb_judge_order(&table, order, &yes, &row, &slack) == JB_LOADING && yes == 0 && row == 0 && slack == 0, "no verdict with K", 17);
+    yes = row = 7;
+    slack = 7;
+    look(jb_judge_list(rows, 2, 2, 1, 17, order, &yes, &row, &slack) == JB_LOADING && yes == 0 && row == 0 && slack == 0, "of a list, K", 17);
+    look(jb_worst_finishes(&table, order, finishes) == JB_LOADING && all_zero(finishes, sizeof finishes), "no finishes with K", 17);
+    length = 7;
+    look(jb_report_order(&table, order, NULL, 0, &length) == JB_LOADING && length == 0, "no report with K", 17);
+    look(jb_fresh_run(&table, order, &run) == JB_LOADING && all_zero(&run, sizeof run), "no record with K", 17);
+    table.deadline[0] = 0;
+    look(jb_plan_table(&table, planned, &left) == JB_LOADING, "11 before 5, K", 17);
+    table.degraded = 3;
+    look(jb_plan_table(&table, planned, &left) == JB_SPEEDS, "4 before 11, K", 17);
+}
+
 static void look_at_row(const jb_run *run, uint32_t row, int open, int done, int dropped, int late) {
     look(jb_is_open(run, row) == open, "open, row", row);
     look(jb_is_done(run, row) == done, "done, row", row);
@@ -170,7 +211,39 @@ static void look_at_no_rows(const jb_run *run) {
     const uint32_t none[] = {0, 3, 64, 65, 66, UINT32_MAX};
     for (size_t index = 0; index < sizeof none / sizeof none[0]; index++) {
         look_at_row(run, none[index], 0, 0, 0, 0);
+        look(jb_loaded(run, none[index]) == 0 && !jb_is_loading(run, none[index]), "loading, row", none[index]);
     }
+}
+
+/*
+ * P3 with K 2 and supplies of 2: row 1 loads in slots 0 and 1 and is done by slot
+ * 2; row 2 loads in slots 3 and 4 and is done by slot 6, after its deadline.
+ */
+static void look_at_loading(void) {
+    const uint8_t order[JB_ROWS] = {1, 2};
+    const uint32_t loaded[][2] = {{0, 0}, {1, 0}, {2, 0}, {2, 0}, {2, 1}, {2, 2}, {2, 2}, {2, 2}};
+    jb_table table;
+    jb_run run;
+    uint32_t row;
+    look(jb_read_table((const uint8_t *)P3, sizeof P3 - 1, &table) == JB_OK && table.loading == 0, "P3", 0);
+    table.loading = 2;
+    look(jb_fresh_run(&table, order, &run) == JB_OK && run.table.loading == 2, "fresh", 0);
+    for (uint32_t slot = 0; slot < 8; slot++) {
+        look_at_no_rows(&run);
+        for (uint32_t index = 0; index < 2; index++) {
+            look(jb_loaded(&run, index + 1) == loaded[slot][index], "loaded at", slot);
+            look(jb_is_loading(&run, index + 1) == (loaded[slot][index] < 2), "loading at", slot);
+        }
+        look(jb_work_slot(&run, 2, &row) == JB_OK && row == (slot < 3 ? 1u : slot < 7 ? 2u : 0u), "slot", slot);
+        look(run.got[0] == (slot < 2 ? 0u : 2u), "work got by row 1 after slot", slot);
+        look(run.got[1] == (slot < 5 ? 0u : slot == 5 ? 2u : 4u), "work got by row 2 after slot", slot);
+    }
+    look_at_row(&run, 1, 0, 1, 0, 1);
+    look_at_row(&run, 2, 0, 1, 0, 1);
+    look(run.closing[0] == 3 && run.closing[1] == 7, "closing slots", run.closing[0]);
+    /* A closed row does not load, whatever its record says. */
+    run.used[0] = 1;
+    look(jb_loaded(&run, 1) == 1 && !jb_is_loading(&run, 1), "a closed row, used", run.used[0]);
 }
 
 /* P7: with 1 work unit from each slot, row 1 of P3 is dropped with closing slot 1, and row 2 is done with 5 and so late. */
@@ -213,7 +286,7 @@ static void look_at_lists(void) {
         uint32_t row[2];
         int32_t slack[2];
         const uint32_t number = jb_judge_order(&table, orders[index], &yes[0], &row[0], &slack[0]);
-        look(jb_judge_list(rows, 2, 2, 1, orders[index], &yes[1], &row[1], &slack[1]) == number, "number of order", index);
+        look(jb_judge_list(rows, 2, 2, 1, 0, orders[index], &yes[1], &row[1], &slack[1]) == number, "number of order", index);
         look(yes[0] == yes[1] && row[0] == row[1] && slack[0] == slack[1], "verdict of order", index);
         look(number == JB_NOT_AN_ORDER || slack[0] < 0, "a slack below zero, order", index);
     }
@@ -228,7 +301,9 @@ int main(void) {
     look_at_reports_of_p3();
     look_at_longest_report();
     look_at_fields();
+    look_at_long_loading();
     look_at_run();
+    look_at_loading();
     look_at_lists();
     printf("header: %u things looked at, %u not as they should be\n", looked_at, wrong);
     return wrong == 0 ? 0 : 1;

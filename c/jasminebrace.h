@@ -10,10 +10,12 @@
  *     memcpy memset
  *
  * Words and units. A job is a row; the topmost row is row 1. Slot t begins at
- * clock t and ends at clock t + 1. Clocks, releases, deadlines, needs, finishes,
- * slacks and closing slots are in slots. Work is in work units. Speeds and
- * supplies are in work units per slot. A row's need is its work divided by the
- * speed, rounded up.
+ * clock t and ends at clock t + 1. Clocks, releases, deadlines, loading, needs,
+ * finishes, slacks and closing slots are in slots. Work is in work units. Speeds
+ * and supplies are in work units per slot. The first K slots that a row runs are
+ * loading slots: they count as slots used and bring no work. A preempted row does
+ * not load again. A row's need is K slots and its work divided by the speed,
+ * rounded up. K counts for each row of the table by itself; 0 is no loading.
  *
  * Memory. Every pointer points to memory of the size that its parameter names,
  * aligned for its type. It is not null, but for one case: the functions of the
@@ -82,7 +84,7 @@
  * archive without them does not link. jb_fits() says whether the archive that was
  * linked is of the same number.
  */
-#define JB_VERSION 1u
+#define JB_VERSION 2u
 
 #ifdef __cplusplus
 #define JB_STATIC_ASSERT(condition, words) static_assert(condition, words)
@@ -98,22 +100,24 @@ extern "C" {
 enum jb_limit {
     JB_ROWS = 64,              /* most rows in a table; entries in every column */
     JB_MOST_SPEED = 1000,      /* largest N, in work units per slot */
+    JB_MOST_LOADING = 16,      /* largest K, in slots */
     JB_MOST_WORK = 1000000,    /* largest work of a row, in work units */
     JB_LAST_DEADLINE = 1000000, /* latest deadline, in slots */
     JB_LAST_CLOCK = 2000000,   /* the clock at which no slot is worked any more, in slots */
-    JB_TABLE_WORDS = 259,      /* 32-bit words in a table */
+    JB_TABLE_WORDS = 260,      /* 32-bit words in a table */
     JB_STATE_WORDS = 193,      /* 32-bit words in the state of a run */
     JB_FIELD = 8,              /* bytes in a field of a sheet */
-    JB_FIRST_LINE = 25,        /* bytes in a sheet's first line: n, N, G and byte 10 */
+    JB_FIRST_LINE = 33,        /* bytes in a sheet's first line: n, N, G, K and byte 10 */
     JB_ROW_LINE = 33,          /* bytes in the line of a row: release, work, deadline, level
                                   and byte 10 */
-    JB_LONGEST_SHEET = 2137,   /* bytes in a sheet of 64 rows: 25 + 33 for each row */
+    JB_LONGEST_SHEET = 2145,   /* bytes in a sheet of 64 rows: 33 + 33 for each row */
     JB_FIGURE = 10,            /* bytes in a figure of a report */
     JB_PLACE_LINE = 51,        /* bytes in a report's line of a place: five figures and byte 10 */
     JB_TOTALS_LINE = 21,       /* bytes in a report's last line: two figures and byte 10 */
     JB_LONGEST_REPORT = 3285,  /* bytes in a report of 64 rows: 51 for each row + 21 */
-    JB_PROGRAM_INPUT = 2138,   /* bytes of its input that the planning program looks at */
-    JB_PROGRAM_TEXT = 1617     /* most bytes that the planning program writes */
+    JB_PROGRAM_INPUT = 2146,   /* bytes of its input that the planning program looks at */
+    JB_PROGRAM_TEXT = 1617,    /* most bytes that the planning program writes */
+    JB_LAST_NUMBER = 11        /* largest number that a call returns */
 };
 
 /* Levels of a row. */
@@ -138,14 +142,15 @@ enum jb_number {
     JB_NO_ORDER = 7,     /* no correct order exists */
     JB_CLOCK_OVER = 8,   /* the clock is at its end, and no further slot is worked */
     JB_UNSOUND = 9,      /* the run record cannot come from a run */
-    JB_NO_ROOM = 10      /* the memory lent is shorter than what has to be written */
+    JB_NO_ROOM = 10,     /* the memory lent is shorter than what has to be written */
+    JB_LOADING = 11      /* K is beyond its limit */
 };
 
 /* What a number means, in words. The text lasts as long as the program. */
 static inline const char *jb_words(uint32_t number) {
     switch (number) {
     case JB_OK: return "success";
-    case JB_LENGTH: return "the sheet has under 25 bytes, or not 25 + 33 for each row";
+    case JB_LENGTH: return "the sheet has under 33 bytes, or not 33 + 33 for each row";
     case JB_MALFORMED: return "a field or a line end of the sheet is malformed";
     case JB_ROW_COUNT: return "the row count is not 1 to 64";
     case JB_SPEEDS: return "N is not 1 to 1,000, or G is not 1 to N (work units per slot)";
@@ -157,6 +162,7 @@ static inline const char *jb_words(uint32_t number) {
     case JB_CLOCK_OVER: return "the clock is 2,000,000 slots, and no further slot is worked";
     case JB_UNSOUND: return "the run record cannot come from a run";
     case JB_NO_ROOM: return "the memory lent has fewer bytes than have to be written";
+    case JB_LOADING: return "K is above 16 slots";
     default: return "this number is never returned";
     }
 }
@@ -173,10 +179,12 @@ static inline const char *jb_remedy(uint32_t number) {
     case JB_SPEEDS: return "correct the speeds";
     case JB_ROW_LIMITS: return "correct the row";
     case JB_NOT_AN_ORDER: return "give each row of the table once, highest place first";
-    case JB_NO_ORDER: return "give the rows left later deadlines or less work, or the processor more speed";
+    case JB_NO_ORDER:
+        return "give the rows left later deadlines or less work, the processor more speed, or the table a smaller K";
     case JB_CLOCK_OVER: return "begin a new run with a fresh record";
     case JB_UNSOUND: return "the record's memory was damaged: drop it and begin with a fresh record";
-    case JB_NO_ROOM: return "lend more memory: 2,137 bytes hold every sheet, 3,285 bytes every report";
+    case JB_NO_ROOM: return "lend more memory: 2,145 bytes hold every sheet, 3,285 bytes every report";
+    case JB_LOADING: return "correct K; where a job really takes longer to load, split it or make the slots longer";
     default: return "compare the header with the archive by jb_fits()";
     }
 }
@@ -194,6 +202,7 @@ typedef struct {
     uint32_t n;                 /* rows, 1 to 64 */
     uint32_t normal;            /* normal speed N, 1 to 1,000 work units per slot */
     uint32_t degraded;          /* degraded speed G, 1 to N work units per slot */
+    uint32_t loading;           /* K, 0 to 16 slots: the first K slots that a row runs bring it no work */
     uint32_t release[JB_ROWS];  /* first slot in which the row may run, below its deadline */
     uint32_t work[JB_ROWS];     /* 1 to 1,000,000 work units */
     uint32_t deadline[JB_ROWS]; /* at most 1,000,000 slots; kept by a finish at or before it */
@@ -206,28 +215,31 @@ typedef struct {
     uint8_t order[JB_ROWS];    /* row numbers from the highest place down, then zeros */
     uint32_t clock;            /* slots worked, 0 to 2,000,000 slots: the coming slot */
     uint32_t got[JB_ROWS];     /* work got by each row, in work units */
-    uint32_t used[JB_ROWS];    /* slots used by each row */
+    uint32_t used[JB_ROWS];    /* slots used by each row, loading slots too */
     uint32_t closing[JB_ROWS]; /* closing slot of each row, 0 while it is open */
 } jb_run;
 
 JB_STATIC_ASSERT(sizeof(jb_row) == 16, "a row is four words without gaps");
-JB_STATIC_ASSERT(sizeof(jb_table) == 1036, "a table is 259 words without gaps");
-JB_STATIC_ASSERT(sizeof(jb_table) == 4 * JB_TABLE_WORDS, "a table is 259 words without gaps");
+JB_STATIC_ASSERT(sizeof(jb_table) == 1040, "a table is 260 words without gaps");
+JB_STATIC_ASSERT(sizeof(jb_table) == 4 * JB_TABLE_WORDS, "a table is 260 words without gaps");
 JB_STATIC_ASSERT(offsetof(jb_table, n) == 0, "the row count is word 0 of a table");
 JB_STATIC_ASSERT(offsetof(jb_table, normal) == 4, "N is word 1 of a table");
 JB_STATIC_ASSERT(offsetof(jb_table, degraded) == 8, "G is word 2 of a table");
-JB_STATIC_ASSERT(offsetof(jb_table, release) == 12, "the releases begin at word 3 of a table");
-JB_STATIC_ASSERT(offsetof(jb_table, work) == 268, "the works begin at word 67 of a table");
-JB_STATIC_ASSERT(offsetof(jb_table, deadline) == 524, "the deadlines begin at word 131 of a table");
-JB_STATIC_ASSERT(offsetof(jb_table, level) == 780, "the levels begin at word 195 of a table");
-JB_STATIC_ASSERT(sizeof(jb_run) == 1872, "a run record is 1,872 bytes without gaps");
+JB_STATIC_ASSERT(offsetof(jb_table, loading) == 12, "K is word 3 of a table");
+JB_STATIC_ASSERT(offsetof(jb_table, release) == 16, "the releases begin at word 4 of a table");
+JB_STATIC_ASSERT(offsetof(jb_table, work) == 272, "the works begin at word 68 of a table");
+JB_STATIC_ASSERT(offsetof(jb_table, deadline) == 528, "the deadlines begin at word 132 of a table");
+JB_STATIC_ASSERT(offsetof(jb_table, level) == 784, "the levels begin at word 196 of a table");
+JB_STATIC_ASSERT(sizeof(jb_run) == 1876, "a run record is 1,876 bytes without gaps");
 JB_STATIC_ASSERT(offsetof(jb_run, table) == 0, "a run record begins with its table");
-JB_STATIC_ASSERT(offsetof(jb_run, order) == 1036, "the order follows the table");
-JB_STATIC_ASSERT(offsetof(jb_run, clock) == 1100, "the state follows the order");
-JB_STATIC_ASSERT(offsetof(jb_run, got) == 1104, "the works got begin at word 1 of the state");
-JB_STATIC_ASSERT(offsetof(jb_run, used) == 1360, "the slots used begin at word 65 of the state");
-JB_STATIC_ASSERT(offsetof(jb_run, closing) == 1616, "the closing slots begin at word 129 of the state");
+JB_STATIC_ASSERT(offsetof(jb_run, order) == 1040, "the order follows the table");
+JB_STATIC_ASSERT(offsetof(jb_run, clock) == 1104, "the state follows the order");
+JB_STATIC_ASSERT(offsetof(jb_run, got) == 1108, "the works got begin at word 1 of the state");
+JB_STATIC_ASSERT(offsetof(jb_run, used) == 1364, "the slots used begin at word 65 of the state");
+JB_STATIC_ASSERT(offsetof(jb_run, closing) == 1620, "the closing slots begin at word 129 of the state");
 JB_STATIC_ASSERT(sizeof(jb_run) - offsetof(jb_run, clock) == 4 * JB_STATE_WORDS, "a state is 193 words without gaps");
+JB_STATIC_ASSERT(JB_FIRST_LINE == 4 * JB_FIELD + 1, "the first line of a sheet has four fields");
+JB_STATIC_ASSERT(JB_ROW_LINE == 4 * JB_FIELD + 1, "the line of a row has four fields");
 JB_STATIC_ASSERT(JB_LONGEST_SHEET == JB_FIRST_LINE + JB_ROWS * JB_ROW_LINE, "the longest sheet has 64 rows");
 JB_STATIC_ASSERT(JB_PLACE_LINE == 5 * JB_FIGURE + 1, "the line of a place has five figures");
 JB_STATIC_ASSERT(JB_TOTALS_LINE == 2 * JB_FIGURE + 1, "the last line of a report has two figures");
@@ -238,13 +250,13 @@ JB_STATIC_ASSERT(JB_PROGRAM_TEXT == 17 + 25 * JB_ROWS, "a text is a first line o
 #undef JB_STATIC_ASSERT
 
 /*
- * The functions of the archive, on bare arrays. table is the 259 words of a
+ * The functions of the archive, on bare arrays. table is the 260 words of a
  * jb_table, state the 193 words of a jb_run from its clock on. What each does
  * stands at the function over jb_table and jb_run that calls it. No pointer is
  * null here, not even where a length is 0.
  */
-uint32_t jb_read(const uint8_t *sheet, size_t length, uint32_t table[259]);
-uint32_t jb_write(const uint32_t table[259], uint8_t *sheet, size_t room, uint32_t *length);
+uint32_t jb_read(const uint8_t *sheet, size_t length, uint32_t table[260]);
+uint32_t jb_write(const uint32_t table[260], uint8_t *sheet, size_t room, uint32_t *length);
 
 /* Writes a number as a field of a sheet: right-justified in 8 bytes with spaces
    before it. Gives 1 if the field holds the number, which is so below
@@ -252,21 +264,22 @@ uint32_t jb_write(const uint32_t table[259], uint8_t *sheet, size_t room, uint32
    gives 0. */
 uint32_t jb_field(uint32_t figure, uint8_t field[8]);
 
-uint32_t jb_plan(const uint32_t table[259], uint8_t order[64], uint64_t *left);
-uint32_t jb_judge(const uint32_t table[259], const uint8_t order[64], uint32_t *yes, uint32_t *row, int32_t *slack);
+uint32_t jb_plan(const uint32_t table[260], uint8_t order[64], uint64_t *left);
+uint32_t jb_judge(const uint32_t table[260], const uint8_t order[64], uint32_t *yes, uint32_t *row, int32_t *slack);
 
 /* Returns no number but a packed word: the number in bits 0 to 3, yes in bit 4,
    the row in bits 5 to 15 and the slack's 32 bits, two's complement, from bit 16
    on. jb_judge_list takes it apart. */
-uint64_t jb_judge_rows(const jb_row *rows, size_t count, uint32_t normal, uint32_t degraded, const uint8_t order[64]);
+uint64_t jb_judge_rows(const jb_row *rows, size_t count, uint32_t normal, uint32_t degraded, uint32_t loading,
+                       const uint8_t order[64]);
 
-uint32_t jb_finishes(const uint32_t table[259], const uint8_t order[64], uint32_t finishes[64]);
-uint32_t jb_report(const uint32_t table[259], const uint8_t order[64], uint8_t *report, size_t room, uint32_t *length);
-uint32_t jb_fresh(const uint32_t table[259], const uint8_t order[64], uint32_t run_table[259], uint8_t run_order[64],
+uint32_t jb_finishes(const uint32_t table[260], const uint8_t order[64], uint32_t finishes[64]);
+uint32_t jb_report(const uint32_t table[260], const uint8_t order[64], uint8_t *report, size_t room, uint32_t *length);
+uint32_t jb_fresh(const uint32_t table[260], const uint8_t order[64], uint32_t run_table[260], uint8_t run_order[64],
                   uint32_t run_state[193]);
-uint32_t jb_coming(const uint32_t table[259], const uint8_t order[64], const uint32_t state[193], uint32_t *row);
-uint32_t jb_slot(const uint32_t table[259], const uint8_t order[64], uint32_t state[193], uint32_t supply, uint32_t *row);
-uint32_t jb_forward(const uint32_t table[259], const uint8_t order[64], uint32_t state[193], const uint32_t *supplies,
+uint32_t jb_coming(const uint32_t table[260], const uint8_t order[64], const uint32_t state[193], uint32_t *row);
+uint32_t jb_slot(const uint32_t table[260], const uint8_t order[64], uint32_t state[193], uint32_t supply, uint32_t *row);
+uint32_t jb_forward(const uint32_t table[260], const uint8_t order[64], uint32_t state[193], const uint32_t *supplies,
                     size_t count, uint32_t *worked);
 uint32_t jb_program(const uint8_t *input, size_t length, uint8_t text[1617]);
 
@@ -296,7 +309,7 @@ static inline uint32_t *jb_state_words(jb_run *run) {
  * Reads a sheet into a table.
  * In:      sheet, length bytes; any bytes, any length; null is allowed with 0.
  * Out:     0, and table holds the sheet's table.
- * Refused: 1, 2, 3, 4 or 5; table is then all zero.
+ * Refused: 1, 2, 3, 4, 11 or 5; table is then all zero.
  */
 static inline uint32_t jb_read_table(const uint8_t *sheet, size_t length, jb_table *table) {
     const uint8_t none = 0;
@@ -308,11 +321,11 @@ static inline uint32_t jb_read_table(const uint8_t *sheet, size_t length, jb_tab
  * table. A sheet that was read comes out again byte for byte.
  * In:      table, any values; sheet, memory of room bytes, any length (JB_LONGEST_SHEET
  *          is enough for every table) and any values; null is allowed with 0.
- * Out:     0; length is the sheet's length in bytes, 25 + 33 for each row, and
+ * Out:     0; length is the sheet's length in bytes, 33 + 33 for each row, and
  *          the first length bytes of sheet are the sheet. The bytes after
  *          them are as they were.
- * Refused: 3, 4 or 5 for the table, else 10 if room is below the sheet's length;
- *          length is then 0 and no byte of sheet is written.
+ * Refused: 3, 4, 11 or 5 for the table, else 10 if room is below the sheet's
+ *          length; length is then 0 and no byte of sheet is written.
  */
 static inline uint32_t jb_write_table(const jb_table *table, uint8_t *sheet, size_t room, uint32_t *length) {
     uint8_t none = 0;
@@ -323,7 +336,7 @@ static inline uint32_t jb_write_table(const jb_table *table, uint8_t *sheet, siz
  * The planning program as a function: reads a sheet, plans it and writes what
  * the program writes, in 8-byte fields with byte 10 at each line's end.
  * In:      input, length bytes; any bytes, any length; null is allowed with 0. Only
- *          the first 2,138 bytes are looked at.
+ *          the first 2,146 bytes are looked at.
  * Out:     the length of the text in bytes, 17 to 1,617. text holds the text
  *          and zeros after it. Its first line is 0 and the row count, or a
  *          refusal's number and the count of rows left, which is 0 but for 7.
@@ -344,7 +357,7 @@ static inline uint32_t jb_program_text(const uint8_t *input, size_t length, uint
  *          zeros; left is 0.
  * Refused: 7 if no correct order exists: order is all zero, and left holds the
  *          rows left to place, row 1 in the lowest bit.
- *          3, 4 or 5 for the table: order is all zero and left is 0.
+ *          3, 4, 11 or 5 for the table: order is all zero and left is 0.
  */
 static inline uint32_t jb_plan_table(const jb_table *table, uint8_t order[JB_ROWS], uint64_t *left) {
     return jb_plan(jb_table_words(table), order, left);
@@ -356,7 +369,7 @@ static inline uint32_t jb_plan_table(const jb_table *table, uint8_t order[JB_ROW
  * Out:     0; yes is 1 if the order is correct, else 0; row is the row of least
  *          slack (the lower row on a tie); slack is that slack in slots: its
  *          deadline less its worst finish, below zero when it can be late.
- * Refused: 3, 4 or 5 for the table, 6 for the order; yes, row and slack are
+ * Refused: 3, 4, 11 or 5 for the table, 6 for the order; yes, row and slack are
  *          then 0.
  */
 static inline uint32_t jb_judge_order(const jb_table *table, const uint8_t order[JB_ROWS], uint32_t *yes, uint32_t *row,
@@ -367,14 +380,14 @@ static inline uint32_t jb_judge_order(const jb_table *table, const uint8_t order
 /*
  * Judges an order of rows that stand in a list, as many as there are.
  * In:      count rows (null is allowed with 0), the speeds in work units per slot,
- *          and an order, any values.
+ *          the loading K in slots, and an order, any values.
  * Out:     as jb_judge_order.
  * Refused: as jb_judge_order; an empty list, and one of more than 64 rows, by 3.
  */
-static inline uint32_t jb_judge_list(const jb_row *rows, size_t count, uint32_t normal, uint32_t degraded,
+static inline uint32_t jb_judge_list(const jb_row *rows, size_t count, uint32_t normal, uint32_t degraded, uint32_t loading,
                                      const uint8_t order[JB_ROWS], uint32_t *yes, uint32_t *row, int32_t *slack) {
     const jb_row none = {0, 0, 0, 0};
-    const uint64_t packed = jb_judge_rows(count == 0 ? &none : rows, count, normal, degraded, order);
+    const uint64_t packed = jb_judge_rows(count == 0 ? &none : rows, count, normal, degraded, loading, order);
     const uint32_t bits = (uint32_t)(packed >> 16);
     *yes = (uint32_t)(packed >> 4 & 1);
     *row = (uint32_t)(packed >> 5 & 2047);
@@ -388,7 +401,7 @@ static inline uint32_t jb_judge_list(const jb_row *rows, size_t count, uint32_t 
  * Out:     0, and finishes holds the worst finish of row i at index i - 1, in
  *          slots: its finish when every slot supplies exactly N (LO row) or
  *          exactly G (HI row) work units. Zeros after row n.
- * Refused: 3, 4 or 5 for the table, 6 for the order; finishes is then all zero.
+ * Refused: 3, 4, 11 or 5 for the table, 6 for the order; finishes is then all zero.
  */
 static inline uint32_t jb_worst_finishes(const jb_table *table, const uint8_t order[JB_ROWS], uint32_t finishes[JB_ROWS]) {
     return jb_finishes(jb_table_words(table), order, finishes);
@@ -408,8 +421,8 @@ static inline uint32_t jb_worst_finishes(const jb_table *table, const uint8_t or
  * Out:     0; length is the report's length in bytes, 51 for each row + 21, and
  *          the first length bytes of report are the report. The bytes after
  *          them are as they were.
- * Refused: 3, 4 or 5 for the table, 6 for the order, else 10 if room is below the
- *          report's length; length is then 0 and no byte of report is written.
+ * Refused: 3, 4, 11 or 5 for the table, 6 for the order, else 10 if room is below
+ *          the report's length; length is then 0 and no byte of report is written.
  */
 static inline uint32_t jb_report_order(const jb_table *table, const uint8_t order[JB_ROWS], uint8_t *report, size_t room,
                                        uint32_t *length) {
@@ -422,8 +435,8 @@ static inline uint32_t jb_report_order(const jb_table *table, const uint8_t orde
  * In:      table and order, any values. Neither is run's own, since run is
  *          written: to begin a run again, hand in copies of its table and order.
  * Out:     0, and run holds the fresh record of table and order.
- * Refused: 3, 4 or 5 for the table, 6 for the order; run is then all zero, and
- *          what stood in it is lost.
+ * Refused: 3, 4, 11 or 5 for the table, 6 for the order; run is then all zero,
+ *          and what stood in it is lost.
  */
 static inline uint32_t jb_fresh_run(const jb_table *table, const uint8_t order[JB_ROWS], jb_run *run) {
     return jb_fresh(jb_table_words(table), order, (uint32_t *)(void *)&run->table, run->order, jb_state_words(run));
@@ -432,7 +445,8 @@ static inline uint32_t jb_fresh_run(const jb_table *table, const uint8_t order[J
 /*
  * The row that the coming slot runs, before its supply is known. Start that
  * row, let the slot pass, then report its supply by jb_work_slot, which answers
- * the same number and row whatever the supply.
+ * the same number and row whatever the supply. jb_is_loading says whether the slot
+ * is one of the row's loading slots.
  * In:      run, any values.
  * Out:     0, and row is the row that slot run->clock runs, 0 for an idle slot.
  * Refused: 9 if the record is unsound, else 8 at clock 2,000,000 slots; row is
@@ -446,7 +460,7 @@ static inline uint32_t jb_coming_row(const jb_run *run, uint32_t *row) {
 /*
  * Works one slot of a run.
  * In:      run, any values; supply, the work units that the slot supplied, 0 to
- *          4,294,967,295.
+ *          4,294,967,295. A loading slot brings none, whatever is handed in.
  * Out:     0; row is the row run, 0 for an idle slot; run is the record after
  *          the slot, its clock 1 slot later.
  * Refused: 9 if the record is unsound, else 8 at clock 2,000,000 slots; row is
@@ -475,9 +489,9 @@ static inline uint32_t jb_work_forward(jb_run *run, const uint32_t *supplies, si
 
 /*
  * Where a row of a run stands: 1 for yes, 0 for no. A row that the table has is
- * exactly one of open, done and dropped, and may be late besides. All four
- * answer 0 for a row that the table does not have: for row 0, for a row above
- * run->table.n, and for any row above 64.
+ * exactly one of open, done and dropped, and may be late besides; an open one may
+ * be loading. All answer 0 for a row that the table does not have: for row 0, for a
+ * row above run->table.n, and for any row above 64.
  */
 static inline int jb_has_row(const jb_run *run, uint32_t row) {
     return row >= 1 && row <= run->table.n && row <= JB_ROWS;
@@ -496,6 +510,17 @@ static inline int jb_is_done(const jb_run *run, uint32_t row) {
 /* The row is closed without all its work. Only LO rows are dropped. */
 static inline int jb_is_dropped(const jb_run *run, uint32_t row) {
     return jb_has_row(run, row) && run->closing[row - 1] != 0 && run->got[row - 1] != run->table.work[row - 1];
+}
+
+/* How many loading slots the row has used so far, 0 to K slots; 0 for a row that the table does not have. */
+static inline uint32_t jb_loaded(const jb_run *run, uint32_t row) {
+    const uint32_t used = jb_has_row(run, row) ? run->used[row - 1] : 0;
+    return used < run->table.loading ? used : run->table.loading;
+}
+
+/* The row is open, and the next slot that it runs is a loading slot: it has used fewer than K slots. */
+static inline int jb_is_loading(const jb_run *run, uint32_t row) {
+    return jb_is_open(run, row) && jb_loaded(run, row) < run->table.loading;
 }
 
 /*

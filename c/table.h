@@ -25,10 +25,11 @@
 enum {
     MOST_ROWS_BYTES = 16 << 20, /* longest rows file that is looked at, in bytes: spreadsheet programs save as many as
                                    1,048,576 empty lines below the last row */
-    SPEED_COLUMNS = 2,
+    TABLE_COLUMNS = 3,     /* of what counts for all rows: N, G and K */
+    LOADING_COLUMN = 3,    /* that of K, from 1 */
     ROW_COLUMNS = 4,
-    SPEED_HEADINGS_LINE = 1,
-    SPEEDS_LINE = 2,
+    TABLE_HEADINGS_LINE = 1,
+    TABLE_LINE = 2,
     ROW_HEADINGS_LINE = 3, /* row i stands i lines below it: empty lines are taken at the end alone */
     SHOWN = 64,            /* bytes for a cell's text in a message */
     ALLOWED = 96           /* bytes for the words on what is allowed */
@@ -49,10 +50,11 @@ typedef struct {
     const char *limited; /* how it does, in words */
 } column_kind;
 
-static const column_kind SPEED_KINDS[SPEED_COLUMNS] = {
+static const column_kind TABLE_KINDS[TABLE_COLUMNS] = {
     {"normal speed N (work units per slot)", "normal speed N", "work units per slot", 1, JB_MOST_SPEED, NOT_LIMITED, 0, ""},
     {"degraded speed G (work units per slot)", "degraded speed G", "work units per slot", 1, JB_MOST_SPEED, UP_TO_IT, 1,
      ", at most N"},
+    {"loading K (slots)", "loading K", "slots", 0, JB_MOST_LOADING, NOT_LIMITED, 0, ""},
 };
 static const column_kind ROW_KINDS[ROW_COLUMNS] = {
     {"release (slots)", "release", "slots", 0, JB_LAST_DEADLINE - 1, BELOW_IT, 3, ", below the deadline"},
@@ -74,7 +76,20 @@ typedef struct {
     char what[320];
 } trouble;
 
-/* ---- rows of a table ---- */
+/* ---- figures of a table ---- */
+
+/* N, G and K, which stand after n in the first line of a sheet. */
+static void set_first_line(jb_table *table, const uint32_t figures[TABLE_COLUMNS]) {
+    table->normal = figures[0];
+    table->degraded = figures[1];
+    table->loading = figures[2];
+}
+
+static void get_first_line(const jb_table *table, uint32_t figures[TABLE_COLUMNS]) {
+    figures[0] = table->normal;
+    figures[1] = table->degraded;
+    figures[2] = table->loading;
+}
 
 static void set_row(jb_table *table, size_t index, const uint32_t figures[ROW_COLUMNS]) {
     table->release[index] = figures[0];
@@ -227,8 +242,8 @@ static size_t read_cells(const text_piece *cells, const column_kind *kinds, size
 
 /* What belongs into a column of a line, both from 1; NULL where no figure does. */
 static const column_kind *kind_at(size_t line, size_t column) {
-    if (line == SPEEDS_LINE && column >= 1 && column <= SPEED_COLUMNS) {
-        return &SPEED_KINDS[column - 1];
+    if (line == TABLE_LINE && column >= 1 && column <= TABLE_COLUMNS) {
+        return &TABLE_KINDS[column - 1];
     }
     if (line > ROW_HEADINGS_LINE && column >= 1 && column <= ROW_COLUMNS) {
         return &ROW_KINDS[column - 1];
@@ -276,18 +291,30 @@ static size_t column_of(const csv_line *line, const char *heading) {
     return piece_is(line->beyond, heading) ? line->beyond_column : 0;
 }
 
-/* Says what stands where a heading belongs, and in which column the heading is found. */
+/* What to do about a heading that is not in its column: it stands in another one, or the file has no column for K. */
+static void name_heading_remedy(const csv_line *line, size_t column, const char *heading, char *remedy, size_t room) {
+    const size_t elsewhere = column_of(line, heading);
+    if (elsewhere != 0) {
+        snprintf(remedy, room, "; that heading stands in column %zu: move its column here, or delete what stands before it",
+                 elsewhere);
+    } else if (line->number == TABLE_HEADINGS_LINE && column == LOADING_COLUMN && line->cells[column - 1].length == 0) {
+        snprintf(remedy, room,
+                 "; a rows file from before K has no such column: write this heading here and 0 (slots, no loading) in "
+                 "line %d, column %d",
+                 TABLE_LINE, LOADING_COLUMN);
+    } else {
+        snprintf(remedy, room, "%s", "");
+    }
+}
+
+/* Says what stands where a heading belongs, and what to do about it. */
 static bool set_heading_trouble(const csv_line *line, size_t column, const char *heading, trouble *found) {
     const text_piece cell = line->cells[column - 1];
     const char *quote = cell.length == 0 ? "" : "'";
-    const size_t elsewhere = column_of(line, heading);
     char shown[SHOWN];
-    char remedy[128] = "";
+    char remedy[160];
     show_text(cell, shown, sizeof shown);
-    if (elsewhere != 0) {
-        snprintf(remedy, sizeof remedy,
-                 "; that heading stands in column %zu: move its column here, or delete what stands before it", elsewhere);
-    }
+    name_heading_remedy(line, column, heading, remedy, sizeof remedy);
     return set_trouble(found, line->number, column, "%s%s%s stands where the heading '%s' belongs%s", quote,
                        cell.length == 0 ? "nothing" : shown, quote, heading, remedy);
 }
@@ -299,25 +326,25 @@ static bool set_heading_trouble(const csv_line *line, size_t column, const char 
 static bool take_nothing_after(const csv_line *line, size_t columns, bool of_figures, trouble *found) {
     text_piece cell;
     const size_t column = csv_filled_after(line, columns, &cell);
-    const bool beside_speeds = column <= ROW_COLUMNS;
+    const bool beside_loading = column <= ROW_COLUMNS;
     char shown[SHOWN];
     char reason[96];
     if (column == 0) {
         return true;
     }
     show_text(cell, shown, sizeof shown);
-    if (beside_speeds) {
-        snprintf(reason, sizeof reason, "the speeds use %d of the %d columns, and nothing is allowed after column %d",
-                 SPEED_COLUMNS, ROW_COLUMNS, SPEED_COLUMNS);
+    if (beside_loading) {
+        snprintf(reason, sizeof reason, "N, G and K use %d of the %d columns, and nothing is allowed after column %d",
+                 TABLE_COLUMNS, ROW_COLUMNS, TABLE_COLUMNS);
     } else {
         snprintf(reason, sizeof reason, "a rows file has %d columns, and nothing is allowed after column %d", ROW_COLUMNS,
                  ROW_COLUMNS);
     }
     return set_trouble(found, line->number, column, "'%s' stands here; %s: %s", shown, reason,
-                       of_figures      ? "delete the cell that is one too many; if a figure was written with a comma, as "
-                                         "1,000, write 1000"
-                       : beside_speeds ? "delete this cell"
-                                       : "delete this column");
+                       of_figures       ? "delete the cell that is one too many; if a figure was written with a comma, as "
+                                          "1,000, write 1000"
+                       : beside_loading ? "delete this cell"
+                                        : "delete this column");
 }
 
 /* Headings have to be the ones that are written, so that other columns and other units are noticed. */
@@ -354,19 +381,18 @@ static bool take_figures(const csv_line *line, const column_kind *kinds, size_t 
 
 /* Takes a filled line for what its number makes it. */
 static bool take_line_of_rows(const csv_line *line, written_table *written, trouble *found) {
-    const bool of_speeds = line->number <= SPEEDS_LINE;
-    const column_kind *kinds = of_speeds ? SPEED_KINDS : ROW_KINDS;
-    const size_t columns = of_speeds ? SPEED_COLUMNS : ROW_COLUMNS;
+    const bool of_table = line->number <= TABLE_LINE;
+    const column_kind *kinds = of_table ? TABLE_KINDS : ROW_KINDS;
+    const size_t columns = of_table ? TABLE_COLUMNS : ROW_COLUMNS;
     uint32_t figures[ROW_COLUMNS];
-    if (line->number == SPEED_HEADINGS_LINE || line->number == ROW_HEADINGS_LINE) {
+    if (line->number == TABLE_HEADINGS_LINE || line->number == ROW_HEADINGS_LINE) {
         return take_headings(line, kinds, columns, found);
     }
     if (!take_figures(line, kinds, columns, figures, found)) {
         return false;
     }
-    if (of_speeds) {
-        written->table.normal = figures[0];
-        written->table.degraded = figures[1];
+    if (of_table) {
+        set_first_line(&written->table, figures);
     } else {
         append_row(&written->table, figures);
     }
@@ -390,13 +416,15 @@ static bool next_line(csv_text *text, csv_line *line, trouble *found) {
     return wrong == NULL || set_trouble(found, text->line, column, "%s", wrong);
 }
 
-/* The file ended after so many filled lines. Headings and speeds have to be there; the rows are counted by the archive. */
+/* The file ended after so many filled lines. Headings, speeds and K have to be there; the rows are counted by the archive. */
 static bool take_end(size_t filled, trouble *found) {
     switch (filled) {
     case 0: return set_trouble(found, 0, 0, "the file is empty; 'jasminebrace rows SHEET' shows what a rows file looks like");
-    case SPEED_HEADINGS_LINE:
-        return set_trouble(found, SPEEDS_LINE, 0, "the file ends where the speeds N and G belong, as 5,2 (work units per slot)");
-    case SPEEDS_LINE:
+    case TABLE_HEADINGS_LINE:
+        return set_trouble(found, TABLE_LINE, 0,
+                           "the file ends where the speeds N and G and the loading K belong, as 5,2,0 (work units per slot; "
+                           "slots)");
+    case TABLE_LINE:
         return set_trouble(found, ROW_HEADINGS_LINE, 0, "the file ends where the headings of the rows belong: %s,%s,%s,%s",
                            ROW_KINDS[0].heading, ROW_KINDS[1].heading, ROW_KINDS[2].heading, ROW_KINDS[3].heading);
     default: return true;
@@ -440,7 +468,7 @@ static const char *other_kind_of_file(text_piece text) {
 
 /* The text begins as a rows file does: with the first heading, after a mark and in quotes or not, whatever follows. */
 static bool begins_as_rows_file(text_piece text) {
-    const char *heading = SPEED_KINDS[0].heading;
+    const char *heading = TABLE_KINDS[0].heading;
     const size_t length = strlen(heading);
     text = without_blanks_before(csv_begin(text).left);
     text = without_blanks_before(piece_after(text, piece_begins(text, "\"", 1) ? 1 : 0));
@@ -450,8 +478,8 @@ static bool begins_as_rows_file(text_piece text) {
 
 /* Writes the rows file of a table that the archive accepts. */
 static void put_rows(FILE *to, const jb_table *table) {
-    fprintf(to, "%s,%s,,\n", SPEED_KINDS[0].heading, SPEED_KINDS[1].heading);
-    fprintf(to, "%" PRIu32 ",%" PRIu32 ",,\n", table->normal, table->degraded);
+    fprintf(to, "%s,%s,%s,\n", TABLE_KINDS[0].heading, TABLE_KINDS[1].heading, TABLE_KINDS[2].heading);
+    fprintf(to, "%" PRIu32 ",%" PRIu32 ",%" PRIu32 ",\n", table->normal, table->degraded, table->loading);
     fprintf(to, "%s,%s,%s,%s\n", ROW_KINDS[0].heading, ROW_KINDS[1].heading, ROW_KINDS[2].heading, ROW_KINDS[3].heading);
     for (size_t index = 0; index < table->n; index++) {
         fprintf(to, "%" PRIu32 ",%" PRIu32 ",%" PRIu32 ",%s\n", table->release[index], table->work[index],
@@ -461,7 +489,7 @@ static void put_rows(FILE *to, const jb_table *table) {
 
 /* ---- what the writer refuses ---- */
 
-/* The writer's answer about a table of one row. */
+/* The writer's answer about a table of one row, without loading. */
 static uint32_t ask_one_row(uint32_t normal, uint32_t degraded, const uint32_t figures[ROW_COLUMNS]) {
     uint8_t sheet[JB_FIRST_LINE + JB_ROW_LINE];
     uint32_t length;
@@ -487,16 +515,16 @@ static uint32_t ask_figure(size_t column, uint32_t figure) {
 
 /* A figure that the writer refuses. */
 typedef struct {
-    size_t row;                    /* from 1; 0 for the speeds */
+    size_t row;                    /* from 1; 0 for N, G and K */
     size_t column;                 /* from 1; 0 where none was found */
-    uint32_t figures[ROW_COLUMNS]; /* of the row, or the two speeds */
+    uint32_t figures[ROW_COLUMNS]; /* of the row, or N, G and K */
 } refused_figure;
 
-/* Which speed made the writer answer 4: N if it is refused beside a G of 1, else G. */
-static void find_refused_speed(const jb_table *table, refused_figure *found) {
-    found->column = ask_one_row(table->normal, 1, RIGHT_ROW) == JB_SPEEDS ? 1 : 2;
-    found->figures[0] = table->normal;
-    found->figures[1] = table->degraded;
+/* Which of N, G and K made the writer answer 4 or 11. 11 is K alone; 4 is N if it is refused beside a G of 1, else G. */
+static void find_refused_in_first_line(uint32_t number, const jb_table *table, refused_figure *found) {
+    const bool normal = number == JB_SPEEDS && ask_one_row(table->normal, 1, RIGHT_ROW) == JB_SPEEDS;
+    found->column = number == JB_LOADING ? LOADING_COLUMN : normal ? 1 : 2;
+    get_first_line(table, found->figures);
 }
 
 /*
@@ -530,12 +558,12 @@ static void put_where(FILE *to, const written_table *written) {
 
 /* Says which figure the writer refused and what is allowed in its place. */
 static void put_refused_figure(FILE *to, const written_table *written, const refused_figure *found) {
-    const column_kind *kind = found->row == 0 ? &SPEED_KINDS[found->column - 1] : &ROW_KINDS[found->column - 1];
+    const column_kind *kind = found->row == 0 ? &TABLE_KINDS[found->column - 1] : &ROW_KINDS[found->column - 1];
     char place[96];
     char allowed[ALLOWED];
     name_allowed(kind, kind->other == 0 ? NULL : &found->figures[kind->other - 1], allowed, sizeof allowed);
     if (written->file != NULL) {
-        name_place(found->row == 0 ? SPEEDS_LINE : ROW_HEADINGS_LINE + found->row, found->column, place, sizeof place);
+        name_place(found->row == 0 ? TABLE_LINE : ROW_HEADINGS_LINE + found->row, found->column, place, sizeof place);
     } else if (found->row == 0) {
         snprintf(place, sizeof place, "%s", kind->name);
     } else {
@@ -545,13 +573,17 @@ static void put_refused_figure(FILE *to, const written_table *written, const ref
     fprintf(to, "%s: the figure is %" PRIu32 "\nallowed: %s\n", place, found->figures[found->column - 1], allowed);
 }
 
+static void put_allowed_rows(FILE *to) {
+    fprintf(to, "allowed: 1 to %d rows\n", JB_ROWS);
+}
+
 /* Says which row is one too many, or that there is none, and how many are allowed. */
 static void put_refused_count(FILE *to, const written_table *written) {
     const uint32_t n = written->table.n;
     const bool is_words = written->file == NULL;
     put_where(to, written);
     if (n == 0 && is_words) {
-        fputs("after G: there is no row\n", to);
+        fputs("after K: there is no row\n", to);
     } else if (n == 0) {
         fprintf(to, "line %d: there is no row\n", ROW_HEADINGS_LINE + 1);
     } else if (is_words) {
@@ -560,7 +592,7 @@ static void put_refused_count(FILE *to, const written_table *written) {
         fprintf(to, "line %d: this is row %d, and there are %" PRIu32 " rows\n", ROW_HEADINGS_LINE + JB_ROWS + 1,
                 JB_ROWS + 1, n);
     }
-    fprintf(to, "allowed: 1 to %d rows\n", JB_ROWS);
+    put_allowed_rows(to);
 }
 
 /* Says where in what was written the writer found this number, and what is allowed there. */
@@ -568,8 +600,8 @@ static void put_refused_place(FILE *to, uint32_t number, const written_table *wr
     refused_figure found = {0, 0, {0}};
     if (number == JB_ROW_COUNT) {
         put_refused_count(to, written);
-    } else if (number == JB_SPEEDS) {
-        find_refused_speed(&written->table, &found);
+    } else if (number == JB_SPEEDS || number == JB_LOADING) {
+        find_refused_in_first_line(number, &written->table, &found);
     } else if (number == JB_ROW_LIMITS) {
         find_refused_in_rows(&written->table, &found);
     }

@@ -54,12 +54,15 @@ p1() { cat p1.sheet; }
 # refused_at FILE NUMBER "ROW FIELD BYTE LINE" PLACE
 refused_at() {
     local file=$1 number=$2 place=$4 plain status=2
-    local words
+    local words allowed
     read -r row field byte line_number <<<"$3"
     case_is "$status" "$place" '' explain "$file"
     words=$(grep "^number $number: " out || true)
     [ -n "$words" ] || complain "explain $file: not number $number"
     grep -q '^remedy: ' out || complain "explain $file: no remedy"
+    # What is allowed is said of a figure, and of nothing else.
+    case $number in 3 | 4 | 5 | 11) allowed=1 ;; *) allowed=0 ;; esac
+    [ "$(grep -c '^allowed: ' out)" -eq "$allowed" ] || complain "explain $file: not $allowed lines on what is allowed"
     plain=$(printf '%8s%8s%8s%8s%8s' "$number" "$row" "$field" "$byte" "$line_number")
     case_is "$status" "$plain" '' explain --plain "$file"
     case_is "$status" '' "$place" plan "$file"
@@ -82,7 +85,7 @@ also_out 'place 4: row 4 (LO), slack 0 slots'
 case_is 0 'place 1: row 3 (HI), slack 0 slots' '' plan p2.sheet
 case_is 1 '' 'number 7: no correct order exists' plan p3.sheet
 also_err 'rows left: 1 2'
-also_err 'remedy: give the rows left later deadlines or less work, or the processor more speed'
+also_err 'remedy: give the rows left later deadlines or less work, the processor more speed, or the table a smaller K'
 case_is 1 '       7       2' 'rows left: 1 2' plan --plain p3.sheet
 case_is 1 'rows left: 1 2' '' explain p3.sheet
 case_is 1 '       7       0       0       0       0' '' explain --plain p3.sheet
@@ -158,9 +161,11 @@ report_is p1.sheet 1,2 3,4 0 0 <<<"$p1_planned"
 lines '1 4 1 1 4' '2 3 3 11 8' '3 2 3 11 -1' '4 1 4 20 -10' '11 2' | report_is p1.sheet 4 3,2 1
 lines '1 1 1 1 1' '2 2 2 5 -1' '3 1' | report_is p3.sheet 1 2
 lines '1 2 2 4 0' '2 1 1 3 -1' '3 1' | report_is p3.sheet 2 1
+lines '1 2 3 5 2' '2 3 3 10 1' '3 1 5 11 2' '11 0' | report_is loading.sheet
+lines '1 1 5 5 8' '2 2 3 9 -2' '3 3 3 13 -2' '11 2' | report_is loading.sheet 1 2 3
 # Of the planned order of each sheet: places, rows and slacks are those of plan, worst finishes those of finishes, no row is late, and the
-# needs are added up from the sheet.
-for sheet in p1.sheet p2.sheet rows64.sheet; do
+# needs are added up from the sheet: K slots for each row, and its work at N rounded up.
+for sheet in p1.sheet p2.sheet rows64.sheet loading.sheet; do
     case_is 0 '*' '' report --plain "$sheet"
     cp out report
     [ "$(wc -c <report)" -eq $((51 * $(head -c 8 "$sheet") + 21)) ] || complain "report $sheet: $(wc -c <report) bytes"
@@ -168,7 +173,7 @@ for sheet in p1.sheet p2.sheet rows64.sheet; do
     "$command" plan --plain "$sheet" | awk 'NR > 1 { print $1, $2, $3 }' | cmp -s - places || complain "report $sheet: not the places of plan"
     head -n -1 report | sort -k 2n | awk '{ print $2, $4 }' >worst
     "$command" finishes --plain "$sheet" | awk 'NR > 1 { print $1, $2 }' | cmp -s - worst || complain "report $sheet: not those of finishes"
-    needs=$(awk 'NR == 1 { n = $2 } NR > 1 { sum += int(($2 + n - 1) / n) } END { print sum }' "$sheet")
+    needs=$(awk 'NR == 1 { n = $2; k = $4 } NR > 1 { sum += k + int(($2 + n - 1) / n) } END { print sum }' "$sheet")
     [ "$(tail -n 1 report)" = "$(printf '%10s%10s' "$needs" 0)" ] || complain "report $sheet: not $needs slots and no late row"
 done
 
@@ -180,26 +185,88 @@ also_out 'after 10 slots: no row is open'
 case_is 0 'slot 0: row 1, supply 2 work units, got 2 of 2 work units, done at clock 1' '' run p3.sheet --order=1,2 2 2
 also_out 'after 2 slots: rows still open: 2'
 case_is 0 'after 4 slots: rows still open: 2 (late)' '' run p3.sheet --order 1,2 4x0
-case_is 0 '       4       2       4       4       3' '' run --plain p3.sheet --order 1,2 10x1
+case_is 0 '       4       2       4       4       3       0' '' run --plain p3.sheet --order 1,2 10x1
 also_out '       0       2'
-also_out '       0       1       1       2       2'
-also_out '       5       0       0       0       0'
+also_out '       0       1       1       2       2       0'
+also_out '       5       0       0       0       0       0'
 case_is 0 'from slot 1, 4 slots: row 2, done at clock 5, late by 1 slot' '' run --stretches p3.sheet --order 1,2 10x1
 also_out 'from slot 0, 1 slot: row 1, dropped at clock 1'
 also_out 'from slot 5, 5 slots: idle'
-case_is 0 '       1       4       2       3' '' run --stretches --plain p3.sheet --order 1,2 10x1
+case_is 0 '       1       4       2       3       0' '' run --stretches --plain p3.sheet --order 1,2 10x1
 case_is 0 'slot 0: row 1, supply 4294967295 work units, got 20 of 20 work units, done at clock 1' '' run p1.sheet 4294967295
 # The last slot is worked, one more is refused with 8, and what was worked is kept.
 case_is 0 'from slot 11, 1999989 slots: idle' '' run --stretches p1.sheet 2000x5 1998000x0
 case_is 2 'after 2000000 slots: rows still open: 1 (late), 2 (late), 3 (late), 4 (late)' 'number 8: the clock is 2,000,000 slots, and no further slot is worked' run --stretches p1.sheet 2000001x0
 also_out 'from slot 0, 2000000 slots: row 1'
 also_err 'remedy: begin a new run with a fresh record'
-case_is 2 '       0 2000000       1       0' '*' run --stretches --plain p1.sheet 4294967295x0 4294967295x7
-case_is 2 ' 1999999       1       0      20       0' 'number 8: the clock is 2,000,000 slots, and no further slot is worked' run --plain p1.sheet 2000001x0
+case_is 2 '       0 2000000       1       0       0' '*' run --stretches --plain p1.sheet 4294967295x0 4294967295x7
+case_is 2 ' 1999999       1       0      20       0       0' 'number 8: the clock is 2,000,000 slots, and no further slot is worked' run --plain p1.sheet 2000001x0
 [ "$(wc -l <out)" -eq 2000001 ] || complain "2,000,000 slots and the first line"
+# Loading: row 1 of the sample is preempted after one of its two loading slots, then after both, and does not load again.
+loads() { # OPTIONS SUPPLY: the run is the one on standard input
+    cat >expected
+    # shellcheck disable=SC2086 # several options, or none
+    case_is 0 '*' '' run $1 loading.sheet "$2"
+    cmp -s out expected || complain "run $1 loading.sheet $2: not as it should be"
+}
+loads '' 12x4 <<'SLOTS'
+order: 2 3 1
+slot 0: row 1, loading slot 1 of 2, supply 4 work units, got 0 of 12 work units
+slot 1: row 2, loading slot 1 of 2, supply 4 work units, got 0 of 4 work units
+slot 2: row 2, loading slot 2 of 2, supply 4 work units, got 0 of 4 work units
+slot 3: row 2, supply 4 work units, got 4 of 4 work units, done at clock 4
+slot 4: row 1, loading slot 2 of 2, supply 4 work units, got 0 of 12 work units
+slot 5: row 1, supply 4 work units, got 4 of 12 work units
+slot 6: row 3, loading slot 1 of 2, supply 4 work units, got 0 of 4 work units
+slot 7: row 3, loading slot 2 of 2, supply 4 work units, got 0 of 4 work units
+slot 8: row 3, supply 4 work units, got 4 of 4 work units, done at clock 9
+slot 9: row 1, supply 4 work units, got 8 of 12 work units
+slot 10: row 1, supply 4 work units, got 12 of 12 work units, done at clock 11
+slot 11: idle, supply 4 work units
+after 12 slots: no row is open
+SLOTS
+loads --plain 12x4 <<'SLOTS'
+       0       3
+       0       1       0      12       0       1
+       1       2       0       4       0       1
+       2       2       0       4       0       1
+       3       2       4       4       1       0
+       4       1       0      12       0       1
+       5       1       4      12       0       0
+       6       3       0       4       0       1
+       7       3       0       4       0       1
+       8       3       4       4       1       0
+       9       1       8      12       0       0
+      10       1      12      12       1       0
+      11       0       0       0       0       0
+SLOTS
+loads --stretches 12x4 <<'STRETCHES'
+order: 2 3 1
+from slot 0, 1 slot (1 loading): row 1
+from slot 1, 3 slots (2 loading): row 2, done at clock 4
+from slot 4, 2 slots (1 loading): row 1
+from slot 6, 3 slots (2 loading): row 3, done at clock 9
+from slot 9, 2 slots: row 1, done at clock 11
+from slot 11, 1 slot: idle
+after 12 slots: no row is open
+STRETCHES
+loads '--plain --stretches' 12x4 <<'STRETCHES'
+       0       3
+       0       1       1       0       1
+       1       3       2       1       2
+       4       2       1       0       1
+       6       3       3       1       2
+       9       2       1       1       0
+      11       1       0       0       0
+STRETCHES
+# Loading slots are in a LO row's allowance; its last slot of 5 drops it.
+case_is 0 'slot 12: row 1, supply 2 work units, got 6 of 12 work units, dropped at clock 13' '' run loading.sheet 13x2
+# What a loading slot supplies is lost, however much it is.
+case_is 0 'slot 0: row 1, loading slot 1 of 2, supply 4294967295 work units, got 0 of 12 work units' '' run loading.sheet 4294967295
 
-# The lines of slots are those of the run on paper, but for what is said of a late row, and stretches are these lines put together.
-for sheet in p1.sheet p2.sheet rows64.sheet; do
+# The lines of slots are those of the run on paper, but for what is said of loading and of a late row; the loading slots are the first K that
+# each row runs; stretches are these lines put together.
+for sheet in p1.sheet p2.sheet rows64.sheet loading.sheet; do
     for supplies in '5 5 2 2 2' '3' '0 1 2 3 4 5 6 7 8 9' '7 0 0 0 2 4294967295'; do
         # shellcheck disable=SC2086 # several supplies
         "$paper" "$sheet" $supplies >paper.out || true
@@ -208,13 +275,20 @@ for sheet in p1.sheet p2.sheet rows64.sheet; do
         count=$(wc -l <paper.slots)
         # shellcheck disable=SC2086
         case_is 0 '*' '' run "$sheet" $supplies "${count}x$last"
-        grep '^slot' out | head -n "$count" | sed 's/, late by .*//' >ours.slots
+        grep '^slot' out | head -n "$count" | sed 's/, late by .*//; s/, loading slot [0-9]* of [0-9]*,/,/' >ours.slots
+        grep -o 'row .*, loading slot [0-9]* of [0-9]*' out >ours.loading || true
         cmp -s ours.slots paper.slots || complain "run $sheet $supplies: not as on paper"
         [ "$(grep -c 'late by' out)" -eq "$(grep -c ', late$' paper.out)" ] || complain "run $sheet $supplies: not late as on paper"
         # shellcheck disable=SC2086
         "$command" run --plain "$sheet" $supplies "${count}x$last" >slots.plain
-        awk 'NR > 1 { if (NR == 2 || $2 != row || closed) { if (NR > 2) printf "%8d%8d%8d%8d\n", first, length_, row, closed; first = $1; length_ = 0; row = $2 }
-             length_++; closed = $5 } END { printf "%8d%8d%8d%8d\n", first, length_, row, closed }' slots.plain >expected
+        awk -v k="$(head -n 1 "$sheet" | cut -c 25-32)" 'NR > 1 && $2 > 0 && used[$2]++ < k { print "row " $2 ", loading slot " used[$2] " of " k + 0 }' \
+            slots.plain >expected
+        cmp -s ours.loading expected || complain "run $sheet $supplies: other loading slots"
+        awk 'NR > 1 { print $6 }' slots.plain | paste -sd ' ' >flags
+        grep '^slot' out | sed 's/.*loading.*/1/; t; s/.*/0/' | paste -sd ' ' | cmp -s - flags || complain "run --plain $sheet $supplies: other loading slots"
+        awk 'NR > 1 { if (NR == 2 || $2 != row || closed) { if (NR > 2) printf "%8d%8d%8d%8d%8d\n", first, length_, row, closed, loading
+                 first = $1; length_ = 0; row = $2; loading = 0 }
+             length_++; closed = $5; loading += $6 } END { printf "%8d%8d%8d%8d%8d\n", first, length_, row, closed, loading }' slots.plain >expected
         # shellcheck disable=SC2086
         case_is 0 '*' '' run --plain --stretches "$sheet" $supplies "${count}x$last"
         tail -n +2 out | cmp -s - expected || complain "run --stretches $sheet $supplies: not the slots put together"
@@ -224,137 +298,209 @@ done
 # ---- a million slots by stretches, over 64 rows and over one ----
 rows=()
 for ((row = 0; row < 64; row++)); do rows+=("0,15625,1000000,1"); done
-"$command" sheet 1 1 "${rows[@]}" >million.sheet
+"$command" sheet 1 1 0 "${rows[@]}" >million.sheet
 case_is 0 'from slot 984375, 15625 slots: row 1, done at clock 1000000' '' run --stretches million.sheet 1000000x1
 [ "$(grep -c '^from' out)" -eq 64 ] || complain "a stretch for each row"
-line 1 1 1 >one.sheet && line 0 1000000 1000000 1 >>one.sheet
+line 1 1 1 0 >one.sheet && line 0 1000000 1000000 1 >>one.sheet
 case_is 0 'from slot 0, 1000000 slots: row 1, done at clock 1000000' '' run --stretches one.sheet 1000000x1
+line 1 1 1 16 >one.sheet && line 0 1000000 1000000 1 >>one.sheet
+case_is 0 'from slot 0, 1000016 slots (16 loading): row 1, done at clock 1000016, late by 16 slots' '' run --stretches one.sheet --order 1 1000016x1
 
-# The largest figures of a plain form: 64 rows of 1,000,000 slots each, the last of them 63,000,000 slots late.
+# The largest figures of a plain form: 64 rows of 1,000,016 slots each, 16 of them loading, all released in slot 999,999, the last of them
+# 64,001,023 slots late.
 slow=()
-for ((row = 0; row < 64; row++)); do slow+=("0,1000000,1000000,1"); done
-"$command" sheet 1 1 "${slow[@]}" >slow.sheet
+for ((row = 0; row < 64; row++)); do slow+=("999999,1000000,1000000,1"); done
+"$command" sheet 1 1 16 "${slow[@]}" >slow.sheet
 in_order=$(seq -s , 64)
-case_is 0 '      6464000000 1000000       063000000' '' finishes --plain slow.sheet "$in_order"
-case_is 1 '       0       0      64       063000000' '' judge --plain slow.sheet "$in_order"
-{ for ((row = 1; row <= 64; row++)); do echo "$row $row 1000000 ${row}000000 $(((1 - row) * 1000000))"; done && echo '64000000 63'; } |
+case_is 0 '      6465001023 1000000       064001023' '' finishes --plain slow.sheet "$in_order"
+case_is 1 '       0       0      64       064001023' '' judge --plain slow.sheet "$in_order"
+{ for ((row = 1; row <= 64; row++)); do echo "$row $row 1000016 $((999999 + row * 1000016)) $((1 - row * 1000016))"; done && echo '64001024 64'; } |
     report_is slow.sheet "$in_order"
 
 # ---- refusals with their places ----
 : >empty.sheet
 refused_at empty.sheet 1 '0 0 1 1' 'where: byte 1 (line 1, byte 1 of it): the sheet ends before this byte'
-also_err 'length: the sheet has 0 bytes; a first line alone takes 25'
+also_err 'length: the sheet has 0 bytes; a first line alone takes 33'
 printf '%8s%8s' 4 5 >part.sheet
 refused_at part.sheet 1 '0 0 17 1' 'where: byte 17 (line 1, byte 17 of it): the sheet ends before this byte'
 printf '4\t5\t2\n' >tabs.sheet
 refused_at tabs.sheet 1 '0 1 2 1' 'where: first line, row count n, byte 2 (line 1, byte 2 of it): a tab (byte 9) where a space or a digit belongs'
 p1 | head -c -1 >no-last-end.sheet
-refused_at no-last-end.sheet 1 '4 5 157 5' 'where: row 4, line end, byte 157 (line 5, byte 33 of it): the last line end (byte 10) is missing'
-also_err 'length: the sheet has 156 bytes; the rows that its first line announces make it 157'
+refused_at no-last-end.sheet 1 '4 5 165 5' 'where: row 4, line end, byte 165 (line 5, byte 33 of it): the last line end (byte 10) is missing'
+also_err 'length: the sheet has 164 bytes; the rows that its first line announces make it 165'
 p1 | head -n 3 >two-rows.sheet
-refused_at two-rows.sheet 1 '3 0 92 4' 'where: row 3, byte 92 (line 4, byte 1 of it): the sheet ends before this byte'
+refused_at two-rows.sheet 1 '3 0 100 4' 'where: row 3, byte 100 (line 4, byte 1 of it): the sheet ends before this byte'
 { p1 && echo; } >line-after.sheet
-refused_at line-after.sheet 1 '0 0 158 6' 'where: byte 158 (line 6, byte 1 of it): a line end (byte 10) follows the last row, row 4'
+refused_at line-after.sheet 1 '0 0 166 6' 'where: byte 166 (line 6, byte 1 of it): a line end (byte 10) follows the last row, row 4'
 { p1 && line 0 5 5 0; } >row-after.sheet
-refused_at row-after.sheet 1 '0 0 158 6' 'where: byte 158 (line 6, byte 1 of it): a space (byte 32) follows the last row, row 4'
+refused_at row-after.sheet 1 '0 0 166 6' 'where: byte 166 (line 6, byte 1 of it): a space (byte 32) follows the last row, row 4'
 { cat rows64.sheet && cat p1.sheet; } >long.sheet
-refused_at long.sheet 1 '0 0 2138 66' 'where: byte 2138 (line 66, byte 1 of it): a space (byte 32) follows the last row, row 64'
-also_err 'length: the sheet has 2138 bytes or more; the rows that its first line announces make it 2137'
+refused_at long.sheet 1 '0 0 2146 66' 'where: byte 2146 (line 66, byte 1 of it): a space (byte 32) follows the last row, row 64'
+also_err 'length: the sheet has 2146 bytes or more; the rows that its first line announces make it 2145'
 p1 | sed '2,$s/$/\r/' >cr-in-rows.sheet
-refused_at cr-in-rows.sheet 1 '1 5 58 2' 'where: row 1, line end, byte 58 (line 2, byte 33 of it): a carriage return (byte 13) where the line end (byte 10) belongs'
+refused_at cr-in-rows.sheet 1 '1 5 66 2' 'where: row 1, line end, byte 66 (line 2, byte 33 of it): a carriage return (byte 13) where the line end (byte 10) belongs'
 p1 | sed 's/$/\r/' >cr.sheet
-refused_at cr.sheet 2 '0 4 25 1' 'where: first line, line end, byte 25 (line 1, byte 25 of it): a carriage return (byte 13) where the line end (byte 10) belongs'
+refused_at cr.sheet 2 '0 5 33 1' 'where: first line, line end, byte 33 (line 1, byte 33 of it): a carriage return (byte 13) where the line end (byte 10) belongs'
 { printf '\357\273\277' && p1; } >mark.sheet
 refused_at mark.sheet 2 '0 1 1 1' 'where: first line, row count n, byte 1 (line 1, byte 1 of it): a UTF-8 byte order mark (bytes 239, 187, 191) where a space or a digit belongs'
 p1 | sed '3s/      15/\t15     /' >tab.sheet
-refused_at tab.sheet 2 '2 2 67 3' 'where: row 2, work, byte 67 (line 3, byte 9 of it): a tab (byte 9) where a space or a digit belongs'
+refused_at tab.sheet 2 '2 2 75 3' 'where: row 2, work, byte 75 (line 3, byte 9 of it): a tab (byte 9) where a space or a digit belongs'
 p1 | sed '1s/^       4/00000004/' >zeros.sheet
 refused_at zeros.sheet 2 '0 1 1 1' "where: first line, row count n, byte 1 (line 1, byte 1 of it): '0' (byte 48) where a space or a digit 1 to 9 belongs"
 p1 | sed '5s/^       0/0       /' >left-zero.sheet
-refused_at left-zero.sheet 2 '4 1 125 5' "where: row 4, release, byte 125 (line 5, byte 1 of it): '0' (byte 48) where a space or a digit 1 to 9 belongs"
+refused_at left-zero.sheet 2 '4 1 133 5' "where: row 4, release, byte 133 (line 5, byte 1 of it): '0' (byte 48) where a space or a digit 1 to 9 belongs"
 p1 | sed '4s/19/1x/' >letter.sheet
-refused_at letter.sheet 2 '3 3 115 4' "where: row 3, deadline, byte 115 (line 4, byte 24 of it): 'x' (byte 120) where a space or a digit belongs"
+refused_at letter.sheet 2 '3 3 123 4' "where: row 3, deadline, byte 123 (line 4, byte 24 of it): 'x' (byte 120) where a space or a digit belongs"
 p1 | sed '5s/^       0/        /' >blank.sheet
-refused_at blank.sheet 2 '4 1 132 5' 'where: row 4, release, byte 132 (line 5, byte 8 of it): a space (byte 32) where a digit belongs'
+refused_at blank.sheet 2 '4 1 140 5' 'where: row 4, release, byte 140 (line 5, byte 8 of it): a space (byte 32) where a digit belongs'
 p1 | sed '2s/      20/20      /' >left.sheet
-refused_at left.sheet 2 '1 2 36 2' 'where: row 1, work, byte 36 (line 2, byte 11 of it): a space (byte 32) where a digit belongs'
+refused_at left.sheet 2 '1 2 44 2' 'where: row 1, work, byte 44 (line 2, byte 11 of it): a space (byte 32) where a digit belongs'
 p1 | sed '2s/      20/     -20/' >minus.sheet
-refused_at minus.sheet 2 '1 2 39 2' "where: row 1, work, byte 39 (line 2, byte 14 of it): '-' (byte 45) where a space or a digit belongs"
+refused_at minus.sheet 2 '1 2 47 2' "where: row 1, work, byte 47 (line 2, byte 14 of it): '-' (byte 45) where a space or a digit belongs"
 p1 | tr '\n' ' ' >blanks-as-ends.sheet
-refused_at blanks-as-ends.sheet 2 '0 4 25 1' 'where: first line, line end, byte 25 (line 1, byte 25 of it): a space (byte 32) where the line end (byte 10) belongs'
+refused_at blanks-as-ends.sheet 2 '0 5 33 1' 'where: first line, line end, byte 33 (line 1, byte 33 of it): a space (byte 32) where the line end (byte 10) belongs'
 p1 | sed '1s/$/\x00/;2s/^ //' >zero-byte.sheet
-refused_at zero-byte.sheet 2 '0 4 25 1' 'where: first line, line end, byte 25 (line 1, byte 25 of it): byte 0 where the line end (byte 10) belongs'
+refused_at zero-byte.sheet 2 '0 5 33 1' 'where: first line, line end, byte 33 (line 1, byte 33 of it): byte 0 where the line end (byte 10) belongs'
 for count in 0 65 99999999; do
-    line "$count" 5 2 >count.sheet
+    line "$count" 5 2 0 >count.sheet
     refused_at count.sheet 3 '0 1 1 1' "where: first line, row count n, byte 1 (line 1, byte 1 of it): the figure is $count"
+    also_err 'allowed: 1 to 64 rows'
 done
-for speeds in '2 0 1 9' '2 1001 1 9' '3 5 6 17' '3 5 0 17' '3 1000 1001 17' '2 1001 1001 9'; do
-    read -r field normal degraded byte <<<"$speeds"
-    { line 1 "$normal" "$degraded" && line 0 1 1 0; } >speeds.sheet
+for speeds in '2 0 1 9 1,000' '2 1001 1 9 1,000' '3 5 6 17 5' '3 5 0 17 5' '3 1000 1001 17 1,000' '2 1001 1001 9 1,000'; do
+    read -r field normal degraded byte most <<<"$speeds"
+    { line 1 "$normal" "$degraded" 17 && line 4 1 1 0; } >speeds.sheet
     name=$([ "$field" -eq 2 ] && echo "normal speed N" || echo "degraded speed G")
     figure=$([ "$field" -eq 2 ] && echo "$normal" || echo "$degraded")
     refused_at speeds.sheet 4 "0 $field $byte 1" "where: first line, $name, byte $byte (line 1, byte $byte of it): the figure is $figure"
+    also_err "allowed: 1 to $most work units per slot$([ "$field" -eq 2 ] || echo ', at most N')"
+    also_err 'remedy: correct the speeds'
+done
+# K above its limit, whatever the row; up to it, it is taken.
+for loading in 17 100 99999999; do
+    { line 1 5 2 "$loading" && line 4 20 4 1; } >loading-above.sheet
+    refused_at loading-above.sheet 11 '0 4 25 1' "where: first line, loading K, byte 25 (line 1, byte 25 of it): the figure is $loading"
+    also_err 'number 11: K is above 16 slots'
+    also_err 'allowed: 0 to 16 slots'
+    also_err 'remedy: correct K; where a job really takes longer to load, split it or make the slots longer'
+done
+for loading in 0 1 16; do
+    { line 1 5 2 "$loading" && line 0 20 26 1; } >loading-taken.sheet
+    case_is 0 "place 1: row 1 (HI), slack $((16 - loading)) slots" '' plan loading-taken.sheet
+done
+{ line 1 5 2 17 && line 0 x 10 1; } >loading-later.sheet
+refused_at loading-later.sheet 2 '1 2 49 2' "where: row 1, work, byte 49 (line 2, byte 16 of it): 'x' (byte 120) where a space or a digit belongs"
+# K's field malformed.
+p1 | sed '1s/       0$/      -1/' >loading-minus.sheet
+refused_at loading-minus.sheet 2 '0 4 31 1' "where: first line, loading K, byte 31 (line 1, byte 31 of it): '-' (byte 45) where a space or a digit belongs"
+p1 | sed '1s/       0$/        /' >loading-blank.sheet
+refused_at loading-blank.sheet 2 '0 4 32 1' 'where: first line, loading K, byte 32 (line 1, byte 32 of it): a space (byte 32) where a digit belongs'
+p1 | sed '1s/       0$/      02/' >loading-zero.sheet
+refused_at loading-zero.sheet 2 '0 4 31 1' "where: first line, loading K, byte 31 (line 1, byte 31 of it): '0' (byte 48) where a space or a digit 1 to 9 belongs"
+# A sheet from before K: 2, the field that is missing and how the sheet is brought up, which gives the sheet with K 0.
+missing="hint: the field of K (loading, in slots) is missing; a sheet from before K is brought up by a field '       0' before its first line end: sed '1s/\$/       0/' SHEET"
+at_loading='where: first line, loading K, byte 25 (line 1, byte 25 of it): a line end (byte 10) where a space or a digit belongs'
+for sheet in p1.sheet p2.sheet p3.sheet rows64.sheet; do
+    sed '1s/       0$//' "$sheet" >before.sheet
+    refused_at before.sheet 2 '0 4 25 1' "$at_loading"
+    case_is 2 "$missing" '' explain before.sheet
+    [ "$(tail -n 1 out)" = "$missing" ] || complain "explain before.sheet: the hint is not last"
+    for words in 'plan before.sheet' 'rows before.sheet' 'judge before.sheet 1' 'finishes before.sheet' 'report before.sheet' 'run before.sheet 5'; do
+        # shellcheck disable=SC2086 # several words
+        case_is 2 '' "$missing" $words
+    done
+    told=$(sed -n "s/.*: \(sed .*\) SHEET$/\1/p" err)
+    bash -c "$told before.sheet" | cmp -s - "$sheet" || complain "$sheet from before K is not brought up by: $told"
+done
+# A first line from before K alone is too short, and says so as well.
+p1 | head -n 1 | sed '1s/       0$//' >before-line.sheet
+refused_at before-line.sheet 1 '0 4 25 1' "$at_loading"
+also_err 'length: the sheet has 25 bytes; a first line alone takes 33'
+also_err "$missing"
+# No other sheet is said to be one from before K: not with a line end further on, a carriage return, or something malformed before.
+p1 | sed '1s/.....$//' >end-in-loading.sheet
+p1 | sed '1s/       0$/\r/' >before-cr.sheet
+p1 | sed '1s/       0$//; 1s/^ /x/' >before-x.sheet
+for file in end-in-loading.sheet before-cr.sheet before-x.sheet loading-above.sheet loading-blank.sheet cr.sheet part.sheet; do
+    case_is 2 '*' '' explain "$file"
+    ! grep -q '^hint: ' out || complain "explain $file: a hint"
 done
 # Field at fault, its name, byte in the line, and the row.
-while read -r field name byte a c d level; do
+while read -r field name byte a c d level allowed; do
     figures=("$a" "$c" "$d" "$level")
     figure=${figures[$((field - 1))]}
-    { line 3 5 2 && line 0 20 10 1 && line "$a" "$c" "$d" "$level" && line 9 9 9 9; } >row.sheet
-    refused_at row.sheet 5 "2 $field $((58 + byte)) 3" "where: row 2, $name, byte $((58 + byte)) (line 3, byte $byte of it): the figure is $figure"
+    { line 3 5 2 16 && line 0 20 10 1 && line "$a" "$c" "$d" "$level" && line 9 9 9 9; } >row.sheet
+    refused_at row.sheet 5 "2 $field $((66 + byte)) 3" "where: row 2, $name, byte $((66 + byte)) (line 3, byte $byte of it): the figure is $figure"
+    also_err "allowed: $allowed"
 done <<'ROWS'
-1 release 1 4 20 4 1
-1 release 1 99999999 20 1000000 0
-2 work 9 0 0 10 1
-2 work 9 0 1000001 10 0
-3 deadline 17 0 20 1000001 1
-3 deadline 17 0 20 0 1
-4 level 25 0 20 10 2
+1 release 1 4 20 4 1 0 to 3 slots, below the deadline
+1 release 1 99999999 20 1000000 0 0 to 999,999 slots, below the deadline
+2 work 9 0 0 10 1 1 to 1,000,000 work units
+2 work 9 0 1000001 10 0 1 to 1,000,000 work units
+3 deadline 17 0 20 1000001 1 1 to 1,000,000 slots, above the release
+3 deadline 17 7 20 0 1 8 to 1,000,000 slots, above the release
+4 level 25 0 20 10 2 HI or LO (or 1 or 0)
 ROWS
-{ line 1 1 1 && line 0 1000000 1000000 0; } >limits.sheet
+{ line 1 1 1 0 && line 0 1000000 1000000 0; } >limits.sheet
 case_is 0 'place 1: row 1 (LO), slack 0 slots' '' plan limits.sheet
 
 # ---- writing a sheet ----
-case_is 0 '*' '' sheet 5 2 0,20,10,1 5,15,10,0 5,11,19,1 0,5,5,0
+case_is 0 '*' '' sheet 5 2 0 0,20,10,1 5,15,10,0 5,11,19,1 0,5,5,0
 cmp -s out p1.sheet || complain "the sheet written is P1"
-case_is 0 '*' '' sheet --plain 5 2 0,20,10,1 5,15,10,0 5,11,19,1 0,5,5,0
+case_is 0 '*' '' sheet --plain 5 2 0 0,20,10,1 5,15,10,0 5,11,19,1 0,5,5,0
 cmp -s out p1.sheet || complain "the sheet written is P1"
-case_is 0 '*' '' sheet 5 2 '0, 20 ,10,HI' ' 5,15,10,lo' 5,11,19,Hi "$(printf '0,5,\t5,LO')"
+case_is 0 '*' '' sheet 5 2 0 '0, 20 ,10,HI' ' 5,15,10,lo' 5,11,19,Hi "$(printf '0,5,\t5,LO')"
 cmp -s out p1.sheet || complain "the sheet written is P1"
-case_is 2 '' 'where: row 1, release: the figure is 4' sheet 5 2 4,20,4,1
+case_is 2 '' 'where: row 1, release: the figure is 4' sheet 5 2 0 4,20,4,1
 also_err 'number 5: a row has work not 1 to 1,000,000 work units, a deadline over 1,000,000 slots, a release not below its deadline or a level not 0 or 1, or a row after the last is not zero'
 also_err 'allowed: 0 to 3 slots, below the deadline'
 also_err 'remedy: correct the row'
-case_is 2 '' 'where: row 1, release: the figure is 1' sheet 5 2 1,20,1,1
+case_is 2 '' 'where: row 1, release: the figure is 1' sheet 5 2 0 1,20,1,1
 also_err 'allowed: only 0 (slots), below the deadline'
-case_is 2 '' 'where: row 2, work: the figure is 0' sheet 5 2 0,20,10,1 0,0,10,1 9,9,9,9
+case_is 2 '' 'where: row 2, work: the figure is 0' sheet 5 2 0 0,20,10,1 0,0,10,1 9,9,9,9
 also_err 'allowed: 1 to 1,000,000 work units'
-case_is 2 '' 'where: row 1, work: the figure is 123456789' sheet 5 2 0,123456789,10,1
-case_is 2 '' 'where: row 1, deadline: the figure is 0' sheet 5 2 0,1,0,1
+case_is 2 '' 'where: row 1, work: the figure is 123456789' sheet 5 2 0 0,123456789,10,1
+case_is 2 '' 'where: row 1, deadline: the figure is 0' sheet 5 2 0 0,1,0,1
 also_err 'allowed: 1 to 1,000,000 slots, above the release'
-case_is 2 '' 'where: row 1, level: the figure is 7' sheet 5 2 0,20,10,7
+case_is 2 '' 'where: row 1, level: the figure is 7' sheet 5 2 0 0,20,10,7
 also_err 'allowed: HI or LO (or 1 or 0)'
-case_is 2 '' 'where: normal speed N: the figure is 1001' sheet 1001 2 0,1,1,1
+case_is 2 '' 'where: normal speed N: the figure is 1001' sheet 1001 2 17 0,1,1,1
 also_err 'allowed: 1 to 1,000 work units per slot'
-case_is 2 '' 'where: normal speed N: the figure is 4294967295' sheet 4294967295 2 0,1,1,1
-case_is 2 '' 'where: degraded speed G: the figure is 6' sheet 5 6 0,1,1,1
+case_is 2 '' 'where: normal speed N: the figure is 4294967295' sheet 4294967295 2 0 0,1,1,1
+case_is 2 '' 'where: degraded speed G: the figure is 6' sheet 5 6 17 0,1,1,1
 also_err 'allowed: 1 to 5 work units per slot, at most N'
-case_is 2 '' 'where: degraded speed G: the figure is 2' sheet 1 2 0,1,1,1
+case_is 2 '' 'where: degraded speed G: the figure is 2' sheet 1 2 0 0,1,1,1
 also_err 'allowed: only 1 (work units per slot), at most N'
 also_err 'remedy: correct the speeds'
-case_is 2 '' 'where: after G: there is no row' sheet 5 2
+case_is 2 '' 'where: after K: there is no row' sheet 5 2 0
 also_err 'number 3: the row count is not 1 to 64'
 also_err 'allowed: 1 to 64 rows'
 rows+=("0,1,1,1")
-case_is 2 '' 'where: row 65: there are 65 rows' sheet 5 2 "${rows[@]}"
+case_is 2 '' 'where: row 65: there are 65 rows' sheet 5 2 0 "${rows[@]}"
 also_err 'number 3: the row count is not 1 to 64'
-case_is 2 '' 'where: row 65: there are 130 rows' sheet 0 0 "${rows[@]}" "${rows[@]}"
+case_is 2 '' 'where: row 65: there are 130 rows' sheet 0 0 17 "${rows[@]}" "${rows[@]}"
+case_is 0 '*' '' sheet 4 2 2 0,12,13,LO 1,4,7,HI 6,4,11,HI
+cmp -s out loading.sheet || complain "the sheet written is the sample with loading"
+case_is 0 '       1       5       2      16' '' sheet 5 2 16 0,20,10,1
+for loading in 17 4294967295; do
+    case_is 2 '' "where: loading K: the figure is $loading" sheet 5 2 "$loading" 4,20,4,1
+    also_err 'number 11: K is above 16 slots'
+    also_err 'allowed: 0 to 16 slots'
+    also_err 'remedy: correct K; where a job really takes longer to load, split it or make the slots longer'
+done
 no_figure='is not a whole number written with digits alone, as 1000'
-case_is 3 '' "jasminebrace: row 1, work: 'x0' $no_figure; allowed: 1 to 1,000,000 work units" sheet 5 2 0,x0,10,1
-case_is 3 '' 'jasminebrace: row 2, work: nothing stands here; allowed: 1 to 1,000,000 work units' sheet 5 2 0,20,10,1 0,,10,1
-case_is 3 '' "jasminebrace: row 1, release: '-1' $no_figure; allowed: 0 to 9 slots, below the deadline" sheet 5 2 -1,20,10,1
-case_is 3 '' "jasminebrace: row 1, deadline: '010' has a zero before its other digits; write it without; allowed: 1 to 1,000,000 slots, above the release" sheet 5 2 0,20,010,1
-case_is 3 '' "jasminebrace: row 1, level: 'H' is not a level; allowed: HI or LO (or 1 or 0)" sheet 5 2 0,20,10,H
-case_is 3 '' "jasminebrace: normal speed N: '4294967296' is above 4294967295, the largest figure that can be read; allowed: 1 to 1,000 work units per slot" sheet 4294967296 2 0,1,1,1
+# K left out, as it was before there was one.
+left_out='; K is missing: write N, G and K before the rows, K as 0 where no job loads'
+case_is 3 '' "jasminebrace: loading K: '0,20,10,1' $no_figure; allowed: 0 to 16 slots$left_out" sheet 5 2 0,20,10,1 5,15,10,0
+case_is 3 '' "jasminebrace: loading K: nothing stands here; allowed: 0 to 16 slots$left_out" sheet 5 2
+case_is 3 '' "jasminebrace: loading K: nothing stands here; allowed: 0 to 16 slots$left_out" sheet 5 2 ' ' 0,20,10,1
+case_is 3 '' "jasminebrace: loading K: '1.5' $no_figure; allowed: 0 to 16 slots" sheet 5 2 1.5 0,20,10,1
+case_is 3 '' "jasminebrace: loading K: '02' has a zero before its other digits; write it without; allowed: 0 to 16 slots" sheet 5 2 02 0,20,10,1
+case_is 3 '' "jasminebrace: row 1, work: 'x0' $no_figure; allowed: 1 to 1,000,000 work units" sheet 5 2 0 0,x0,10,1
+case_is 3 '' 'jasminebrace: row 2, work: nothing stands here; allowed: 1 to 1,000,000 work units' sheet 5 2 0 0,20,10,1 0,,10,1
+case_is 3 '' "jasminebrace: row 1, release: '-1' $no_figure; allowed: 0 to 9 slots, below the deadline" sheet 5 2 0 -1,20,10,1
+case_is 3 '' "jasminebrace: row 1, deadline: '010' has a zero before its other digits; write it without; allowed: 1 to 1,000,000 slots, above the release" sheet 5 2 0 0,20,010,1
+case_is 3 '' "jasminebrace: row 1, level: 'H' is not a level; allowed: HI or LO (or 1 or 0)" sheet 5 2 0 0,20,10,H
+case_is 3 '' "jasminebrace: normal speed N: '4294967296' is above 4294967295, the largest figure that can be read; allowed: 1 to 1,000 work units per slot" sheet 4294967296 2 0 0,1,1,1
 case_is 3 '' 'jasminebrace: degraded speed G: nothing stands here; allowed: 1 to 5 work units per slot, at most N' sheet 5 ''
 case_is 3 '' "jasminebrace: degraded speed G: '0x2' $no_figure; allowed: 1 to 5 work units per slot, at most N" sheet 5 0x2
 # A first word that is no number may be meant as a rows file, which is given alone.
@@ -362,17 +508,17 @@ alone="$no_figure; allowed: 1 to 1,000 work units per slot; a rows file is given
 case_is 3 '' "jasminebrace: normal speed N: 'p1.csv' $alone" sheet p1.csv p1-saved.csv
 case_is 3 '' "jasminebrace: normal speed N: 'p1.csv' $alone" sheet p1.csv 5 2 0,20,10,1
 case_is 3 '' "jasminebrace: normal speed N: '-' $alone" sheet - p1.csv
-case_is 3 '' "jasminebrace: normal speed N: '05' has a zero before its other digits; write it without; allowed: 1 to 1,000 work units per slot" sheet 05 2 0,20,10,1
+case_is 3 '' "jasminebrace: normal speed N: '05' has a zero before its other digits; write it without; allowed: 1 to 1,000 work units per slot" sheet 05 2 0 0,20,10,1
 case_is 3 '' 'jasminebrace: normal speed N: nothing stands here; allowed: 1 to 1,000 work units per slot' sheet '' p1.csv
-case_is 3 '' "jasminebrace: a row is release,work,deadline,level with three commas between: '0,20,10'" sheet 5 2 0,20,10
-case_is 3 '' "jasminebrace: a row is release,work,deadline,level with three commas between: '0,20,10,1,'" sheet 5 2 0,20,10,1,
-case_is 3 '' "jasminebrace: a row is release,work,deadline,level with three commas between: ''" sheet 5 2 ''
+case_is 3 '' "jasminebrace: a row is release,work,deadline,level with three commas between: '0,20,10'" sheet 5 2 0 0,20,10
+case_is 3 '' "jasminebrace: a row is release,work,deadline,level with three commas between: '0,20,10,1,'" sheet 5 2 0 0,20,10,1,
+case_is 3 '' "jasminebrace: a row is release,work,deadline,level with three commas between: ''" sheet 5 2 0 ''
 
 # ---- rows files ----
-speed_headings='normal speed N (work units per slot),degraded speed G (work units per slot),,'
+table_headings='normal speed N (work units per slot),degraded speed G (work units per slot),loading K (slots),'
 row_headings='release (slots),work (work units),deadline (slots),level (HI or LO)'
-# A rows file with the speeds of P1 and these rows.
-rows_file() { lines "$speed_headings" 5,2,, "$row_headings" "$@"; }
+# A rows file with the speeds and the loading of P1 and these rows.
+rows_file() { lines "$table_headings" 5,2,0, "$row_headings" "$@"; }
 rows_file 0,20,10,HI 5,15,10,LO 5,11,19,HI 0,5,5,LO >expected
 for words in 'rows p1.sheet' 'rows --plain p1.sheet' 'rows - --plain'; do
     case_in=p1.sheet
@@ -383,7 +529,7 @@ done
 case_in=/dev/null
 cmp -s p1.csv expected || complain "samples/p1.csv is not what rows writes of P1"
 # From a sheet to rows and back, and from these rows to a sheet and back, nothing changes.
-for sheet in p1.sheet p2.sheet p3.sheet rows64.sheet million.sheet limits.sheet; do
+for sheet in p1.sheet p2.sheet p3.sheet rows64.sheet loading.sheet million.sheet slow.sheet limits.sheet; do
     case_is 0 '*' '' rows "$sheet"
     cp out there.csv
     case_is 0 '*' '' sheet there.csv
@@ -430,7 +576,7 @@ tr '[:upper:]' '[:lower:]' <p1.csv | same_sheet 'lower case'
 sed 's/HI$/1/; s/LO$/0/' p1.csv | same_sheet 'levels as figures'
 sed 's/$/,,,,/' p1.csv | same_sheet 'empty cells at the end'
 sed 's/$/," ",""/' p1.csv | same_sheet 'empty quoted cells at the end'
-sed '1,2s/,,$//' p1.csv | same_sheet 'speeds without empty cells'
+sed '1,2s/,$//' p1.csv | same_sheet 'N, G and K without an empty cell'
 { cat p1.csv && printf '\n\n , ,\t,\r\n\r""\n,,,,,,,,\n"\t"\n \t '; } | same_sheet 'empty lines at the end'
 { cat p1.csv && awk 'BEGIN { for (line = 8; line <= 1048576; line++) printf ",,,\r\n" }'; } | same_sheet '1,048,576 lines, as a spreadsheet program saves empty rows'
 # The longest file that is looked at, and one byte more.
@@ -492,9 +638,9 @@ done
 rows_file 0,20,10,01 | untaken ", line 4, column 4 (level): '01' has a zero before its other digits; write it without; $levels"
 rows_file 0,20,10 | untaken ", line 4, column 4 (level): nothing stands here; $levels"
 rows_file 0,20,10,HI 7 | untaken ", line 5, column 2 (work, in work units): nothing stands here; $most_work"
-lines "$speed_headings" 5.5,2,, "$row_headings" 0,20,10,HI | untaken ", line 2, column 1 (normal speed N, in work units per slot): '5.5' $no_figure; allowed: 1 to 1,000 work units per slot"
+lines "$table_headings" 5.5,2,0, "$row_headings" 0,20,10,HI | untaken ", line 2, column 1 (normal speed N, in work units per slot): '5.5' $no_figure; allowed: 1 to 1,000 work units per slot"
 while IFS='|' read -r normal allowed; do
-    lines "$speed_headings" "$normal" "$row_headings" 0,20,10,HI |
+    lines "$table_headings" "$normal" "$row_headings" 0,20,10,HI |
         untaken ", line 2, column 2 (degraded speed G, in work units per slot): nothing stands here; allowed: $allowed, at most N"
 done <<'SPEEDS'
 5|1 to 5 work units per slot
@@ -503,8 +649,21 @@ done <<'SPEEDS'
 0|1 to 1,000 work units per slot
 1001|1 to 1,000 work units per slot
 SPEEDS
+at_most_loading='allowed: 0 to 16 slots'
+lines "$table_headings" 5,2 "$row_headings" 0,20,10,HI | untaken ", line 2, column 3 (loading K, in slots): nothing stands here; $at_most_loading"
+lines "$table_headings" 5,2,x, "$row_headings" 0,20,10,HI | untaken ", line 2, column 3 (loading K, in slots): 'x' $no_figure; $at_most_loading"
+lines "$table_headings" 5,2,0x1, "$row_headings" 0,20,10,HI | untaken ", line 2, column 3 (loading K, in slots): '0x1' $no_figure; $at_most_loading"
+lines "$table_headings" 5,2,00, "$row_headings" 0,20,10,HI |
+    untaken ", line 2, column 3 (loading K, in slots): '00' has a zero before its other digits; write it without; $at_most_loading"
+# A rows file from before K, and how it is brought up.
+no_loading="nothing stands where the heading 'loading K (slots)' belongs; a rows file from before K has no such column: write this heading here and 0 (slots, no loading) in line 2, column 3"
+before() { sed '1s/loading K (slots)//; 2s/,0,/,,/' "$@"; }
+before p1.csv | untaken ", line 1, column 3: $no_loading"
+before p1.csv | sed '1,2s/,,$//' | untaken ", line 1, column 3: $no_loading"
+sed 's/"loading K (slots)"//; 2s/,0,/,,/' p1-saved.csv | untaken ", line 1, column 3: $no_loading"
+before p1.csv | sed '1s/,,$/,loading K (slots),/; 2s/,,$/,0,/' | same_sheet 'from before K, brought up'
 # Cells after the last column; a figure with a comma in it moves others there.
-two='stands here; the speeds use 2 of the 4 columns, and nothing is allowed after column 2'
+three='stands here; N, G and K use 3 of the 4 columns, and nothing is allowed after column 3'
 four='stands here; a rows file has 4 columns, and nothing is allowed after column 4'
 many='delete the cell that is one too many; if a figure was written with a comma, as 1,000, write 1000'
 for row in 0,1,000,10,HI 1,000,20,10,HI 0,20,1,000,HI 0,1,500,10,HI ,1,000,10,HI; do
@@ -512,48 +671,53 @@ for row in 0,1,000,10,HI 1,000,20,10,HI 0,20,1,000,HI 0,1,500,10,HI ,1,000,10,HI
 done
 rows_file 0,1,000,000,10,HI | untaken ", line 4, column 5: '10' $four: $many"
 rows_file 0,20,10,HI 5,15,10,LO,,,a,b | untaken ", line 5, column 7: 'a' $four: $many"
-lines "$speed_headings" 5,2,3 | untaken ", line 2, column 3: '3' $two: $many"
-lines "$speed_headings" 1,000,2,, | untaken ", line 2, column 3: '2' $two: $many"
-lines "$speed_headings" '5,2,,measured in May' | untaken ", line 2, column 4: 'measured in May' $two: $many"
-lines "$speed_headings" 5,2,,,x | untaken ", line 2, column 5: 'x' $four: $many"
-lines "${speed_headings}n" 5,2 | untaken ", line 1, column 4: 'n' $two: delete this cell"
-lines "$speed_headings,notes" 5,2 | untaken ", line 1, column 5: 'notes' $four: delete this column"
+lines "$table_headings" 5,2,3,4 | untaken ", line 2, column 4: '4' $three: $many"
+lines "$table_headings" 1,000,2,0, | untaken ", line 2, column 4: '0' $three: $many"
+lines "$table_headings" '5,2,0,measured in May' | untaken ", line 2, column 4: 'measured in May' $three: $many"
+lines "$table_headings" '5,2,,measured in May' | untaken ", line 2, column 4: 'measured in May' $three: $many"
+lines "$table_headings" 5,2,0,,x | untaken ", line 2, column 5: 'x' $four: $many"
+lines "${table_headings}n" 5,2,0 | untaken ", line 1, column 4: 'n' $three: delete this cell"
+lines "$table_headings,notes" 5,2,0 | untaken ", line 1, column 5: 'notes' $four: delete this column"
 sed 's/$/,note/' p1.csv | untaken ", line 1, column 5: 'note' $four: delete this column"
-lines "$speed_headings" 5,2 "$row_headings,comment" | untaken ", line 3, column 5: 'comment' $four: delete this column"
+lines "$table_headings" 5,2,0 "$row_headings,comment" | untaken ", line 3, column 5: 'comment' $four: delete this column"
 # Row numbers and names of jobs beside the rows alone.
 rows_file 1,0,20,10,HI | untaken ", line 4, column 5: 'HI' $four: $many"
 rows_file pen,0,20,10,HI | untaken ", line 4, column 1 (release, in slots): 'pen' $no_figure; allowed: 0 to 19 slots, below the deadline"
 rows_file 0,20,10,HI,pen | untaken ", line 4, column 5: 'pen' $four: $many"
 # Headings: other columns, moved ones, other units, none.
-no_speeds="stands where the heading 'normal speed N (work units per slot)' belongs"
+no_normal="stands where the heading 'normal speed N (work units per slot)' belongs"
 moved() { echo "; that heading stands in column $1: move its column here, or delete what stands before it"; }
-sed 's/^/,/' p1.csv | untaken ", line 1, column 1: nothing $no_speeds$(moved 2)"
-sed 's/^/job,/' p1.csv | untaken ", line 1, column 1: 'job' $no_speeds$(moved 2)"
-sed 's/^/,,,,,/' p1.csv | untaken ", line 1, column 1: nothing $no_speeds$(moved 6)"
-sed 's/\(.*\),\(.*\)/\2,\1/' p1.csv | untaken ", line 1, column 1: nothing $no_speeds$(moved 2)"
+sed 's/^/,/' p1.csv | untaken ", line 1, column 1: nothing $no_normal$(moved 2)"
+sed 's/^/job,/' p1.csv | untaken ", line 1, column 1: 'job' $no_normal$(moved 2)"
+sed 's/^/,,,,,/' p1.csv | untaken ", line 1, column 1: nothing $no_normal$(moved 6)"
+sed 's/\(.*\),\(.*\)/\2,\1/' p1.csv | untaken ", line 1, column 1: nothing $no_normal$(moved 2)"
 sed '3,$s/^/job,/' p1.csv | untaken ", line 3, column 1: 'job' stands where the heading 'release (slots)' belongs$(moved 2)"
-lines "$speed_headings" 5,2 'release (slots),deadline (slots),work (work units),level (HI or LO)' 0,10,20,HI |
+lines "$table_headings" 5,2,0 'release (slots),deadline (slots),work (work units),level (HI or LO)' 0,10,20,HI |
     untaken ", line 3, column 2: 'deadline (slots)' stands where the heading 'work (work units)' belongs$(moved 3)"
-lines "$speed_headings" 5,2 'level (HI or LO),release (slots),work (work units),deadline (slots)' HI,0,20,10 |
+lines "$table_headings" 5,2,0 'level (HI or LO),release (slots),work (work units),deadline (slots)' HI,0,20,10 |
     untaken ", line 3, column 1: 'level (HI or LO)' stands where the heading 'release (slots)' belongs$(moved 2)"
-lines "$speed_headings" 5,2 'release (slots),work (ms),deadline (slots),level (HI or LO)' |
+lines "$table_headings" 5,2,0 'release (slots),work (ms),deadline (slots),level (HI or LO)' |
     untaken ", line 3, column 2: 'work (ms)' stands where the heading 'work (work units)' belongs"
-lines "$speed_headings" 5,2 'release (slots),work (work units),deadline (slots)' |
+lines "$table_headings" 5,2,0 'release (slots),work (work units),deadline (slots)' |
     untaken ", line 3, column 4: nothing stands where the heading 'level (HI or LO)' belongs"
 lines 'normal speed N (work units per slot)' 5,2 | untaken ", line 1, column 2: nothing stands where the heading 'degraded speed G (work units per slot)' belongs"
-lines "$row_headings" 0,20,10,HI | untaken ", line 1, column 1: 'release (slots)' $no_speeds"
-{ echo '# jobs of May' && cat p1.csv; } | untaken ", line 1, column 1: '# jobs of May' $no_speeds"
-lines 'N,G' 5,2 | untaken ", line 1, column 1: 'N' $no_speeds"
-lines 'normal speed N (work units per slot)s,x' | untaken ", line 1, column 1: 'normal speed N (work units per slot)s' $no_speeds"
-lines "$speed_headings" 5,2,, 0,20,10,HI | untaken ", line 3, column 1: '0' stands where the heading 'release (slots)' belongs"
+lines "${table_headings/loading K (slots)/loading K (ms)}" 5,2,0 | untaken ", line 1, column 3: 'loading K (ms)' stands where the heading 'loading K (slots)' belongs"
+lines "${table_headings/loading/,loading}" 5,2,,0 | untaken ", line 1, column 3: nothing stands where the heading 'loading K (slots)' belongs$(moved 4)"
+lines 'normal speed N (work units per slot),loading K (slots),degraded speed G (work units per slot),' 5,0,2 |
+    untaken ", line 1, column 2: 'loading K (slots)' stands where the heading 'degraded speed G (work units per slot)' belongs$(moved 3)"
+lines "$row_headings" 0,20,10,HI | untaken ", line 1, column 1: 'release (slots)' $no_normal"
+{ echo '# jobs of May' && cat p1.csv; } | untaken ", line 1, column 1: '# jobs of May' $no_normal"
+lines 'N,G' 5,2 | untaken ", line 1, column 1: 'N' $no_normal"
+lines 'normal speed N (work units per slot)s,x' | untaken ", line 1, column 1: 'normal speed N (work units per slot)s' $no_normal"
+lines "$table_headings" 5,2,0, 0,20,10,HI | untaken ", line 3, column 1: '0' stands where the heading 'release (slots)' belongs"
 sed 2d p1.csv | untaken ", line 2, column 1 (normal speed N, in work units per slot): 'release (slots)' $no_figure; allowed: 1 to 1,000 work units per slot"
 # Empty lines before others, and files that end too early.
 rows_file 0,20,10,HI ' ,"",' '' 5,15,10,LO | untaken ', line 5: this line is empty, and line 7 is not; delete the empty line'
 { echo && cat p1.csv; } | untaken ', line 1: this line is empty, and line 2 is not; delete the empty line'
 sed 's/$/\n/' p1.csv | untaken ', line 2: this line is empty, and line 3 is not; delete the empty line'
 sed 's/$/\r\r/' p1.csv | untaken ', line 2: this line is empty, and line 3 is not; delete the empty line'
-lines "$speed_headings" | untaken ', line 2: the file ends where the speeds N and G belong, as 5,2 (work units per slot)'
-lines "$speed_headings" 5,2 '' ,, | untaken ", line 3: the file ends where the headings of the rows belong: $row_headings"
+lines "$table_headings" | untaken ', line 2: the file ends where the speeds N and G and the loading K belong, as 5,2,0 (work units per slot; slots)'
+lines "$table_headings" 5,2,0 '' ,, | untaken ", line 3: the file ends where the headings of the rows belong: $row_headings"
 for text in '' '\n' '\r\n,,,\r\n' '\357\273\277' '\357\273\277\n'; do
     # shellcheck disable=SC2059 # escapes are meant
     printf "$text" | untaken ": the file is empty; 'jasminebrace rows SHEET' shows what a rows file looks like"
@@ -569,7 +733,7 @@ rows_file '0,20,10,"' | untaken ", line 4, column 4 (level): $open"
 rows_file '0,"2"0,10,HI' | untaken ', line 4, column 2 (work, in work units): text follows the closing double quote; write a double quote inside a quoted cell twice'
 rows_file '0,20,10,"HI" "LO"' | untaken ', line 4, column 4 (level): text follows the closing double quote; write a double quote inside a quoted cell twice'
 rows_file '0,"2""0",10,HI' | untaken ", line 4, column 2 (work, in work units): '2\"0' $no_figure; $most_work"
-lines "\"$speed_headings" | untaken ", line 1, column 1: $open"
+lines "\"$table_headings" | untaken ", line 1, column 1: $open"
 # Other separators, other kinds of files.
 separated='save the file with commas between the cells'
 tr ',' ';' <p1.csv | untaken ", line 1: the cells are separated by ';'; $separated"
@@ -586,7 +750,7 @@ rows_file 0,20,10,HI | sed '4s/20/2\x000/' | untaken ', line 4, column 2 (work, 
 own="this is a spreadsheet program's own file, or an archive; save it as CSV, with commas between the cells"
 { printf 'PK\003\004' && head -c 2000000 /dev/zero; } | untaken ": $own"
 printf '\320\317\021\340\241\261\032\341' | untaken ": $own"
-for sheet in p1.sheet rows64.sheet two-rows.sheet row-after.sheet count.sheet letter.sheet; do
+for sheet in p1.sheet rows64.sheet loading.sheet two-rows.sheet row-after.sheet count.sheet letter.sheet loading-above.sheet before.sheet before-line.sheet; do
     untaken ": this is a sheet and not a rows file; 'jasminebrace rows SHEET' makes a rows file of it" <"$sheet"
 done
 { cat p1.csv && head -c $((longest + 1 - $(wc -c <p1.csv))) /dev/zero | tr '\0' ' '; } |
@@ -631,7 +795,7 @@ done <<'ROWS'
 0,20,10,2|column 4 (level): the figure is 2|HI or LO (or 1 or 0)
 ROWS
 while IFS='|' read -r speeds place allowed; do
-    lines "$speed_headings" "$speeds" "$row_headings" 9,9,9,9 | refused_rows 4 "line 2, $place" "$allowed"
+    lines "$table_headings" "$speeds,17" "$row_headings" 9,9,9,9 | refused_rows 4 "line 2, $place" "$allowed"
 done <<'SPEEDS'
 0,1|column 1 (normal speed N, in work units per slot): the figure is 0|1 to 1,000 work units per slot
 1001,1|column 1 (normal speed N, in work units per slot): the figure is 1001|1 to 1,000 work units per slot
@@ -641,18 +805,24 @@ done <<'SPEEDS'
 1000,1001|column 2 (degraded speed G, in work units per slot): the figure is 1001|1 to 1,000 work units per slot, at most N
 1,2|column 2 (degraded speed G, in work units per slot): the figure is 2|only 1 (work units per slot), at most N
 SPEEDS
-lines "$speed_headings" 0,0 "$row_headings" | refused_rows 3 'line 4: there is no row' '1 to 64 rows'
-lines "$speed_headings" 5,2 "$row_headings" ,,, '' | refused_rows 3 'line 4: there is no row' '1 to 64 rows'
+for loading in 17 18 4294967295; do
+    lines "$table_headings" "5,2,$loading" "$row_headings" 9,9,9,9 |
+        refused_rows 11 "line 2, column 3 (loading K, in slots): the figure is $loading" '0 to 16 slots'
+done
+lines "$table_headings" 5,2,16 "$row_headings" 0,20,10,HI >loading.csv
+case_is 0 '       1       5       2      16' '' sheet loading.csv
+lines "$table_headings" 0,0,17 "$row_headings" | refused_rows 3 'line 4: there is no row' '1 to 64 rows'
+lines "$table_headings" 5,2,0 "$row_headings" ,,, '' | refused_rows 3 'line 4: there is no row' '1 to 64 rows'
 many=()
 for ((row = 1; row <= 64; row++)); do many+=("$((row - 1)),$row,$((1000000 - row)),$([ $((row % 2)) -eq 0 ] && echo HI || echo LO)"); done
 rows_file "${many[@]}" >many.csv
-case_is 0 '      64       5       2' '' sheet many.csv
+case_is 0 '      64       5       2       0' '' sheet many.csv
 case_is 0 '*' '' rows <("$command" sheet many.csv)
 cmp -s out many.csv || complain "64 rows to a sheet and back"
 rows_file "${many[@]}" 0,20,10,HI | refused_rows 3 'line 68: this is row 65, and there are 65 rows' '1 to 64 rows'
 rows_file "${many[@]}" "${many[@]}" 9,9,9,9 | refused_rows 3 'line 68: this is row 65, and there are 129 rows' '1 to 64 rows'
 rows_file "${many[@]}" "${many[@]}" 9,9,9,x | untaken ", line 132, column 4 (level): 'x' is not a level; $levels"
-lines "$speed_headings" 1000,1000 "$row_headings" 999999,1000000,1000000,LO 0,1,1,HI >limits.csv
+lines "$table_headings" 1000,1000,16 "$row_headings" 999999,1000000,1000000,LO 0,1,1,HI >limits.csv
 case_is 0 '  999999 1000000 1000000       0' '' sheet limits.csv
 
 # A rows file where a sheet belongs: the refusal is that of other bytes, and a line beside it says what to do.
@@ -681,9 +851,9 @@ quoted p1.csv | sed 's/"/" /g' | hinted 1
 tr '[:lower:]' '[:upper:]' <p1.csv | hinted 1
 tr '[:upper:]' '[:lower:]' <p1.csv | tr ',' ';' | hinted 1
 sed 's/^/  /' p1.csv | hinted 3
-lines "$speed_headings" | hinted 1
+lines "$table_headings" | hinted 1
 # No other refusal has the hint: not that of a sheet, of other text, or of the beginning of a heading alone.
-printf '%s' "${speed_headings:0:35}" >heading.csv
+printf '%s' "${table_headings:0:35}" >heading.csv
 for file in letter.sheet mark.sheet empty.sheet heading.csv; do
     case_is 2 '*' '' explain "$file"
     ! grep -q '^hint: ' out || complain "explain $file: a hint"
@@ -696,7 +866,7 @@ case_in=p1.sheet
 case_is 0 'place 1: row 1 (HI), slack 0 slots' '' plan -
 case_is 0 'yes: the order is correct' '' judge - 1 2 3 4
 case_in=/dev/null
-case_is 2 '' 'length: the sheet has 0 bytes; a first line alone takes 25' plan -
+case_is 2 '' 'length: the sheet has 0 bytes; a first line alone takes 33' plan -
 case_in=/dev/zero
 case_is 2 '' 'where: first line, row count n, byte 1 (line 1, byte 1 of it): byte 0 where a space or a digit belongs' plan -
 case_in=/dev/null
@@ -734,7 +904,7 @@ done
 case_is 3 '' 'jasminebrace: judge takes at least 2 arguments; 1 given' judge p1.sheet
 case_is 3 '' 'jasminebrace: run takes at least 2 arguments; 1 given' run p1.sheet
 case_is 3 '' 'jasminebrace: sheet takes at least 1 argument; 0 given' sheet
-also_err 'usage: jasminebrace sheet {ROWS.csv | N G RELEASE,WORK,DEADLINE,LEVEL..}'
+also_err 'usage: jasminebrace sheet {ROWS.csv | N G K RELEASE,WORK,DEADLINE,LEVEL..}'
 case_is 3 '' 'jasminebrace: finishes takes at least 1 argument; 0 given' finishes
 case_is 3 '' 'jasminebrace: report takes at least 1 argument; 0 given' report
 also_err 'usage: jasminebrace report SHEET [ROW..]'
@@ -763,7 +933,7 @@ if [ "$(id -u)" -ne 0 ]; then
 fi
 for words in 'plan p1.sheet' 'plan --plain p1.sheet' 'judge p1.sheet 1 2 3 4' 'finishes p1.sheet' 'report p1.sheet' \
     'report --plain rows64.sheet' 'run p1.sheet 5' 'run p1.sheet 2000000x5' 'explain p1.sheet' 'explain p3.sheet' \
-    'sheet 5 2 0,20,10,1' 'sheet p1.csv' 'rows p1.sheet' '--help' '--version'; do
+    'sheet 5 2 0 0,20,10,1' 'sheet p1.csv' 'rows p1.sheet' '--help' '--version'; do
     cases=$((cases + 1))
     for full in /dev/full closed; do
         status=0
@@ -794,7 +964,7 @@ done
 "$command" explain --help | sed -n 's/^number \([0-9]*\): /\1|/p; s/^remedy: //p' | paste -d '|' - - >numbers
 sed -n 's/^| \([1-9][0-9]*\) | \(.*\) | \(.*\) |$/\1|\2|\3/p' "$root/README.md" >readme.numbers
 cases=$((cases + 1))
-[ "$(wc -l <numbers)" -eq "$(sed -n 's/^    JB_NO_ROOM = \([0-9]*\) .*/\1/p' "$root/c/jasminebrace.h")" ] || complain "explain --help has not every number"
+[ "$(wc -l <numbers)" -eq "$(sed -n 's/^    JB_LAST_NUMBER = \([0-9]*\) .*/\1/p' "$root/c/jasminebrace.h")" ] || complain "explain --help has not every number"
 cmp -s numbers readme.numbers || { diff numbers readme.numbers >out || true; complain "README's table of refusals is not the header's"; }
 
 echo "command: $cases cases, $wrong not as they should be"

@@ -52,10 +52,13 @@ same_text() {
     [ "$ours" -le 1 ] || { echo "example $sheet $*: not usable"; return 1; }
 }
 printf '' >"$built/empty.sheet"
-printf '       1       5       2\n       0      20      10       x\n' >"$built/malformed.sheet"
-printf '       1       2       3\n       0      20      10       1\n' >"$built/speeds.sheet"
-printf '       1       5       2\n       4      20       4       1\n' >"$built/row.sheet"
-printf '      65       5       2\n' >"$built/count.sheet"
+printf '       1       5       2       0\n       0      20      10       x\n' >"$built/malformed.sheet"
+printf '       1       2       3       0\n       0      20      10       1\n' >"$built/speeds.sheet"
+printf '       1       5       2      17\n       4      20       4       1\n' >"$built/loading-above.sheet"
+printf '       1       5       2      16\n       4      20       4       1\n' >"$built/row.sheet"
+printf '       1       5       2      16\n       0      20      26       1\n' >"$built/loading-most.sheet"
+printf '       1       5       2\n       0      20      26       1\n' >"$built/before-loading.sheet"
+printf '      65       5       2       0\n' >"$built/count.sheet"
 cat samples/rows64.sheet samples/p1.sheet >"$built/long.sheet"
 for sheet in samples/*.sheet "$built"/*.sheet; do
     same_text "$sheet"
@@ -80,7 +83,7 @@ sed 's/^#define JB_VERSION .*/#define JB_VERSION 99u/' c/jasminebrace.h >"$built
 gcc -std=c11 "${warned[@]}" -O2 -o "$built/other/command" "$built/other/command.c" "$archive"
 status=0
 "$built/other/command" plan samples/p1.sheet >"$built/out" 2>"$built/err" || status=$?
-if [ "$status" -ne 3 ] || [ -s "$built/out" ] || ! grep -q 'interface 1 and this program was compiled for 99$' "$built/err"; then
+if [ "$status" -ne 3 ] || [ -s "$built/out" ] || ! grep -q 'interface 2 and this program was compiled for 99$' "$built/err"; then
     echo "another interface is not noticed: status $status"
     exit 1
 fi

@@ -34,11 +34,13 @@ NOT_USABLE = 3  # exit status
 Row = namedtuple("Row", "release work deadline high")
 # How a row closed: at which slot (0 while it is open), and "done", "late", "dropped" or "open".
 Outcome = namedtuple("Outcome", "closing how")
-# Slots from first up to but without after, and the row that runs in them (0: none) or what each supplies in work units.
-Stretch = namedtuple("Stretch", "first after value")
-# A run: speeds in work units per slot, rows by number, order, worst finish and slack by row in slots, outcome by row,
+# Slots from first up to but without after, and what each supplies in work units.
+Supplied = namedtuple("Supplied", "first after supply")
+# Slots from first up to but without after, the row that runs in them (0: none), and how many of them, its first ones, are loading slots.
+Ran = namedtuple("Ran", "first after row loading")
+# A run: speeds in work units per slot, K in slots, rows by number, order, worst finish and slack by row in slots, outcome by row,
 # stretches of rows and of supplies, slots worked.
-Run = namedtuple("Run", "normal degraded rows order finish slack outcome ran supplied slots")
+Run = namedtuple("Run", "normal degraded loading rows order finish slack outcome ran supplied slots")
 
 
 class Stopped(Exception):
@@ -75,15 +77,15 @@ class Command:
         return [fields(line) for line in done.stdout.decode("ascii").splitlines()[1:]]
 
     def table(self):
-        """N, G and the rows of a sheet that the command has accepted."""
+        """N, G, K and the rows of a sheet that the command has accepted."""
         text = self.bytes
         if self.sheet != "-":
             with open(self.sheet, "rb") as file:
                 text = file.read()
         first, *rows = text.decode("ascii").splitlines()
-        _, normal, degraded = fields(first)
+        _, normal, degraded, loading = fields(first)
         rows = {number: Row(a, c, d, level == 1) for number, (a, c, d, level) in enumerate(map(fields, rows), 1)}
-        return normal, degraded, rows
+        return normal, degraded, loading, rows
 
     def planned(self):
         """The planned order, with commas between."""
@@ -92,8 +94,8 @@ class Command:
     def stretches(self, order, supplies):
         """The stretches of rows in a run, and how each row closed."""
         ran, outcome = [], {row: Outcome(0, "open") for row in places(order)}
-        for first, count, row, how in self.ask("run", "--order", order, "--stretches", *supplies):
-            ran.append(Stretch(first, first + count, row))
+        for first, count, row, how, loading in self.ask("run", "--order", order, "--stretches", *supplies):
+            ran.append(Ran(first, first + count, row, loading))
             if how:
                 outcome[row] = Outcome(first + count, CLOSED[how])
         return ran, outcome
@@ -117,7 +119,7 @@ def supplied_by(words):
     found, clock = [], 0
     for word in words:
         count, supply = word.split("x") if "x" in word else ("1", word)
-        found.append(Stretch(clock, clock + int(count), int(supply)))
+        found.append(Supplied(clock, clock + int(count), int(supply)))
         clock += int(count)
     return merged(found)
 
@@ -139,7 +141,7 @@ def steady_run(command, order, supply, slots):
     if all(row.closing for row in outcome.values()):
         slots = max(row.closing for row in outcome.values())
         ran = [stretch for stretch in ran if stretch.first < slots]
-    return ran, outcome, [Stretch(0, slots, supply)]
+    return ran, outcome, [Supplied(0, slots, supply)]
 
 
 def run_of(given):
@@ -149,7 +151,7 @@ def run_of(given):
     finishes = command.ask("finishes", order)
     finish = {row: worst for row, worst, _, _, _ in finishes}
     slack = {row: before - after for row, _, _, before, after in finishes}
-    normal, degraded, rows = command.table()
+    normal, degraded, loading, rows = command.table()
     if given.row and given.row not in rows:
         raise Stopped(NOT_USABLE, f"the sheet has no row {given.row}; its rows are 1 to {len(rows)}")
     if given.supplies:
@@ -160,14 +162,16 @@ def run_of(given):
         title = f"Worst run of row {given.row}" if given.row else "The run at normal speed"
         title += f": every slot supplies exactly {name} = {many(speed, 'work unit')}"
         ran, outcome, supplied = steady_run(command, order, speed, max(finish.values()))
-    return Run(normal, degraded, rows, places(order), finish, slack, outcome, ran, supplied, supplied[-1].after), title
+    return Run(normal, degraded, loading, rows, places(order), finish, slack, outcome, ran, supplied, supplied[-1].after), title
 
 
 def lines_of(run, asked, given):
     """What stands under the title."""
     kind = "given" if given.order else "planned"
     shown = " ".join(map(str, run.order[:24])) + (" \u2026" if len(run.order) > 24 else "")
-    lines = [f"Order ({kind}), highest place first: {shown}; N = {figure(run.normal)}, G = {figure(run.degraded)} work units per slot."]
+    loading = f", K = {many(run.loading, 'slot')}" if run.loading else ""
+    speeds = f"N = {figure(run.normal)}, G = {figure(run.degraded)} work units per slot"
+    lines = [f"Order ({kind}), highest place first: {shown}; {speeds}{loading}."]
     if given.supplies:
         words = " ".join(given.supplies)
         lines.append("Supplies given, in work units for a slot: " + (words if len(words) <= 88 else words[:85] + " \u2026") + ".")
@@ -255,11 +259,11 @@ def axis_end(run):
 
 
 def highest(run):
-    return max(stretch.value for stretch in run.supplied)
+    return max(stretch.supply for stretch in run.supplied)
 
 
 def lowest(run):
-    return min(stretch.value for stretch in run.supplied)
+    return min(stretch.supply for stretch in run.supplied)
 
 
 # ---- the drawing ----
@@ -404,9 +408,21 @@ class Picture:
                 self.line(x - reach, y + reach, x + reach, y - reach, style)
 
     def bar_rect(self, x1, x2, y, kind):
-        fill, edge = {"HI": (HIGH, HIGH), "LO": ("url(#low)", LOW_LINES), "idle": ("url(#idle)", SOFT)}[kind]
+        fill, edge = FILLS[kind]
         style = f'fill="{fill}" stroke="{edge}" stroke-width="0.8"'
         self.rect(x1, y - self.bar / 2, max(x2 - x1, 0.8), self.bar, style)
+
+    def stretch_bars(self, stretch, y, kind):
+        """The slots of a row that runs: its loading slots first, if there are any, then those that bring work."""
+        first, working, after = stretch.first, stretch.first + stretch.loading, stretch.after
+        if first < working:
+            self.bar_rect(self.x(first), self.x(working), y, kind + " loading")
+        if working < after:
+            self.bar_rect(self.x(working), self.x(after), y, kind)
+
+    def loading_mark(self, x, y):
+        self.bar_rect(x, x + 12, y, "HI loading")
+        self.bar_rect(x + 12, x + 24, y, "LO loading")
 
     # Parts of the picture, from top to bottom.
 
@@ -515,7 +531,7 @@ class Picture:
             window = PAPER if number == self.asked else WINDOW
             self.rect(self.x(row.release), y - self.bar / 2 - 3, self.x(end) - self.x(row.release), self.bar + 6, f'fill="{window}"')
         for stretch in stretches:
-            self.bar_rect(self.x(stretch.first), self.x(stretch.after), y, level(row))
+            self.stretch_bars(stretch, y, level(row))
             self.slot_edges(stretch, y)
         if row.release <= self.slots:
             self.release_mark(self.x(row.release), y)
@@ -553,6 +569,8 @@ class Picture:
             (lambda x, y: self.closing_mark(x + 12, y, "late"), "late: done after its deadline"),
             (lambda x, y: self.closing_mark(x + 12, y, "dropped"), "dropped: LO, its slots used up without being done"),
         ]
+        if self.run.loading:
+            entries.insert(2, (self.loading_mark, "loading: a row runs, and the slot brings no work"))
         if self.beyond:
             entries.append((lambda x, y: self.beyond_mark(x + 9, y), "the deadline is beyond the axis"))
         if self.asked:
@@ -572,7 +590,7 @@ class Picture:
         run = self.run
         by_row = {row: [] for row in [0, *run.order]}
         for stretch in run.ran:
-            by_row[stretch.value].append(stretch)
+            by_row[stretch.row].append(stretch)
         self.text(MARGIN, 30, self.title, style=' font-weight="bold" font-size="16"')
         for index, line in enumerate(self.lines):
             self.text(MARGIN, 52 + 18 * index, line, colour=SOFT)
@@ -605,6 +623,7 @@ class Picture:
             f'<rect width="6" height="6" fill="{LOW}"/><line x1="0" y1="0" x2="0" y2="6" stroke="{LOW_LINES}" stroke-width="2.4"/></pattern>',
             '<pattern id="idle" width="5" height="5" patternUnits="userSpaceOnUse">'
             f'<rect width="5" height="5" fill="{PAPER}"/><circle cx="2.5" cy="2.5" r="0.9" fill="{SOFT}"/></pattern>',
+            *(loading_patterns() if self.run.loading else []),
             "</defs>",
             f'<rect width="{self.width}" height="{self.height}" fill="{PAPER}"/>',
         ]
@@ -612,6 +631,24 @@ class Picture:
 
 
 BOLD = ' font-weight="bold"'
+
+# How the bar of a stretch is filled, and its edge.
+FILLS = {
+    "HI": (HIGH, HIGH),
+    "LO": ("url(#low)", LOW_LINES),
+    "HI loading": ("url(#high-loading)", HIGH),
+    "LO loading": ("url(#low-loading)", LOW_LINES),
+    "idle": ("url(#idle)", SOFT),
+}
+
+
+def loading_patterns():
+    """Level lines on paper, in the colour of the level."""
+    return [
+        f'<pattern id="{name}-loading" width="4" height="4" patternUnits="userSpaceOnUse">'
+        f'<rect width="4" height="4" fill="{PAPER}"/><line x1="0" y1="2" x2="4" y2="2" stroke="{colour}" stroke-width="1.2"/></pattern>'
+        for name, colour in (("high", HIGH), ("low", LOW_LINES))
+    ]
 
 
 def short(number):
@@ -621,10 +658,10 @@ def short(number):
 
 
 def merged(stretches):
-    """Neighbouring stretches of equal value as one."""
+    """Neighbouring stretches of equal supply as one."""
     found = []
     for stretch in stretches:
-        if found and found[-1].value == stretch.value:
+        if found and found[-1].supply == stretch.supply:
             found[-1] = found[-1]._replace(after=stretch.after)
         else:
             found.append(stretch)
@@ -639,10 +676,16 @@ def slots_told(stretch):
     return f"slot {figure(last)}" if last == stretch.first else f"slots {figure(stretch.first)} to {figure(last)}"
 
 
+def loading_told(stretches):
+    """The loading slots of a row's stretches."""
+    loading = [stretch._replace(after=stretch.first + stretch.loading) for stretch in stretches if stretch.loading]
+    return ", ".join(map(slots_told, loading)) or "no slot"
+
+
 def supplies_told(run):
     if len(run.supplied) > 20:
         return f"The supplies change often, between {figure(lowest(run))} and {many(highest(run), 'work unit')} per slot."
-    return "Supplies: " + "; ".join(f"{slots_told(part)}, {many(part.value, 'work unit')} each" for part in run.supplied) + "."
+    return "Supplies: " + "; ".join(f"{slots_told(part)}, {many(part.supply, 'work unit')} each" for part in run.supplied) + "."
 
 
 def outcome_told(outcome):
@@ -654,9 +697,10 @@ def outcome_told(outcome):
 def sentence(run, place, number, stretches):
     row, outcome = run.rows[number], run.outcome[number]
     ran = ", ".join(slots_told(stretch) for stretch in stretches) or "no slot"
+    loads = f"loads in {loading_told(stretches)}; " if run.loading else ""
     return (
         f"Place {place}: row {number}, {level(row)}, work {many(row.work, 'work unit')}, release {many(row.release, 'slot')}, "
-        f"deadline {many(row.deadline, 'slot')}; runs in {ran}; {outcome_told(outcome)}; "
+        f"deadline {many(row.deadline, 'slot')}; runs in {ran}; {loads}{outcome_told(outcome)}; "
         f"worst finish {many(run.finish[number], 'slot')}, slack {many(run.slack[number], 'slot')}."
     )
 

@@ -27,12 +27,15 @@ for ((row = 0; row < 64; row++)); do
     equal+=("0,15625,1000000,1")
     apart+=("$((15000 * row)),$((9000 + row % 2 * 9000)),1000000,$((row % 2))")
 done
-"$command" sheet 1 1 0,1000000,1000000,1 >one.sheet 2>err
-"$command" sheet 1 1 "${equal[@]}" >equal.sheet 2>err
-"$command" sheet 2 1 "${apart[@]}" >apart.sheet 2>err
+"$command" sheet 1 1 0 0,1000000,1000000,1 >one.sheet 2>err
+"$command" sheet 1 1 0 "${equal[@]}" >equal.sheet 2>err
+"$command" sheet 2 1 0 "${apart[@]}" >apart.sheet 2>err
+"$command" sheet 2 1 16 "${apart[@]}" >loading.sheet 2>err
 order=$(seq -s , 64 -1 1)
 few 1 1000000 run one.sheet --stretches 1000000x1
 few 1 2000000 run one.sheet --stretches 2000000x0
 few 64 1000000 run equal.sheet --stretches 1000000x1
 few 64 1000000 run apart.sheet --stretches --order "$order" 500000x1 500000x2
 few 64 2000000 run apart.sheet --stretches --order "$order" 2000000x0
+few 64 1000000 run loading.sheet --stretches --order "$order" 500000x1 500000x2
+[ "$(grep -c ' (16 loading): ' out)" -eq 64 ] || { echo "NOT AS IT SHOULD BE: not one stretch for each row with its 16 loading slots"; exit 1; }

@@ -41,10 +41,12 @@ static void must(int holds, const char *words, ...) {
 /* ---- the board ---- */
 
 typedef struct {
-    uint32_t real_work; /* work units that the job really takes */
-    uint32_t units;     /* work units counted so far */
-    uint32_t ended_at;  /* tick at whose slot's end the job had ended, 0 before */
-    uint32_t calls;     /* how often board_closed or board_work_over_c was called */
+    uint32_t real_loading; /* slots of its row in which the job really loads, and counts nothing */
+    uint32_t real_work;    /* work units that the job really takes */
+    uint32_t slots;        /* slots that its row has run */
+    uint32_t units;        /* work units counted so far */
+    uint32_t ended_at;     /* tick at whose slot's end the job had ended, 0 before */
+    uint32_t calls;        /* how often board_closed or board_work_over_c was called */
     int done, in_time, over_c;
 } job;
 
@@ -110,7 +112,9 @@ void board_run_until_tick(uint32_t row) {
             it->units = 0;
             board.starts_over = 0;
         }
-        it->units = supply < it->real_work - it->units ? it->units + supply : it->real_work;
+        if (it->slots++ >= it->real_loading) {
+            it->units = supply < it->real_work - it->units ? it->units + supply : it->real_work;
+        }
         if (it->units == it->real_work && it->ended_at == 0) {
             it->ended_at = board.slots;
         }
@@ -153,11 +157,12 @@ static uint32_t below(uint32_t bound) {
     return (uint32_t)((seed >> 33) % bound);
 }
 
-static jb_table empty_table(uint32_t normal, uint32_t degraded) {
+static jb_table empty_table(uint32_t normal, uint32_t degraded, uint32_t loading) {
     jb_table table;
     memset(&table, 0, sizeof table);
     table.normal = normal;
     table.degraded = degraded;
+    table.loading = loading;
     return table;
 }
 
@@ -169,15 +174,16 @@ static void add_row(jb_table *table, uint32_t release, uint32_t work, uint32_t d
     table->n++;
 }
 
-/* A table that has a correct order, and that order. */
+/* A table that has a correct order, with loading or without, and that order. */
 static jb_table planned_table(uint8_t order[JB_ROWS]) {
     for (;;) {
         uint64_t left;
         uint32_t normal = 1 + below(12), rows = 1 + below(below(8) == 0 ? 20 : 6);
-        jb_table table = empty_table(normal, 1 + below(normal));
+        uint32_t loading = below(2) ? 0 : 1 + below(4);
+        jb_table table = empty_table(normal, 1 + below(normal), loading);
         while (table.n < rows) {
             uint32_t release = 3 + below(20);
-            add_row(&table, release, 1 + below(5 * normal), release + 1 + below(8 + 8 * rows), below(2));
+            add_row(&table, release, 1 + below(5 * normal), release + 1 + below(8 + (8 + loading) * rows), below(2));
         }
         uint32_t number = jb_plan_table(&table, order, &left);
         must(number == JB_OK || number == JB_NO_ORDER, "a table within the limits is answered %u", number);
@@ -187,7 +193,10 @@ static jb_table planned_table(uint8_t order[JB_ROWS]) {
     }
 }
 
-/* A board whose slots each supply from least to most work units, and whose jobs take c work units or, where less is set, up to that. */
+/*
+ * A board whose slots each supply from least to most work units, and whose jobs load K slots and take c work units or, where less is set, up
+ * to that.
+ */
 static void new_board(const jb_table *table, uint32_t least, uint32_t most, int less) {
     memset(&board, 0, sizeof board);
     for (size_t slot = 0; slot < COURSE; slot++) {
@@ -195,6 +204,7 @@ static void new_board(const jb_table *table, uint32_t least, uint32_t most, int 
     }
     for (uint32_t row = 1; row <= table->n; row++) {
         board.jobs[row].real_work = less ? 1 + below(table->work[row - 1]) : table->work[row - 1];
+        board.jobs[row].real_loading = less ? below(table->loading + 1) : table->loading;
     }
 }
 
@@ -251,7 +261,7 @@ static void record_of_true_supplies(void) {
     puts("the loop's record is that of the true supplies, byte for byte; every closing is told once");
 }
 
-/* Real jobs of at most c keep their deadlines: all at N, HI at G. */
+/* Real jobs of at most c that load at most K slots keep their deadlines: all at N, HI at G. */
 static void real_deadlines(void) {
     for (int trial = 0; trial < TABLES; trial++) {
         uint8_t order[JB_ROWS];
@@ -268,7 +278,7 @@ static void real_deadlines(void) {
             }
         }
     }
-    puts("real jobs of at most c work units end in time: all with N, HI with G");
+    puts("real jobs of at most c work units and K slots of loading end in time: all with N, HI with G");
 }
 
 /* Slots before the earliest release and after a row's deadline may supply nothing. */
@@ -303,6 +313,7 @@ static void work_over_c(void) {
         uint32_t long_one = 1 + below(table.n);
         new_board(&table, table.normal, 3 * table.normal, 1);
         board.jobs[long_one].real_work = table.work[long_one - 1] + 1 + 3 * table.normal;
+        board.jobs[long_one].real_loading = table.loading;
         must(plot(&table, &run) == JB_OK, "the loop does not end with 0");
         must(board.jobs[long_one].over_c && board.jobs[long_one].ended_at == 0, "work over c is not told");
         for (uint32_t row = 1; row <= table.n; row++) {
@@ -403,7 +414,7 @@ static void deadlines_by_ends(void) {
 static void early_end(void) {
     static const uint8_t order[JB_ROWS] = {1};
     static const uint32_t first = 5;
-    jb_table table = empty_table(5, 2);
+    jb_table table = empty_table(5, 2, 0);
     uint32_t row;
     add_row(&table, 0, 8, 9, JB_HI);
     jb_run lacking = fresh_run(&table, order), work, whole, most, units;
@@ -424,13 +435,13 @@ static void lagging(void) {
     uint8_t order[JB_ROWS];
     uint64_t left;
     uint32_t row;
-    jb_table table = empty_table(5, 2);
+    jb_table table = empty_table(5, 2, 0);
     add_row(&table, 0, 10, 5, JB_LO);
     jb_run run = fresh_run(&table, one); /* the job ends after two slots of 5 work units, reported as 4 */
     must(jb_work_slot(&run, 4, &row) == JB_OK && jb_work_slot(&run, 4, &row) == JB_OK, "two slots");
     must(run.closing[0] == 2 && run.got[0] == 8, "the LO row is not dropped at 2");
 
-    table = empty_table(5, 2);
+    table = empty_table(5, 2, 0);
     add_row(&table, 0, 10, 5, JB_HI); /* ends after two slots of 5 work units, reported as 2 */
     add_row(&table, 0, 5, 4, JB_LO);
     must(jb_plan_table(&table, order, &left) == JB_OK && order[0] == 1 && order[1] == 2, "the order is not 1 2");
@@ -489,10 +500,75 @@ static void too_much(void) {
     puts("too much reported: that row is closed unfinished and never named again, all others keep their deadlines");
 }
 
+/* Loading slots: any figure gives the same record, which counts the slot as used; a preempted row goes on where it was. */
+static void loading_slots(void) {
+    uint32_t loads = 0, preempted = 0;
+    for (int trial = 0; trial < TABLES; trial++) {
+        uint8_t order[JB_ROWS];
+        jb_table table = planned_table(order);
+        jb_run run = fresh_run(&table, order);
+        uint32_t last = 0;
+        for (uint32_t slot = 0; slot < 100; slot++) {
+            jb_run before = run, other = run;
+            uint32_t row, same_row;
+            must(jb_coming_row(&run, &row) == JB_OK, "a sound record is refused");
+            const int loading = jb_is_loading(&run, row);
+            must(jb_work_slot(&run, below(2 * table.normal), &same_row) == JB_OK && same_row == row, "a slot is refused");
+            must(loading == (row != 0 && before.used[row - 1] < table.loading), "row %u is not told to load", row);
+            if (loading) {
+                must(run.used[row - 1] == before.used[row - 1] + 1 && run.got[row - 1] == 0 && run.closing[row - 1] == 0,
+                     "a loading slot is not one that is used and brings nothing");
+                must(jb_work_slot(&other, below(2) ? 0 : UINT32_MAX, &same_row) == JB_OK && same(&other, &run), "the figure counts");
+                preempted += row != last && before.used[row - 1] != 0;
+                loads++;
+            }
+            last = row;
+        }
+    }
+    must(loads > TABLES && preempted > TABLES / 20, "only %u loading slots, %u after the row was preempted", loads, preempted);
+    puts("a loading slot: any figure gives the same record, a slot used and no work; a preempted row loads on, and not again");
+}
+
+/* An end in a loading slot leaves the row open until the first slot after its loading; so does a job given up there. */
+static void ended_while_loading(void) {
+    static const uint8_t order[JB_ROWS] = {1, 2};
+    jb_table table = empty_table(5, 2, 3);
+    add_row(&table, 0, 40, 30, JB_HI);
+    add_row(&table, 0, 5, 30, JB_LO);
+    jb_run run = fresh_run(&table, order);
+    new_board(&table, 5, 5, 0);
+    board.jobs[1].real_loading = 0;
+    board.jobs[1].real_work = 4; /* ends in its row's first slot */
+    board_start();
+    for (uint32_t slot = 0; slot < 3; slot++) {
+        must(one_slot(&run) == JB_OK && board.rows[slot] == 1 && board_ended(1), "slot %u does not go to row 1", slot);
+        must(jb_is_open(&run, 1) && run.got[0] == 0, "an end in a loading slot closes the row");
+    }
+    must(one_slot(&run) == JB_OK && run.closing[0] == 4 && board.jobs[1].done, "the first slot after loading does not close the row");
+    must(one_slot(&run) == JB_OK && board.rows[4] == 2 && jb_is_loading(&run, 2), "the next slot does not go to the row below");
+    board.jobs[2].ended_at = 5; /* given up after one of its three loading slots */
+    must(one_slot(&run) == JB_OK && one_slot(&run) == JB_OK && jb_is_open(&run, 2), "a job given up while it loads is closed at once");
+    must(one_slot(&run) == JB_OK && run.closing[1] == 8 && board.jobs[2].done, "the first slot after loading does not close it");
+    puts("an end, or a job given up, in a loading slot: its row is closed by the first slot after its loading");
+}
+
+/* A job that loads longer than K slots can be late though every slot supplies N. */
+static void loads_longer(void) {
+    jb_table table = empty_table(4, 4, 2);
+    jb_run run;
+    add_row(&table, 0, 8, 4, JB_HI); /* K and two slots of work: no slot to spare */
+    new_board(&table, 4, 4, 0);
+    must(plot(&table, &run) == JB_OK && ended_in_time(&table, 1), "a job that loads K slots is late");
+    new_board(&table, 4, 4, 0);
+    board.jobs[1].real_loading = 3;
+    must(plot(&table, &run) == JB_OK && !ended_in_time(&table, 1) && !board.jobs[1].in_time, "a job that loads a slot longer is in time");
+    puts("a job that loads longer than K slots can be late with N in every slot, and is told so");
+}
+
 /* A given-up job: its row is closed as done by the next slot that goes to it. */
 static void given_up(void) {
     static const uint8_t order[JB_ROWS] = {1, 2};
-    jb_table table = empty_table(5, 2);
+    jb_table table = empty_table(5, 2, 0);
     add_row(&table, 0, 40, 30, JB_HI);
     add_row(&table, 0, 5, 30, JB_LO);
     jb_run run = fresh_run(&table, order);
@@ -523,7 +599,7 @@ static void restored(void) {
         must(jb_work_forward(&again, board.supply + cut, 100 - cut, &worked) == JB_OK && worked == 100 - cut, "the rest");
         must(same(&run, &again), "the supplies worked again give another record");
     }
-    jb_table table = empty_table(5, 2);
+    jb_table table = empty_table(5, 2, 0);
     add_row(&table, 0, 40, 30, JB_HI);
     add_row(&table, 0, 40, 30, JB_HI);
     jb_run none = fresh_run(&table, order); /* two rows that have each used every slot: no run makes this */
@@ -578,7 +654,7 @@ static void list_of_record(const jb_table *table, const uint8_t order[JB_ROWS]) 
     must(length == 51 * table->n + 21, "the list has not 51 bytes for each row and 21 bytes");
     must(late_rows(list, length) == 0, "a planned order is listed with a late row");
     for (row = 1; row <= table->n; row++) {
-        needs += (table->work[row - 1] + table->normal - 1) / table->normal;
+        needs += table->loading + (table->work[row - 1] + table->normal - 1) / table->normal;
     }
     snprintf(sum, sizeof sum, "%10u", needs);
     must(memcmp(list + length - JB_TOTALS_LINE, sum, JB_FIGURE) == 0, "the needs do not add up");
@@ -615,7 +691,7 @@ static void list_of_jobs(void) {
 static void clock_end(void) {
     static const uint8_t order[JB_ROWS] = {2, 1};
     uint32_t row, worked;
-    jb_table table = empty_table(5, 2);
+    jb_table table = empty_table(5, 2, 0);
     add_row(&table, 0, 40, 30, JB_HI);
     add_row(&table, 0, 12, 30, JB_LO);
     jb_run run = fresh_run(&table, order);
@@ -654,7 +730,7 @@ static void started(void) {
 /* A job that starts over and, against the rule, its counter with it: 0 is reported of that slot, and the row stays open until its job has ended. */
 static void fallen_counter(void) {
     static const uint8_t order[JB_ROWS] = {1};
-    jb_table table = empty_table(5, 2);
+    jb_table table = empty_table(5, 2, 0);
     add_row(&table, 0, 40, 30, JB_HI);
     jb_run run = fresh_run(&table, order);
     new_board(&table, 5, 5, 0);
@@ -678,7 +754,7 @@ static void endless(int number) {
 /* A record damaged after a slot, so that no row seems open: the loop ends and answers 9. All rows closed by the last slot of the clock: 0. */
 static void seems_closed(void) {
     static const uint32_t counts[] = {0, 1, 64, 65, 0x80000000u, UINT32_MAX};
-    jb_table table = empty_table(5, 2);
+    jb_table table = empty_table(5, 2, 0);
     jb_run run;
     add_row(&table, 0, 5, 20, JB_HI);
     add_row(&table, 0, 40, 30, JB_HI);
@@ -693,7 +769,7 @@ static void seems_closed(void) {
         alarm(0);
         must(run.table.n == counts[index] && board.slots < 9, "the loop goes on after the damage");
     }
-    table = empty_table(5, 2);
+    table = empty_table(5, 2, 0);
     add_row(&table, 0, 5, 20, JB_HI);
     new_board(&table, 5, 5, 0);
     board.run = &run;
@@ -711,7 +787,7 @@ static void seems_closed(void) {
 /* What the loop answers for tables that cannot be run. */
 static void refusals(void) {
     static const uint8_t other[JB_ROWS] = {1, 1};
-    jb_table table = empty_table(2, 1);
+    jb_table table = empty_table(2, 1, 0);
     jb_run run;
     uint32_t length;
     new_board(&table, 2, 2, 0);
@@ -724,15 +800,20 @@ static void refusals(void) {
     table.normal = 1001;
     must(plot(&table, &run) == JB_SPEEDS, "N 1,001 is not 4");
     table.normal = 2;
+    table.loading = JB_MOST_LOADING + 1;
+    must(plot(&table, &run) == JB_LOADING, "K 17 is not 11");
+    must(jb_fresh_run(&table, other, &run) == JB_LOADING, "K 17 and a row twice are not 11");
+    table.loading = 0;
     table.release[0] = 2;
     must(plot(&table, &run) == JB_ROW_LIMITS, "a release at the deadline is not 5");
     must(board.slots == 0 && !board.started, "a refused table starts the board or runs a slot");
-    puts("tables that cannot be run are answered 3, 4, 5, 6 or 7, and no slot is begun");
+    puts("tables that cannot be run are answered 3, 4, 11, 5, 6 or 7, and no slot is begun");
 }
 
 int main(void) {
     must(jb_fits(), "the header and the archive do not belong together");
-    must(sizeof(jb_table) == 1036 && sizeof(jb_run) == 1872, "table and record have other sizes");
+    must(jb_version() == 2, "the interface is not number 2");
+    must(sizeof(jb_table) == 1040 && sizeof(jb_run) == 1876, "table and record have other sizes");
     record_of_true_supplies();
     real_deadlines();
     window_only();
@@ -743,6 +824,9 @@ int main(void) {
     early_end();
     lagging();
     too_much();
+    loading_slots();
+    ended_while_loading();
+    loads_longer();
     given_up();
     restored();
     sheet_of_record();

@@ -24,6 +24,7 @@ stored_as() { # picture, arguments of draw.py before the output
 stored_as worst-run.svg samples/p1.sheet --row 3
 stored_as warming-run.svg samples/p1.sheet --supplies 6x5 4 3 12x2
 stored_as wrong-order.svg samples/p1.sheet --row 1 --order 4,3,2,1
+stored_as loading-run.svg samples/loading.sheet --row 1
 
 # Other sizes. The shapes of a picture do not grow with its slots.
 looked=0
@@ -33,20 +34,21 @@ looks_right() { # most shapes and words, row asked about (0: none), order, suppl
     draw "$sheet" "$@" "$made/picture.svg"
     # shellcheck disable=SC2086
     "$command" run --plain --stretches --order "$order" "$sheet" $supplies >"$made/stretches"
-    python3 tools/picture_test.py "$made/picture.svg" "$most" "$asked" "$made/stretches" || fail "draw.py $sheet $*"
+    loading=$(head -n 1 "$sheet" | cut -c 25-32)
+    python3 tools/picture_test.py "$made/picture.svg" "$most" "$asked" "$loading" "$made/stretches" || fail "draw.py $sheet $*"
     looked=$((looked + 1))
 }
 planned() { "$command" plan --plain "$1" | awk 'NR > 1 { printf "%s%s", comma, $2; comma = "," }'; }
 
-"$command" sheet 5 2 0,10,5,1 >"$made/one.sheet"
+"$command" sheet 5 2 0 0,10,5,1 >"$made/one.sheet"
 looks_right 150 1 1 5x2 "$made/one.sheet" --row 1
 looks_right 150 0 1 2x5 "$made/one.sheet"
-"$command" sheet 1000 1 999999,1,1000000,1 >"$made/last.sheet"
+"$command" sheet 1000 1 0 999999,1,1000000,1 >"$made/last.sheet"
 looks_right 150 1 1 1000000x1 "$made/last.sheet" --row 1
-"$command" sheet 7 7 0,7,1,0 >"$made/equal.sheet"
+"$command" sheet 7 7 0 0,7,1,0 >"$made/equal.sheet"
 looks_right 150 1 1 1x7 "$made/equal.sheet" --row 1
 
-"$command" sheet 40 25 0,300,40,1 5,200,60,0 10,90,25,1 30,400,90,1 0,80,70,0 60,333,100,1 80,100,2000,0 20,60,110,0 >"$made/eight.sheet"
+"$command" sheet 40 25 0 0,300,40,1 5,200,60,0 10,90,25,1 30,400,90,1 0,80,70,0 60,333,100,1 80,100,2000,0 20,60,110,0 >"$made/eight.sheet"
 eight=$(planned "$made/eight.sheet")
 looks_right 400 6 "$eight" 200x25 "$made/eight.sheet" --row 6
 looks_right 400 8 "$eight" 200x40 "$made/eight.sheet" --row 8
@@ -58,13 +60,59 @@ looks_right 2200 30 "$rows64" 300x12 samples/rows64.sheet --row 30
 looks_right 2200 64 "$rows64" 300x20 samples/rows64.sheet --row 64
 looks_right 2200 0 "$rows64" '5x20 3x12' samples/rows64.sheet --supplies 5x20 3x12
 
-"$command" sheet 10 7 0,1000000,300000,1 200000,500000,400000,1 400000,1000000,700000,1 500000,999999,900000,0 999000,700,1000000,1 0,50,1000,0 \
+"$command" sheet 10 7 0 0,1000000,300000,1 200000,500000,400000,1 400000,1000000,700000,1 500000,999999,900000,0 999000,700,1000000,1 0,50,1000,0 \
     >"$made/long.sheet"
 long=$(planned "$made/long.sheet")
 looks_right 300 5 "$long" 1000000x7 "$made/long.sheet" --row 5
 changing=$(python3 -c 'print(*("400x10 350x7" for _ in range(1300)))')
 # shellcheck disable=SC2086
 looks_right 300 5 "$long" "$changing" "$made/long.sheet" --row 5 --supplies $changing
+
+# Loading: a row preempted while it loads and when it has loaded, rows of all kinds of length, none that runs, 64 rows, a million slots.
+looks_right 250 1 2,3,1 12x4 samples/loading.sheet --row 1
+looks_right 250 3 2,3,1 14x2 samples/loading.sheet --row 3
+looks_right 250 0 1,2,3 '0 3 4x4 9x1' samples/loading.sheet --order 1,2,3 --supplies 0 3 4x4 9x1
+looks_right 250 0 2,3,1 1 samples/loading.sheet --supplies 1
+"$command" sheet 5 2 3 4,10,20,1 >"$made/later.sheet"
+looks_right 180 0 1 3x5 "$made/later.sheet" --supplies 3x5
+looks_right 180 0 1 '3x5 5' "$made/later.sheet" --supplies 3x5 5
+looks_right 180 0 1 '7x5' "$made/later.sheet" --supplies 7x5
+looks_right 180 0 1 '8x5' "$made/later.sheet" --supplies 8x5
+"$command" sheet 40 25 16 0,300,90,1 5,200,160,0 10,90,125,1 30,400,290,1 0,80,270,0 60,333,300,1 80,100,2000,0 20,60,310,0 >"$made/eight.sheet"
+eight=$(planned "$made/eight.sheet")
+looks_right 400 6 "$eight" 400x25 "$made/eight.sheet" --row 6
+looks_right 400 0 8,7,6,5,4,3,2,1 2000000x24 "$made/eight.sheet" --order 8,7,6,5,4,3,2,1 --supplies 2000000x24
+awk '{ printf "%8d%8d%8d%8d\n", $1, $2, NR == 1 ? $3 : $3 + 150, NR == 1 ? 1 : $4 }' samples/rows64.sheet >"$made/rows64.sheet"
+rows64=$(planned "$made/rows64.sheet")
+looks_right 2300 30 "$rows64" 500x12 "$made/rows64.sheet" --row 30
+
+# What is wrong with the bars of a picture is noticed: a loading bar as another, another as loading, a bar in other slots, one too few; and
+# words that name other loading slots.
+spoilt=0
+spoilt_is_noticed() { # what is replaced in the stored picture, once, and by what
+    python3 - docs/loading-run.svg "$made/spoilt.svg" "$1" "$2" <<'PYTHON'
+import re
+import sys
+source, target, old, new = sys.argv[1:]
+with open(source, encoding="utf-8") as file:
+    text, count = re.subn(old, new, file.read(), count=1)
+with open(target, "w", encoding="utf-8") as file:
+    file.write(text)
+sys.exit(0 if count == 1 else f"the picture has no '{old}' to spoil")
+PYTHON
+    ! python3 tools/picture_test.py "$made/spoilt.svg" 250 1 2 "$made/stretches" 2>"$made/said" || fail "'$2' in place of '$1' is not noticed"
+    grep -q "$3" "$made/said" || fail "'$2' in place of '$1' is noticed as $(cat "$made/said")"
+    spoilt=$((spoilt + 1))
+}
+"$command" run --plain --stretches --order 2,3,1 samples/loading.sheet 11x4 >"$made/stretches"
+python3 tools/picture_test.py docs/loading-run.svg 250 1 2 "$made/stretches" || fail "docs/loading-run.svg"
+spoilt_is_noticed 'fill="url\(#low-loading\)"' 'fill="url(#low)"' '^.*: row 1 has a bar'
+spoilt_is_noticed 'fill="url\(#low\)"' 'fill="url(#low-loading)"' '^.*: row 1 has a bar'
+spoilt_is_noticed '<rect x="([0-9]+)([0-9.]*)"([^>]*high-loading)' '<rect x="9\1\2"\3' '^.*: row 2 has a bar'
+spoilt_is_noticed 'width="[0-9.]*"( height="[0-9.]*" fill="url\(#high-loading)' 'width="40"\1' '^.*: row 2 has a bar'
+spoilt_is_noticed '<rect [^>]*high-loading[^>]*/>' '' '^.*: row 2 has 1 bars and not 2'
+spoilt_is_noticed '(<g><title>Place 1: .*)loads in slots 1 to 2' '\1loads in slots 1 to 3' '^.*: row 2 loads in'
+spoilt_is_noticed '<text [^>]*>loading: [^<]*</text>' '' '^.*: with K 2 the legend'
 
 # A sheet from standard input or a pipe is the same sheet.
 draw - --row 3 "$made/input.svg" <samples/p1.sheet
@@ -85,9 +133,13 @@ refuses() { # status, what is in the words, arguments of draw.py before the outp
     refused=$((refused + 1))
 }
 said_by() { "$command" "$@" 2>&1 >"$made/out" || true; }
-printf '       1       2       3\n       0      20      10       1\n' >"$made/speeds.sheet"
+printf '       1       2       3       0\n       0      20      10       1\n' >"$made/speeds.sheet"
+printf '       1       2       1      17\n       0      20      10       1\n' >"$made/loading.sheet"
+printf '       1       2       1\n       0      20      10       1\n' >"$made/before.sheet"
 refuses 1 "$(said_by plan --plain samples/p3.sheet)" samples/p3.sheet --row 1
 refuses 2 "$(said_by plan --plain "$made/speeds.sheet")" "$made/speeds.sheet" --row 1
+refuses 2 "$(said_by plan --plain "$made/loading.sheet")" "$made/loading.sheet" --row 1
+refuses 2 "$(said_by plan --plain "$made/before.sheet")" "$made/before.sheet" --row 1
 refuses 2 "$(said_by finishes --plain samples/p1.sheet 1,1,2,3)" samples/p1.sheet --order 1,1,2,3
 refuses 2 "number 8" samples/p1.sheet --supplies 2000001x1
 refuses 3 "$(said_by plan --plain "$made/missing.sheet")" "$made/missing.sheet"
@@ -112,4 +164,4 @@ got=0
 python3 "$made/alone/draw.py" samples/p1.sheet --row 3 "$made/alone.svg" 2>"$made/said" || got=$?
 [ "$got" -eq 3 ] && [ ! -e "$made/alone.svg" ] || fail "it draws without the command"
 
-echo "picture: $stored as stored, $looked sizes looked at, $refused refusals passed on"
+echo "picture: $stored as stored, $looked sizes looked at, $spoilt spoilt pictures noticed, $refused refusals passed on"

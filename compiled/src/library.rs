@@ -86,12 +86,19 @@ pub fn judge(table: &Table, order: &Order) -> Verdict {
 }
 
 /// The judge over a list of rows, any number of them.
-pub fn judge_rows(normal: u32, degraded: u32, rows: &[Row], order: &Order) -> Verdict {
+pub fn judge_rows(
+    normal: u32,
+    degraded: u32,
+    loading: u32,
+    rows: &[Row],
+    order: &Order,
+) -> Verdict {
     let words = |row: &Row| [row.release, row.work, row.deadline, row.level];
     let lent: Vec<RowWords> = rows.iter().map(words).collect();
     let before = lent.clone();
+    let (rows, count) = (lent.as_ptr(), lent.len());
     // SAFETY: as in `read`.
-    let packed = unsafe { raw::jb_judge_rows(lent.as_ptr(), lent.len(), normal, degraded, order) };
+    let packed = unsafe { raw::jb_judge_rows(rows, count, normal, degraded, loading, order) };
     assert_eq!(lent, before, "the rows are only lent");
     let slack = (packed >> 16) as u32 as i32;
     Verdict {

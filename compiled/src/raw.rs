@@ -5,8 +5,11 @@ use model::order::Order;
 use model::record::Record;
 use model::table::{Table, ROWS};
 
-/// Words in a table: n, N, G and four columns.
-pub const TABLE_WORDS: usize = 3 + 4 * ROWS;
+/// Words in a table before its columns: n, N, G and K.
+const FIGURES: usize = 4;
+
+/// Words in a table: n, N, G, K and four columns.
+pub const TABLE_WORDS: usize = FIGURES + 4 * ROWS;
 
 /// Words in the state of a run: the clock and three columns.
 pub const STATE_WORDS: usize = 1 + 3 * ROWS;
@@ -39,6 +42,7 @@ extern "C" {
         count: usize,
         normal: u32,
         degraded: u32,
+        loading: u32,
         order: *const Order,
     ) -> u64;
     pub fn jb_finishes(
@@ -88,22 +92,25 @@ extern "C" {
 /// The words of a table.
 pub fn table_words(table: &Table) -> TableWords {
     let mut words = [0; TABLE_WORDS];
-    words[..3].copy_from_slice(&[table.n, table.normal, table.degraded]);
+    let figures = [table.n, table.normal, table.degraded, table.loading];
+    words[..FIGURES].copy_from_slice(&figures);
     let columns = [&table.release, &table.work, &table.deadline, &table.level];
-    put_columns(&mut words[3..], &columns);
+    put_columns(&mut words[FIGURES..], &columns);
     words
 }
 
 /// The table that these words hold.
 pub fn table_of(words: &TableWords) -> Table {
+    let columns = &words[FIGURES..];
     Table {
         n: words[0],
         normal: words[1],
         degraded: words[2],
-        release: column(&words[3..], 0),
-        work: column(&words[3..], 1),
-        deadline: column(&words[3..], 2),
-        level: column(&words[3..], 3),
+        loading: words[3],
+        release: column(columns, 0),
+        work: column(columns, 1),
+        deadline: column(columns, 2),
+        level: column(columns, 3),
     }
 }
 

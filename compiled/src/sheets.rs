@@ -6,32 +6,42 @@ use model::plain;
 use model::random::{table_of_rows_in, Random, Ranges};
 use model::table::{Row, Table, HI, LO, ROWS};
 
-/// Rows that pass at their first trial: LO rows of one slot, each with time
-/// enough for all.
+/// `easy_loading` without loading.
 pub fn easy(n: u32) -> Table {
+    easy_loading(n, 0)
+}
+
+/// Rows that pass at their first trial: LO rows of one slot after their loading
+/// time (slots), each with time enough for all.
+pub fn easy_loading(n: u32, loading: u32) -> Table {
     let row = |index| Row {
         release: 0,
         work: 5,
-        deadline: n + index,
+        deadline: (n + index) * (loading + 1),
         level: LO,
     };
     let rows: Vec<Row> = (0..n).map(row).collect();
-    Table::of(5, 2, &rows)
+    Table::of(5, 2, loading, &rows)
 }
 
-/// Rows of which few pass (n is a multiple of 4). In each group three LO rows
-/// just fit if their HI row stands below them, and the groups follow each other
-/// in time. The HI row of the first group has the latest deadline, so the first
-/// group is placed first, after the LO rows of all others have been tried again
-/// at every place.
+/// `hard_loading` without loading.
 pub fn hard(n: u32) -> Table {
+    hard_loading(n, 0)
+}
+
+/// Rows of which few pass (n is a multiple of 4). In each group three LO rows of
+/// one slot after their loading time (slots) just fit if their HI row stands below
+/// them, and the groups follow each other in time. The HI row of the first group
+/// has the latest deadline, so the first group is placed first, after the LO rows
+/// of all others have been tried again at every place.
+pub fn hard_loading(n: u32, loading: u32) -> Table {
     let mut rows = Vec::new();
     for group in 0..n / 4 {
-        let release = 8 * group;
+        let release = 8 * group * (loading + 1);
         let low = |place| Row {
             release,
             work: 5,
-            deadline: release + place,
+            deadline: release + place * (loading + 1),
             level: LO,
         };
         rows.extend([low(1), low(2), low(3)]);
@@ -42,7 +52,7 @@ pub fn hard(n: u32) -> Table {
             level: HI,
         });
     }
-    Table::of(5, 2, &rows)
+    Table::of(5, 2, loading, &rows)
 }
 
 /// A table of n rows whose deadlines are those of a random order's worst
@@ -73,7 +83,8 @@ pub fn random_order(random: &mut Random, n: u32) -> Order {
 }
 
 /// Sixty-four rows of the largest work at speed 1, all released at `release`;
-/// the k-th place finishes at release + k × 1,000,000 slots.
+/// the k-th place finishes at release + k × 1,000,000 slots, or with a loading
+/// time K at release + k × (K + 1,000,000) slots.
 pub fn largest(release: u32) -> Table {
     let row = Row {
         release,
@@ -81,7 +92,7 @@ pub fn largest(release: u32) -> Table {
         deadline: 1_000_000,
         level: HI,
     };
-    Table::of(1, 1, &[row; ROWS])
+    Table::of(1, 1, 0, &[row; ROWS])
 }
 
 /// Sixty-four LO rows that all have time until the last deadline, every other
@@ -94,5 +105,5 @@ pub fn longest_windows() -> Table {
         level: LO,
     };
     let rows: Vec<Row> = (0..ROWS as u32).map(row).collect();
-    Table::of(7, 3, &rows)
+    Table::of(7, 3, 0, &rows)
 }

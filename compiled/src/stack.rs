@@ -3,7 +3,7 @@
 //! how much of the pattern is left. Linux with POSIX threads.
 
 use crate::raw::{self, StateWords, TableWords};
-use crate::sheets::{easy, hard, largest, longest_windows};
+use crate::sheets::{easy, easy_loading, hard, largest, longest_windows};
 use model::order::{order_of, Order};
 use model::record::Record;
 use model::report::LONGEST_REPORT;
@@ -115,7 +115,8 @@ struct Inputs {
     sheet: Vec<u8>,
     table: TableWords,
     rows: Vec<raw::RowWords>,
-    speeds: [u32; 2],
+    /// N and G in work units per slot, K in slots.
+    figures: [u32; 3],
     order: Order,
     state: StateWords,
 }
@@ -132,7 +133,7 @@ impl Inputs {
             sheet: sheet_of(table),
             table: raw::table_words(table),
             rows: table.rows().iter().map(words).collect(),
-            speeds: [table.normal, table.degraded],
+            figures: [table.normal, table.degraded, table.loading],
             order,
             state: raw::state_words(&reached),
         }
@@ -140,15 +141,15 @@ impl Inputs {
 }
 
 /// Most bytes of stack that each export took, without what the caller lends:
-/// the most over easy, hard and large tables of 64 rows, one row, and tables
-/// and orders that are refused.
+/// the most over easy, hard and large tables of 64 rows, some of which load, one
+/// row, and tables and orders that are refused.
 pub fn peaks() -> Vec<(&'static str, usize)> {
     let mut refused = hard(64);
     refused.level[63] = 2;
     let tables = [
         hard(64),
-        easy(64),
-        largest(999_999),
+        easy_loading(64, 16),
+        largest(999_999).with_loading(16),
         longest_windows(),
         easy(1),
         refused,
@@ -199,9 +200,9 @@ const CALLS: [(&str, Call); 14] = [
         })
     }),
     ("jb_judge_rows", |on| {
-        let [normal, degraded] = on.speeds;
+        let [normal, degraded, loading] = on.figures;
         let (rows, count) = (on.rows.as_ptr(), on.rows.len());
-        black_box(unsafe { raw::jb_judge_rows(rows, count, normal, degraded, &on.order) });
+        black_box(unsafe { raw::jb_judge_rows(rows, count, normal, degraded, loading, &on.order) });
     }),
     ("jb_finishes", |on| {
         with_results(|out| unsafe {
@@ -228,8 +229,9 @@ const CALLS: [(&str, Call); 14] = [
     ("jb_slot", |on| {
         with_results(|out| unsafe {
             out.state = on.state;
+            let [_, degraded, _] = on.figures;
             let row = &mut out.words[0];
-            raw::jb_slot(&on.table, &on.order, &mut out.state, on.speeds[1], row);
+            raw::jb_slot(&on.table, &on.order, &mut out.state, degraded, row);
         })
     }),
     ("jb_forward", |on| {

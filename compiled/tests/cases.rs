@@ -1,13 +1,16 @@
 //! The cases that must hold on the compiled library, starred and also run
-//! (section 13 of the rules).
+//! (section 13 of the rules). In the starred ones no job loads; after them come
+//! cases in which jobs do.
 
-use compiled::library;
-use model::cases::{no_order, ordered, p1, p3, row, table};
+use compiled::{library, raw};
+use model::cases::{
+    at_loading, at_loading_planned, loading_runs, no_order, ordered, p1, p3, row, table,
+};
 use model::judge::Verdict;
 use model::order::{order_of, NO_ORDER};
 use model::plan::Plan;
 use model::sheet::{sheet_of, write_sheet};
-use model::table::Table;
+use model::table::{Table, MOST_LOADING};
 
 fn refused(number: u32) -> Plan {
     Plan {
@@ -60,14 +63,72 @@ fn p7_and_p8_are_run() {
     assert_eq!(normal.got[..2], [2, 4]);
 }
 
+/// Slot by slot and in one call; a preempted job goes on loading, or does not load
+/// again (rules 1.9, 1.10, 2.14).
+#[test]
+fn runs_that_load() {
+    for case in loading_runs() {
+        let what = case.what;
+        let (number, mut record) = library::fresh(&case.table, &case.order);
+        assert_eq!(number, 0, "{what}");
+        let whole = library::forward(&record, &case.supplies);
+        for (&supply, &row) in case.supplies.iter().zip(&case.rows) {
+            let coming = library::coming(&record);
+            let slot = library::one_slot(&record, supply);
+            assert_eq!((slot.number, slot.row), (0, row), "{what}");
+            assert_eq!(coming, (0, row), "{what}");
+            record = slot.record;
+        }
+        let entries = |index: usize| [record.got[index], record.used[index], record.closing[index]];
+        let ends: Vec<[u32; 3]> = (0..case.table.n as usize).map(entries).collect();
+        assert_eq!(ends, case.ends, "{what}");
+        assert_eq!(whole.record, record, "{what}");
+    }
+}
+
+#[test]
+fn an_order_with_1_slot_of_loading_and_none_with_2() {
+    for (loading, answer) in (0..).zip(at_loading_planned()) {
+        assert_eq!(library::plan(&at_loading(loading)), answer, "K {loading}");
+    }
+    for loading in 2..=MOST_LOADING {
+        let answer = library::plan(&at_loading(loading));
+        assert_eq!(answer, no_order(0b11), "K {loading}");
+    }
+    let verdict = library::judge(&at_loading(2), &order_of(&[1, 2]));
+    assert_eq!((verdict.row, verdict.slack), (2, -1));
+}
+
+/// 16 slots are the most; the table is the one word that differs (rule 10.11).
+#[test]
+fn loading_of_16_and_of_17_slots() {
+    let (most, over) = (p1().with_loading(16), p1().with_loading(17));
+    assert_eq!(library::read(&sheet_of(&most)), (0, most));
+    assert_eq!(library::read(&sheet_of(&over)), (11, Table::ZERO));
+    assert_eq!(library::program(&sheet_of(&over)), b"      11       0\n");
+    assert_eq!(library::plan(&over), refused(11));
+    assert_eq!(raw::table_words(&most)[..5], [4, 5, 2, 16, 0]);
+    let rows = most.rows();
+    let order = order_of(&[1, 2, 3, 4]);
+    let judged = |loading| library::judge_rows(5, 2, loading, &rows, &order);
+    assert_eq!((judged(16).number, judged(16).slack), (0, -70));
+    assert_eq!((judged(17).number, judged(17).slack), (11, 0));
+}
+
+#[test]
+fn the_interface_has_number_2() {
+    // SAFETY: the call takes nothing.
+    assert_eq!(unsafe { raw::jb_version() }, 2);
+}
+
 #[test]
 fn sixty_four_and_sixty_five_rows() {
     let rows = |count: u32| vec![row([0, 1, count, 0]); count as usize];
-    let full = Table::of(1, 1, &rows(64));
+    let full = Table::of(1, 1, 0, &rows(64));
     let falling: Vec<u8> = (1..=64).rev().collect();
     assert_eq!(library::plan(&full), ordered(&falling));
     assert_eq!(library::read(&sheet_of(&full)), (0, full));
-    let over = write_sheet(65, 1, 1, &rows(65));
+    let over = write_sheet(65, 1, 1, 0, &rows(65));
     assert_eq!(library::read(&over), (3, Table::ZERO));
     assert_eq!(library::program(&over), b"       3       0\n");
     let counted_over = Table { n: 65, ..full };

@@ -16,9 +16,10 @@ use model::random::Random;
 use model::report::LONGEST_REPORT;
 use model::run::{kept_deadline, State};
 use model::sheet::{
-    read_field, read_sheet, sheet_of, write_line, write_sheet, FIRST_LINE, ROW_LINE,
+    read_field, read_sheet, sheet_of, write_field, write_line, write_sheet, FIELD, FIRST_LINE,
+    ROW_LINE,
 };
-use model::table::{check_table, Row, Table, HI, LATEST_DEADLINE, ROWS};
+use model::table::{check_table, Row, Table, HI, LATEST_DEADLINE, MOST_LOADING, ROWS};
 use std::io::Write;
 use std::process::{Command, Stdio};
 
@@ -91,11 +92,41 @@ fn damaged(random: &mut Random, mut sheet: Vec<u8>) -> Vec<u8> {
     sheet
 }
 
-fn sheets(random: &mut Random) -> [Vec<u8>; 3] {
+/// Where the field of K stands in a sheet, from 0 on: after those of n, N and G.
+const LOADING: std::ops::Range<usize> = 3 * FIELD..4 * FIELD;
+
+/// The sheet with this figure as K, in slots.
+fn with_loading(mut sheet: Vec<u8>, loading: u32) -> Vec<u8> {
+    sheet[LOADING].copy_from_slice(&write_field(loading));
+    sheet
+}
+
+/// The sheet as it would have been written before there was K.
+fn before_loading(mut sheet: Vec<u8>) -> Vec<u8> {
+    sheet.drain(LOADING);
+    sheet
+}
+
+/// A loading time past its limit, in slots.
+fn long_loading(random: &mut Random) -> u32 {
+    random.one_of(&[MOST_LOADING + 1, 18, 100, 99_999_999])
+}
+
+/// A sheet that is accepted, and others that are refused: by a check on tables,
+/// for something damaged, for K, and for K's field, which it lacks.
+fn sheets(random: &mut Random) -> [Vec<u8>; 5] {
     let table = small_table(random);
     let sheet = sheet_of(&table);
     let other = damaged(random, sheet.clone());
-    [refused_sheet(random, &table), other, sheet]
+    let refused = refused_sheet(random, &table);
+    let loading = long_loading(random);
+    [
+        with_loading(sheet.clone(), loading),
+        before_loading(sheet.clone()),
+        refused,
+        other,
+        sheet,
+    ]
 }
 
 fn sample_sheets() -> Vec<Vec<u8>> {
@@ -106,7 +137,7 @@ fn sample_sheets() -> Vec<Vec<u8>> {
         .filter(|path| path.extension().is_some_and(|end| end == "sheet"))
         .map(|path| std::fs::read(path).expect("a sample"))
         .collect();
-    assert!(sheets.len() >= 4, "the samples");
+    assert!(sheets.len() >= 5, "the samples");
     sheets.extend([sheet_of(&easy(64)), sheet_of(&hard(64))]);
     sheets
 }
@@ -116,7 +147,7 @@ fn plan_is_what_the_program_writes() {
     let mut random = Random::seeded(701);
     let mut tally = Tally::new("command plan");
     let mut compare = |sheet: &[u8], expected: Vec<u8>| {
-        let number = u32::from(expected[7] - b'0');
+        let number = figure(&expected[..8]);
         let answer = command(&["plan", "--plain", "-"], sheet);
         assert_eq!(answer, (expected, status_of(number)), "{sheet:?}");
         tally.saw(number);
@@ -131,7 +162,7 @@ fn plan_is_what_the_program_writes() {
         let sheet = sheet_of(&large_table(&mut random));
         compare(&sheet, plain::program(&sheet));
     }
-    tally.assert_common(&[0, 1, 2, 3, 4, 5, 7], 40);
+    tally.assert_common(&[0, 1, 2, 3, 4, 5, 7, 11], 40);
 }
 
 /// What a refusal is in plain form, and the status.
@@ -299,19 +330,25 @@ fn reports_of_refused_sheets() {
             tally.saw(if status == 1 { 7 } else { number });
         }
     }
-    tally.assert_common(&[0, 1, 2, 3, 4, 5, 7], 20);
+    tally.assert_common(&[0, 1, 2, 3, 4, 5, 7, 11], 20);
 }
 
-/// A line for each slot of the run on paper: slot, row, got, work, how it closed.
-fn run_on_paper(table: &Table, order: &Order, supplies: &[u32]) -> Vec<[u32; 5]> {
+/// A line for each slot of the run on paper: slot, row, got, work, how it closed,
+/// and 1 if the row loaded in it.
+fn run_on_paper(table: &Table, order: &Order, supplies: &[u32]) -> Vec<[u32; 6]> {
     let mut state = State::FRESH;
     let mut lines = Vec::new();
     for (slot, &supply) in supplies.iter().enumerate() {
+        let used = state.used;
         let (number, row) = one_slot_on_paper(table, order, &mut state, supply);
         assert_eq!(number, 0, "these runs are short");
-        let (got, work) = match row {
-            0 => (0, 0),
-            _ => (state.got[row as usize - 1], table.row(row).work),
+        let (got, work, loads) = match row {
+            0 => (0, 0, false),
+            _ => (
+                state.got[row as usize - 1],
+                table.row(row).work,
+                used[row as usize - 1] < table.loading,
+            ),
         };
         lines.push([
             slot as u32,
@@ -319,6 +356,7 @@ fn run_on_paper(table: &Table, order: &Order, supplies: &[u32]) -> Vec<[u32; 5]>
             got,
             work,
             closing(table, &state, row),
+            u32::from(loads),
         ]);
     }
     lines
@@ -337,16 +375,18 @@ fn closing(table: &Table, state: &State, row: u8) -> u32 {
     }
 }
 
-/// Slots put together while the same row, or none, runs and has not closed.
-fn stretches(slots: &[[u32; 5]]) -> Vec<[u32; 4]> {
-    let mut put_together: Vec<[u32; 4]> = Vec::new();
-    for &[slot, row, _, _, closed] in slots {
+/// Slots put together while the same row, or none, runs and has not closed:
+/// first slot, slots, row, how it closed, loading slots.
+fn stretches(slots: &[[u32; 6]]) -> Vec<[u32; 5]> {
+    let mut put_together: Vec<[u32; 5]> = Vec::new();
+    for &[slot, row, _, _, closed, loads] in slots {
         match put_together.last_mut() {
             Some(last) if last[2] == row && last[3] == 0 => {
                 last[1] += 1;
                 last[3] = closed;
+                last[4] += loads;
             }
-            _ => put_together.push([slot, 1, row, closed]),
+            _ => put_together.push([slot, 1, row, closed, loads]),
         }
     }
     put_together
@@ -382,6 +422,7 @@ fn runs_by_slots_and_by_stretches() {
     let mut random = Random::seeded(703);
     let mut closings = Tally::new("command run, how rows closed");
     let mut lengths = Tally::new("command run, lengths of stretches by powers of two");
+    let mut loadings = Tally::new("command run, stretches with no, some and only loading slots");
     for round in 0..400 {
         let table = if round % 3 == 0 {
             large_table(&mut random)
@@ -410,31 +451,132 @@ fn runs_by_slots_and_by_stretches() {
         let together = stretches(&paper);
         let by_stretches = command(&arguments, &sheet);
         assert_eq!(by_stretches, (lines_of(table.n, &together), 0), "{table:?}");
-        for [_, length, _, closed] in together {
+        for [_, length, _, closed, loading] in together {
             closings.saw(closed);
             lengths.saw(length.ilog2());
+            loadings.saw((loading != 0, loading == length));
         }
     }
     closings.assert_common(&[0, 1, 2, 3], 100);
     lengths.assert_common(&[0, 1, 2, 3, 4, 5, 6, 7, 8, 9, 10], 10);
+    loadings.assert_common(&[(false, false), (true, false), (true, true)], 100);
+}
+
+/// How many of these there are, in words.
+fn slots_of(count: u32) -> String {
+    format!("{count} slot{}", if count == 1 { "" } else { "s" })
+}
+
+/// How a row closed at a clock, in words.
+fn closing_words(table: &Table, row: u32, clock: u32, closed: u32) -> String {
+    match closed {
+        0 => String::new(),
+        2 => format!(", dropped at clock {clock}"),
+        1 => format!(", done at clock {clock}"),
+        _ => {
+            let late = clock - table.row(row as u8).deadline;
+            format!(", done at clock {clock}, late by {}", slots_of(late))
+        }
+    }
+}
+
+/// The words for each slot of a run on paper.
+fn slot_words(table: &Table, slots: &[[u32; 6]], supplies: &[u32]) -> Vec<String> {
+    let mut loaded = [0; ROWS];
+    let words = |(&[slot, row, got, work, closed, loads], supply): (&[u32; 6], &u32)| {
+        if row == 0 {
+            return format!("slot {slot}: idle, supply {supply} work units");
+        }
+        let so_far = &mut loaded[row as usize - 1];
+        *so_far += loads;
+        let loading = match loads {
+            0 => String::new(),
+            _ => format!(", loading slot {so_far} of {}", table.loading),
+        };
+        let closing = closing_words(table, row, slot + 1, closed);
+        format!(
+            "slot {slot}: row {row}{loading}, supply {supply} work units, \
+             got {got} of {work} work units{closing}"
+        )
+    };
+    slots.iter().zip(supplies).map(words).collect()
+}
+
+/// The words for each stretch of a run on paper.
+fn stretch_words(table: &Table, stretches: &[[u32; 5]]) -> Vec<String> {
+    let words = |&[first, length, row, closed, loading]: &[u32; 5]| {
+        let slots = slots_of(length);
+        let loading = match loading {
+            0 => String::new(),
+            _ => format!(" ({loading} loading)"),
+        };
+        match row {
+            0 => format!("from slot {first}, {slots}: idle"),
+            _ => {
+                let closing = closing_words(table, row, first + length, closed);
+                format!("from slot {first}, {slots}{loading}: row {row}{closing}")
+            }
+        }
+    };
+    stretches.iter().map(words).collect()
+}
+
+/// Runs in words name the loading slots, and no others.
+#[test]
+fn runs_in_words() {
+    let mut random = Random::seeded(713);
+    let mut tally = Tally::new("command run in words, loading slots and others");
+    for _ in 0..200 {
+        let table = a_table(&mut random);
+        let order = random_order(&mut random, table.n);
+        let slots = random.between(1, 150);
+        let supplies = supplies(&mut random, slots);
+        let words = supply_words(&mut random, &supplies);
+        let listed = order_words(&order).join(",");
+        let mut arguments = vec!["run", "-", "--order", &listed];
+        arguments.extend(words.iter().map(String::as_str));
+        let paper = run_on_paper(&table, &order, &supplies);
+        let sheet = sheet_of(&table);
+        let said_between = |arguments: &[&str]| -> Vec<String> {
+            let (said, status) = command(arguments, &sheet);
+            assert_eq!(status, 0, "{table:?} {order:?}");
+            let lines: Vec<String> = text(&said).lines().map(str::to_string).collect();
+            // Before come the order, after the rows still open.
+            lines[1..lines.len() - 1].to_vec()
+        };
+        assert_eq!(
+            said_between(&arguments),
+            slot_words(&table, &paper, &supplies)
+        );
+        arguments.push("--stretches");
+        let together = stretches(&paper);
+        assert_eq!(said_between(&arguments), stretch_words(&table, &together));
+        for [_, row, _, _, _, loads] in paper {
+            tally.saw((row != 0, loads));
+        }
+    }
+    tally.assert_common(&[(false, 0), (true, 0), (true, 1)], 1_000);
 }
 
 /// A run to the last clock by stretches is the model's, and one supply more is
 /// refused with 8 after all these slots.
 #[test]
 fn the_last_clock() {
-    let mut table = easy(3);
-    table.level[2] = HI;
     let order = model::order::order_of(&[1, 2, 3]);
     let supplies = vec![0; LAST_CLOCK as usize];
-    let together = stretches(&run_on_paper(&table, &order, &supplies));
-    let expected = lines_of(3, &together);
     let words = ["run", "-", "--plain", "--stretches", "--order", "1,2,3"];
-    for (supply, status) in [("2000000x0", 0), ("2000001x0", 2), ("4294967295x0", 2)] {
-        let mut arguments = words.to_vec();
-        arguments.push(supply);
-        let answer = command(&arguments, &sheet_of(&table));
-        assert_eq!(answer, (expected.clone(), status), "{supply}");
+    for loading in [0, MOST_LOADING] {
+        let mut table = easy(3).with_loading(loading);
+        table.level[2] = HI;
+        let together = stretches(&run_on_paper(&table, &order, &supplies));
+        assert_eq!(together[2][4], loading, "row 3 runs to the end");
+        let expected = lines_of(3, &together);
+        for (supply, status) in [("2000000x0", 0), ("2000001x0", 2), ("4294967295x0", 2)] {
+            let mut arguments = words.to_vec();
+            arguments.push(supply);
+            let answer = command(&arguments, &sheet_of(&table));
+            assert_eq!(answer, (expected.clone(), status), "{supply}");
+        }
     }
 }
 
@@ -484,7 +626,67 @@ fn explanations() {
             tally.saw(number);
         }
     }
-    tally.assert_common(&[0, 1, 2, 3, 4, 5, 7], 50);
+    tally.assert_common(&[0, 1, 2, 3, 4, 5, 7, 11], 50);
+}
+
+/// What is said of a sheet from before K: its place, the field that it lacks, and
+/// that a field of 0 before the first line end brings it up.
+const BEFORE_LOADING: &str = "hint: the field of K (loading, in slots) is missing; \
+    a sheet from before K is brought up by a field '       0' before its first line end: \
+    sed '1s/$/       0/' SHEET";
+
+/// A sheet from before K is refused with 2, and one from before K with this field
+/// is that of the table without loading.
+#[test]
+fn sheets_from_before_loading() {
+    let mut random = Random::seeded(714);
+    for _ in 0..100 {
+        let table = a_table(&mut random).with_loading(0);
+        let before = before_loading(sheet_of(&table));
+        assert_eq!(read_sheet(&before).0, 2);
+        let plain = command(&["explain", "--plain", "-"], &before);
+        assert_eq!(plain, (write_line(&[2, 0, 4, 25, 1]), 2));
+        let (said, status) = command(&["explain", "-"], &before);
+        assert_eq!(
+            (text(&said).lines().last(), status),
+            (Some(BEFORE_LOADING), 2)
+        );
+        let (_, errors, status) = command_with_errors(&["plan", "-"], &before);
+        assert_eq!((errors.lines().last(), status), (Some(BEFORE_LOADING), 2));
+        let mut brought_up = before.clone();
+        let end = before.iter().position(|&byte| byte == b'\n');
+        let end = end.expect("a line end");
+        brought_up.splice(end..end, *b"       0");
+        assert_eq!(brought_up, sheet_of(&table));
+    }
+}
+
+/// That K's field is missing is said of no sheet but one whose first line ends
+/// where the field belongs.
+#[test]
+fn other_sheets_are_not_from_before_loading() {
+    let mut random = Random::seeded(715);
+    let mut tally = Tally::new("command explain, said to be from before K");
+    for _ in 0..300 {
+        let mut tried = sheets(&mut random).to_vec();
+        let before = before_loading(sheet_of(&small_table(&mut random)));
+        tried.push(before[..random.between(20, 40) as usize].to_vec());
+        tried.push(damaged(&mut random, before));
+        for sheet in tried {
+            let (said, _) = command(&["explain", "-"], &sheet);
+            let hinted = text(&said).lines().any(|line| line == BEFORE_LOADING);
+            let fields = sheet.chunks(FIELD).take(3);
+            let three = fields.filter(|field| {
+                let field: Option<&[u8; FIELD]> = (*field).try_into().ok();
+                field.and_then(read_field).is_some()
+            });
+            let expected = three.count() == 3 && sheet.get(LOADING.start) == Some(&b'\n');
+            assert_eq!(hinted, expected, "{}", text_or_bytes(&sheet));
+            tally.saw((hinted, read_sheet(&sheet).0));
+        }
+    }
+    let kinds = [(true, 1), (true, 2), (false, 1), (false, 2), (false, 11)];
+    tally.assert_common(&kinds, 40);
 }
 
 fn text_or_bytes(sheet: &[u8]) -> String {
@@ -537,6 +739,7 @@ fn a_table(random: &mut Random) -> Table {
 struct Written {
     normal: u32,
     degraded: u32,
+    loading: u32,
     rows: Vec<Row>,
 }
 
@@ -545,17 +748,22 @@ impl Written {
         Written {
             normal: table.normal,
             degraded: table.degraded,
+            loading: table.loading,
             rows: table.rows(),
         }
     }
 
-    /// A random table, once in two times changed so that a check refuses it.
+    /// A random table, once in two times changed so that a check refuses it, or
+    /// that several would.
     fn random(random: &mut Random) -> Written {
         let mut table = a_table(random);
         match random.between(0, 7) {
             0 => spoil_table(random, &mut table, 4),
             1..=2 => spoil_table(random, &mut table, 5),
             _ => {}
+        }
+        if random.once_in(6) {
+            table.loading = long_loading(random);
         }
         let mut written = Written::of(&table);
         if random.once_in(8) {
@@ -569,18 +777,20 @@ impl Written {
     /// The number by which the archive refuses the table, or 0.
     fn number(&self) -> u32 {
         match self.rows.len() {
-            1..=ROWS => check_table(&Table::of(self.normal, self.degraded, &self.rows)),
+            1..=ROWS => check_table(&self.table()),
             _ => 3,
         }
+    }
+
+    /// The table of at most 64 rows.
+    fn table(&self) -> Table {
+        Table::of(self.normal, self.degraded, self.loading, &self.rows)
     }
 
     /// The sheet and status that the command has to answer with.
     fn sheet_and_status(&self) -> (Vec<u8>, i32) {
         match self.number() {
-            0 => {
-                let table = Table::of(self.normal, self.degraded, &self.rows);
-                (sheet_of(&table), 0)
-            }
+            0 => (sheet_of(&self.table()), 0),
             _ => (Vec::new(), 2),
         }
     }
@@ -590,13 +800,10 @@ impl Written {
     fn place(&self) -> Place {
         let capped = |figure: u32| figure.min(99_999_999);
         let rows: Vec<Row> = self.rows.iter().map(|row| row.with(capped)).collect();
-        let (n, normal, degraded) = (
-            rows.len() as u32,
-            capped(self.normal),
-            capped(self.degraded),
-        );
-        let place =
-            place_of_fault(&write_sheet(n, normal, degraded, &rows)).expect("it is refused");
+        let n = rows.len() as u32;
+        let [normal, degraded, loading] = [self.normal, self.degraded, self.loading].map(capped);
+        let sheet = write_sheet(n, normal, degraded, loading, &rows);
+        let place = place_of_fault(&sheet).expect("it is refused");
         match (self.number(), place.row) {
             (3, _) => (if n == 0 { 4 } else { 4 + ROWS }, 0),
             (_, 0) => (2, place.field as usize - 1),
@@ -607,11 +814,11 @@ impl Written {
     /// A table of one row with this figure in place of the one that is refused,
     /// beside the figure that limits it; the other figures are right.
     fn with_figure(&self, (line, column): Place, figure: u32) -> Table {
-        let mut speeds = [1, 1];
+        let mut first = [1, 1, 0];
         let mut cells = [0, 1, LATEST_DEADLINE, 0];
         if line == 2 {
-            speeds[0] = self.normal;
-            speeds[column - 1] = figure;
+            first[0] = self.normal;
+            first[column - 1] = figure;
         } else {
             let row = self.rows[line - 4];
             match column {
@@ -628,7 +835,8 @@ impl Written {
             deadline,
             level,
         };
-        Table::of(speeds[0], speeds[1], &[row])
+        let [normal, degraded, loading] = first;
+        Table::of(normal, degraded, loading, &[row])
     }
 
     /// What is said to be allowed in a place is what the check accepts there: the
@@ -676,23 +884,34 @@ fn sheets_of_words() {
             "sheet".to_string(),
             written.normal.to_string(),
             written.degraded.to_string(),
+            written.loading.to_string(),
         ];
         words.extend(written.rows.iter().map(row_word));
         let mut expected = written.sheet_and_status();
-        if random.once_in(6) {
+        let left_out = random.once_in(8);
+        if left_out {
+            // K, as in words from before it: a row, or nothing, stands there.
+            words.remove(3);
+            expected = (Vec::new(), 3);
+        } else if random.once_in(6) {
             let place = random.between(1, words.len() as u32 - 1) as usize;
             let bad = random.one_of(&["x", "-1", "1.5", "+1", "", "01", "1e3", "4294967296"]);
             words[place] = match place {
-                1 | 2 => bad.to_string(),
+                1..=3 => bad.to_string(),
                 _ => spoiled_word(&mut random, &words[place], bad),
             };
             expected = (Vec::new(), 3);
         }
         let words: Vec<&str> = words.iter().map(String::as_str).collect();
-        assert_eq!(command(&words, b""), expected, "{words:?}");
-        tally.saw(expected.1);
+        let (sheet, errors, status) = command_with_errors(&words, b"");
+        assert_eq!((sheet, status), expected, "{words:?}");
+        if left_out {
+            assert!(errors.starts_with("jasminebrace: loading K: "), "{errors}");
+            assert!(errors.contains("; K is missing: "), "{errors}");
+        }
+        tally.saw((status, left_out));
     }
-    tally.assert_common(&[0, 2, 3], 50);
+    tally.assert_common(&[(0, false), (2, false), (3, false), (3, true)], 40);
 }
 
 fn row_word(row: &Row) -> String {
@@ -713,9 +932,10 @@ fn spoiled_word(random: &mut Random, word: &str, bad: &str) -> String {
     figures.join(",")
 }
 
-const SPEED_HEADINGS: [&str; 2] = [
+const TABLE_HEADINGS: [&str; 3] = [
     "normal speed N (work units per slot)",
     "degraded speed G (work units per slot)",
+    "loading K (slots)",
 ];
 const ROW_HEADINGS: [&str; 4] = [
     "release (slots)",
@@ -728,8 +948,10 @@ const ROW_HEADINGS: [&str; 4] = [
 fn cells_of(written: &Written) -> Vec<Vec<String>> {
     let texts = |headings: &[&str]| headings.iter().map(|text| text.to_string()).collect();
     let mut lines: Vec<Vec<String>> = vec![
-        texts(&SPEED_HEADINGS),
-        vec![written.normal.to_string(), written.degraded.to_string()],
+        texts(&TABLE_HEADINGS),
+        [written.normal, written.degraded, written.loading]
+            .map(|figure| figure.to_string())
+            .to_vec(),
         texts(&ROW_HEADINGS),
     ];
     for row in &written.rows {
@@ -750,7 +972,7 @@ fn rows_text(written: &Written) -> Vec<u8> {
     let mut text = String::new();
     for (index, cells) in cells_of(written).iter().enumerate() {
         text += &cells.join(",");
-        text += if index < 2 { ",,\n" } else { "\n" };
+        text += if index < 2 { ",\n" } else { "\n" };
     }
     text.into_bytes()
 }
@@ -760,6 +982,7 @@ fn rows_text(written: &Written) -> Vec<u8> {
 fn rows_and_back() {
     let mut random = Random::seeded(707);
     let mut tally = Tally::new("command rows and sheet, by rows");
+    let mut loadings = Tally::new("command rows and sheet, with loading or without");
     let mut there_and_back = |sheet: Vec<u8>| {
         let (number, table) = read_sheet(&sheet);
         assert_eq!(number, 0);
@@ -767,12 +990,44 @@ fn rows_and_back() {
         assert_eq!(rows, (rows_text(&Written::of(&table)), 0), "{table:?}");
         assert_eq!(command(&["sheet", "-"], &rows.0), (sheet, 0), "{table:?}");
         tally.saw(table.n.ilog2());
+        loadings.saw(table.loading > 0);
     };
     sample_sheets().into_iter().for_each(&mut there_and_back);
     for _ in 0..400 {
         there_and_back(sheet_of(&a_table(&mut random)));
     }
     tally.assert_common(&[0, 1, 2, 3, 4, 5], 10);
+    loadings.assert_common(&[false, true], 100);
+}
+
+/// A rows file from before K is refused at the place of the heading that it
+/// lacks, with what to add; with that added it gives the sheet without loading.
+#[test]
+fn rows_files_from_before_loading() {
+    let mut random = Random::seeded(716);
+    for _ in 0..100 {
+        let table = a_table(&mut random).with_loading(0);
+        let rows = text(&rows_text(&Written::of(&table))).to_string();
+        let before = rows.replacen("loading K (slots),\n", ",\n", 1);
+        let before = before.replacen(",0,\n", ",,\n", 1);
+        let (sheet, errors, status) = command_with_errors(&["sheet", "-"], before.as_bytes());
+        assert_eq!((sheet, status), (Vec::new(), 3));
+        let place = (1, TABLE_HEADINGS.len());
+        assert!(
+            names_place(&errors, "jasminebrace: standard input", place),
+            "{errors}"
+        );
+        assert!(
+            errors.contains("the heading 'loading K (slots)' belongs"),
+            "{errors}"
+        );
+        let added = "write this heading here and 0 (slots, no loading) in line 2, column 3";
+        assert!(errors.contains(added), "{errors}");
+        assert_eq!(
+            command(&["sheet", "-"], rows.as_bytes()),
+            (sheet_of(&table), 0)
+        );
+    }
 }
 
 /// A sheet that is refused has no rows, and the explanation is that of the
@@ -795,7 +1050,7 @@ fn rows_of_refused_sheets() {
             tally.saw(number);
         }
     }
-    tally.assert_common(&[0, 1, 2, 3, 4, 5], 20);
+    tally.assert_common(&[0, 1, 2, 3, 4, 5, 11], 20);
 }
 
 /// A cell as a spreadsheet program or a hand may write it.
@@ -886,7 +1141,7 @@ fn spellings_of_rows() {
         }
         tally.saw(number);
     }
-    tally.assert_common(&[0, 3, 4, 5], 40);
+    tally.assert_common(&[0, 3, 4, 5, 11], 40);
 }
 
 /// A line and a column of a rows file, from 1; 0 for the line, or the file, as a
@@ -1003,6 +1258,7 @@ fn read_rows(text: &[u8]) -> Result<Written, Place> {
     let mut written = Written {
         normal: 0,
         degraded: 0,
+        loading: 0,
         rows: Vec::new(),
     };
     let (mut filled, mut empty) = (0, None);
@@ -1030,8 +1286,8 @@ fn read_rows(text: &[u8]) -> Result<Written, Place> {
 /// fault.
 fn take_line(written: &mut Written, number: usize, cells: &[Vec<u8>]) -> Result<(), usize> {
     match number {
-        1 => take_headings(cells, &SPEED_HEADINGS)?,
-        2 => [written.normal, written.degraded] = take_figures(cells)?,
+        1 => take_headings(cells, &TABLE_HEADINGS)?,
+        2 => [written.normal, written.degraded, written.loading] = take_figures(cells)?,
         3 => take_headings(cells, &ROW_HEADINGS)?,
         _ => {
             let [release, work, deadline, level] = take_figures(cells)?;

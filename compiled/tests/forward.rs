@@ -1,4 +1,5 @@
-//! Forward of the library against the model's, in one call and in parts.
+//! Forward of the library against the model's, in one call and in parts. Every
+//! loading time from 0 to 16 slots comes up.
 
 mod common;
 
@@ -6,9 +7,9 @@ use common::records::{
     any_record, fresh_record, reached_record, sound_record, sound_record_at, unsound_record,
     CLAUSES,
 };
-use common::{supplies, Tally};
+use common::{supplies, Loadings, Tally};
 use compiled::library;
-use compiled::sheets::{easy, hard, random_order};
+use compiled::sheets::{easy, easy_loading, hard, random_order};
 use model::calls::{play_on_paper, Answer, Call, LAST_CLOCK};
 use model::plain;
 use model::random::Random;
@@ -36,6 +37,7 @@ fn short_lists_on_sound_records() {
     let mut random = Random::seeded(501);
     let mut tally = Tally::new("forward, short lists");
     let mut lengths = Tally::new("forward, lengths of the lists");
+    let mut loadings = Loadings::new("forward, short lists, by K");
     for _ in 0..60_000 {
         let record = if random.once_in(2) {
             sound_record(&mut random)
@@ -46,10 +48,31 @@ fn short_lists_on_sound_records() {
         let answer = compare(&record, &supplies(&mut random, count));
         tally.saw(answer.number);
         lengths.saw(count);
+        loadings.saw(answer.number, &record.table);
     }
     tally.assert_common(&[0, 8], 5_000);
     let all: Vec<u32> = (0..=12).collect();
     lengths.assert_common(&all, 2_000);
+    loadings.assert_every(1_000);
+}
+
+/// From a fresh record until all rows are closed, or nearly.
+#[test]
+fn whole_runs() {
+    let mut random = Random::seeded(507);
+    let mut closed = Tally::new("forward, whole runs, all rows closed");
+    let mut loadings = Loadings::new("forward, whole runs, by K");
+    for _ in 0..20_000 {
+        let record = fresh_record(&mut random);
+        let (n, loading) = (record.table.n, record.table.loading);
+        let count = 40 + n * (3 + loading);
+        let answer = compare(&record, &supplies(&mut random, count));
+        loadings.saw(answer.number, &record.table);
+        let closing = &answer.record.closing[..n as usize];
+        closed.saw(closing.iter().all(|&slot| slot != 0));
+    }
+    closed.assert_common(&[true], 10_000);
+    loadings.assert_every(400);
 }
 
 #[test]
@@ -127,9 +150,11 @@ fn splitting() {
 fn lists_of_calls_against_the_run_on_paper() {
     let mut random = Random::seeded(505);
     let mut tally = Tally::new("calls of both kinds");
+    let mut loadings = Loadings::new("calls of both kinds, by K");
     for _ in 0..10_000 {
         let mut record = fresh_record(&mut random);
         let (table, order) = (record.table, record.order);
+        loadings.saw(0, &table);
         let mut calls = Vec::new();
         let mut answers = Vec::new();
         for _ in 0..random.between(1, 12) {
@@ -157,6 +182,7 @@ fn lists_of_calls_against_the_run_on_paper() {
         assert_eq!(record, Record::holding(&table, &order, &state));
     }
     tally.assert_common(&["one slot", "forward"], 20_000);
+    loadings.assert_every(200);
 }
 
 /// From a fresh record to the last clock and over it.
@@ -168,10 +194,11 @@ fn long_lists() {
     slow.work = [1_000_000; 64];
     let runs = [
         (easy(64), 2_000_005),
+        (easy_loading(64, 16), 10_000),
         (hard(64), 100_000),
         (slow, 1_999_999),
-        (slow, 2_000_000),
-        (slow, 2_000_005),
+        (slow.with_loading(16), 2_000_000),
+        (slow.with_loading(7), 2_000_005),
     ];
     for (table, count) in runs {
         let order = random_order(&mut random, 64);

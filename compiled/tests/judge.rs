@@ -1,18 +1,22 @@
 //! The judge and the worst finishes of the library against the model's, and on
-//! large tables against the plain ones.
+//! large tables against the plain ones. Every loading time from 0 to 16 slots
+//! comes up.
 
 mod common;
 
-use common::{any_order, for_each_small_table, large_table, small_table, spoil_table, Tally};
+use common::{
+    any_order, for_each_small_table, large_table, small_table, spoil_table, Loadings, Tally,
+    TABLE_CHECKS,
+};
 use compiled::library;
 use compiled::sheets::{largest, random_order};
 use model::cases::table;
 use model::judge::{judge, judge_table, Verdict};
-use model::order::{check_table_and_order, order_of, Order};
+use model::order::{check_order, check_table_and_order, order_of, Order};
 use model::plain;
 use model::plan::worst_finish;
 use model::random::Random;
-use model::table::{Row, Table, ROWS};
+use model::table::{Row, Table, MOST_LOADING, ROWS};
 
 /// What the judge said, for the tallies.
 #[derive(Debug, PartialEq, Eq, PartialOrd, Ord)]
@@ -80,10 +84,13 @@ fn compare(
 fn all_small_tables() {
     let mut random = Random::seeded(301);
     let mut tally = Tally::new("judge, all tables of the grid");
+    let mut loadings = Loadings::new("judge, all tables of the grid, by K");
     for_each_small_table(|table| {
         let order = any_order(&mut random, table.n, 8);
         compare_with_model(table, &order, &mut tally);
+        loadings.saw(check_order(table.n, &order), table);
     });
+    loadings.assert_every(12_000);
     let common = [Said::Yes, Said::No, Said::Refused(6)];
     tally.assert_common(&common, 20_000);
 }
@@ -92,15 +99,18 @@ fn all_small_tables() {
 fn random_large_tables() {
     let mut random = Random::seeded(302);
     let mut tally = Tally::new("judge, random tables of up to 64 rows");
+    let mut loadings = Loadings::new("judge, random tables of up to 64 rows, by K");
     for _ in 0..50_000 {
         let table = large_table(&mut random);
         let order = any_order(&mut random, table.n, 8);
         compare_with_plain(&table, &order, &mut tally);
+        loadings.saw(check_order(table.n, &order), &table);
         let planned = library::plan(&table);
         if planned.number == 0 {
             compare_with_plain(&table, &planned.order, &mut tally);
         }
     }
+    loadings.assert_every(1_000);
     let common = [Said::Yes, Said::No, Said::Refused(6)];
     tally.assert_common(&common, 5_000);
 }
@@ -109,15 +119,15 @@ fn random_large_tables() {
 fn refused_tables_and_orders() {
     let mut random = Random::seeded(303);
     let mut tally = Tally::new("judge, refusals");
-    for round in 0..40_000 {
+    for round in 0..50_000 {
         let mut table = small_table(&mut random);
         let order = any_order(&mut random, table.n, 2);
-        if round % 4 != 3 {
-            spoil_table(&mut random, &mut table, 3 + round % 4);
+        if let Some(&number) = TABLE_CHECKS.get(round % 5) {
+            spoil_table(&mut random, &mut table, number);
         }
         compare_with_model(&table, &order, &mut tally);
     }
-    let refusals = [3, 4, 5, 6].map(Said::Refused);
+    let refusals = [3, 4, 11, 5, 6].map(Said::Refused);
     tally.assert_common(&refusals, 4_000);
 }
 
@@ -128,7 +138,8 @@ fn ties() {
     let mut random = Random::seeded(304);
     let mut ties = Tally::new("judge, rows that share the least slack");
     let mut tally = Tally::new("judge, ties");
-    for _ in 0..30_000 {
+    let mut loadings = Loadings::new("judge, ties, by K");
+    for _ in 0..50_000 {
         let table = small_table(&mut random);
         let order = random_order(&mut random, table.n);
         compare_with_model(&table, &order, &mut tally);
@@ -140,14 +151,22 @@ fn ties() {
         let sharing: Vec<usize> = (0..table.n as usize).filter(shares).collect();
         assert_eq!(sharing[0] + 1, verdict.row as usize);
         ties.saw(sharing.len());
+        if sharing.len() > 1 {
+            loadings.saw(verdict.number, &table);
+        }
     }
     ties.assert_common(&[1, 2], 2_000);
     ties.assert_common(&[3], 100);
+    loadings.assert_every(10);
     let equal = table(1, 1, &[[0, 1, 3, 0], [0, 1, 2, 1], [0, 1, 1, 0]]);
     let order = model::order::order_of(&[3, 2, 1]);
-    let expected = judge(1, 1, &equal.rows(), &order);
+    let expected = judge(1, 1, 0, &equal.rows(), &order);
     assert_eq!((expected.row, expected.slack), (1, 0));
     compare_with_model(&equal, &order, &mut tally);
+    // With 1 slot of loading the lowest row has the least slack.
+    let expected = judge(1, 1, 1, &equal.rows(), &order);
+    assert_eq!((expected.row, expected.slack), (1, -3));
+    compare_with_model(&equal.with_loading(1), &order, &mut tally);
 }
 
 /// Slacks down to about minus 64 million slots.
@@ -155,21 +174,24 @@ fn ties() {
 fn largest_works() {
     let mut random = Random::seeded(305);
     let mut tally = Tally::new("judge, largest works");
-    for release in [0, 1, 500_000, 999_999] {
-        let table = largest(release);
+    let figures = [(0, 0), (1, 0), (500_000, 9), (999_999, 0), (999_999, 16)];
+    for (release, loading) in figures {
+        let table = largest(release).with_loading(loading);
         let order = random_order(&mut random, 64);
         compare_with_plain(&table, &order, &mut tally);
         let verdict = library::judge(&table, &order);
         let lowest = order[63];
         assert_eq!((verdict.row, verdict.yes), (lowest, false));
-        assert_eq!(verdict.slack, -63_000_000 - i64::from(release));
+        let lowest = release + 64 * (loading + 1_000_000);
+        assert_eq!(verdict.slack, 1_000_000 - i64::from(lowest));
         let (_, finishes) = library::finishes(&table, &order);
         for place in 1..=64u32 {
             let row = order[place as usize - 1];
-            assert_eq!(finishes[row as usize - 1], release + place * 1_000_000);
+            let finish = release + place * (loading + 1_000_000);
+            assert_eq!(finishes[row as usize - 1], finish);
         }
     }
-    tally.assert_common(&[Said::No], 4);
+    tally.assert_common(&[Said::No], 5);
     // The largest slack there is: one slot of work, a million slots of time.
     let idle = table(1, 1, &[[0, 1, 1_000_000, 1]]);
     let order = model::order::order_of(&[1]);
@@ -183,17 +205,26 @@ fn largest_works() {
 fn lists_of_rows() {
     let mut random = Random::seeded(505);
     let mut tally = Tally::new("judge, lists of rows");
-    let mut compare = |normal, degraded, rows: &[Row], order: &Order| {
-        let verdict = judge(normal, degraded, rows, order);
-        let found = library::judge_rows(normal, degraded, rows, order);
-        assert_eq!(found, verdict, "{rows:?} {order:?}");
+    let mut loadings = Loadings::new("judge, lists of rows, by K");
+    let mut compare = |figures: [u32; 3], rows: &[Row], order: &Order| {
+        let [normal, degraded, loading] = figures;
+        let verdict = judge(normal, degraded, loading, rows, order);
+        let found = library::judge_rows(normal, degraded, loading, rows, order);
+        assert_eq!(found, verdict, "{figures:?} {rows:?} {order:?}");
         tally.saw(said(&verdict));
+        verdict.number
     };
-    for _ in 0..20_000 {
-        let table = small_table(&mut random);
+    for round in 0..20_000 {
+        let mut table = small_table(&mut random);
         let order = any_order(&mut random, table.n, 4);
-        compare(table.normal, table.degraded, &table.rows(), &order);
+        if round % 10 == 0 {
+            spoil_table(&mut random, &mut table, 11);
+        }
+        let figures = [table.normal, table.degraded, table.loading];
+        let number = compare(figures, &table.rows(), &order);
+        loadings.saw(number, &table);
     }
+    loadings.assert_every(300);
     let row = |index: u32| Row {
         release: index % 3,
         work: 1 + index % 5,
@@ -203,10 +234,12 @@ fn lists_of_rows() {
     let rows: Vec<Row> = (0..1_000).map(row).collect();
     for n in (0..=66).chain([100, 1_000]) {
         let places: Vec<u8> = (1..=n.min(ROWS) as u8).rev().collect();
-        compare(5, 2, &rows[..n], &order_of(&places));
-        compare(2, 5, &rows[..n], &order_of(&places));
+        let loading = n as u32 % (MOST_LOADING + 1);
+        compare([5, 2, loading], &rows[..n], &order_of(&places));
+        compare([2, 5, 17], &rows[..n], &order_of(&places));
     }
     tally.assert_common(&[Said::Yes, Said::No, Said::Refused(6)], 1_000);
     tally.assert_common(&[Said::Refused(3)], 8);
     tally.assert_common(&[Said::Refused(4)], 60);
+    tally.assert_common(&[Said::Refused(11)], 1_000);
 }

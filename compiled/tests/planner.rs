@@ -1,22 +1,26 @@
 //! The planner of the library against the model's, and on tables for which the
 //! model takes too long against the plain one, which is compared with the model
-//! here as well.
+//! here as well. Every loading time from 0 to 16 slots comes up.
 
 mod common;
 
-use common::{for_each_small_table, large_table, small_table, spoil_table, Tally, MODEL_LARGE};
+use common::{
+    for_each_small_table, large_table, small_table, spoil_table, Loadings, Tally, MODEL_LARGE,
+    TABLE_CHECKS,
+};
 use compiled::library;
-use compiled::sheets::{easy, hard, largest, tight};
+use compiled::sheets::{easy, easy_loading, hard, hard_loading, largest, tight};
 use model::order::NO_ORDER;
 use model::plain;
 use model::plan::{plan, Plan};
 use model::random::Random;
-use model::table::{check_table, Table, LO};
+use model::table::{check_table, Table, LO, MOST_LOADING};
 
-fn compare_all(table: &Table, tally: &mut Tally<u32>) {
+fn compare_all(table: &Table, tally: &mut Tally<u32>) -> u32 {
     let of_model = plan(table);
     assert_eq!(plain::plan(table), of_model, "the plain planner: {table:?}");
     compare(table, &of_model, tally);
+    of_model.number
 }
 
 fn compare(table: &Table, expected: &Plan, tally: &mut Tally<u32>) {
@@ -30,8 +34,13 @@ fn compare(table: &Table, expected: &Plan, tally: &mut Tally<u32>) {
 #[test]
 fn all_small_tables() {
     let mut tally = Tally::new("planner, all tables of the grid");
-    for_each_small_table(|table| compare_all(table, &mut tally));
-    tally.assert_common(&[0, 7], 50_000);
+    let mut loadings = Loadings::new("planner, all tables of the grid, by K");
+    for_each_small_table(|table| {
+        let number = compare_all(table, &mut tally);
+        loadings.saw(number, table);
+    });
+    tally.assert_common(&[0, 7], 100_000);
+    loadings.assert_every(14_000);
 }
 
 #[test]
@@ -39,28 +48,40 @@ fn random_small_tables() {
     let mut random = Random::seeded(201);
     let mut tally = Tally::new("planner, random small tables");
     let mut rows_left = Tally::new("planner, rows left after 7 or 0");
+    let mut by_answer = [
+        Loadings::new("planner, random small tables with an order, by K"),
+        Loadings::new("planner, random small tables without, by K"),
+    ];
     for _ in 0..60_000 {
         let table = small_table(&mut random);
-        compare_all(&table, &mut tally);
+        let number = compare_all(&table, &mut tally);
+        by_answer[usize::from(number == 7)].saw(number, &table);
         rows_left.saw(library::plan(&table).left.count_ones());
     }
     tally.assert_common(&[0, 7], 15_000);
     rows_left.assert_common(&[0, 1, 2, 3, 4], 1_000);
+    for loadings in &by_answer {
+        loadings.assert_every(400);
+    }
 }
 
 #[test]
 fn larger_tables_that_the_model_plans() {
     let mut random = Random::seeded(202);
     let mut tally = Tally::new("planner, up to 64 rows against the model");
+    let mut loadings = Loadings::new("planner, up to 64 rows against the model, by K");
     for round in 0..300 {
         let table = tight(&mut random, 1 + round % 64, MODEL_LARGE);
-        compare_all(&table, &mut tally);
+        let number = compare_all(&table, &mut tally);
+        loadings.saw(number, &table);
     }
     for n in [4, 16, 64] {
-        compare_all(&easy(n), &mut tally);
-        compare_all(&hard(n), &mut tally);
+        for table in [easy(n), hard(n), easy_loading(n, 3), hard_loading(n, 1)] {
+            compare_all(&table, &mut tally);
+        }
     }
     tally.assert_common(&[0, 7], 50);
+    loadings.assert_every(2);
 }
 
 #[test]
@@ -68,25 +89,35 @@ fn random_large_tables() {
     let mut random = Random::seeded(203);
     let mut tally = Tally::new("planner, random tables of up to 64 rows");
     let mut trials = Tally::new("planner, rows tried, by powers of two");
+    let mut by_answer = [
+        Loadings::new("planner, random large tables with an order, by K"),
+        Loadings::new("planner, random large tables without, by K"),
+    ];
     for _ in 0..100_000 {
         let table = large_table(&mut random);
         let (expected, tried) = plain::plan_and_trials(&table);
         compare(&table, &expected, &mut tally);
+        by_answer[usize::from(expected.number == 7)].saw(expected.number, &table);
         trials.saw(tried.ilog2());
     }
     tally.assert_common(&[0, 7], 25_000);
     trials.assert_common(&[3, 4, 5, 6], 1_000);
+    for loadings in &by_answer {
+        loadings.assert_every(700);
+    }
 }
 
 #[test]
 fn hard_and_easy_sheets() {
     let mut tally = Tally::new("planner, hard and easy sheets");
     for n in (4..=64).step_by(4) {
-        for table in [easy(n), hard(n)] {
-            compare(&table, &plain::plan(&table), &mut tally);
+        for loading in 0..=MOST_LOADING {
+            for table in [easy_loading(n, loading), hard_loading(n, loading)] {
+                compare(&table, &plain::plan(&table), &mut tally);
+            }
         }
     }
-    tally.assert_common(&[0], 32);
+    tally.assert_common(&[0], 32 * 17);
     let (_, most) = plain::plan_and_trials(&hard(64));
     assert!(most > 1_000, "the hard sheet takes {most} trials");
 }
@@ -101,7 +132,7 @@ fn refused_tables() {
         } else {
             large_table(&mut random)
         };
-        spoil_table(&mut random, &mut table, 3 + round % 3);
+        spoil_table(&mut random, &mut table, TABLE_CHECKS[round % 4]);
         if random.once_in(4) {
             table.degraded = random.between(0, 1_002);
         }
@@ -109,16 +140,16 @@ fn refused_tables() {
             compare_all(&table, &mut tally);
         }
     }
-    tally.assert_common(&[3, 4, 5], 10_000);
+    tally.assert_common(&[3, 4, 5, 11], 10_000);
 }
 
 /// Sixty-four rows of the largest work at speed 1: the lowest place finishes at
-/// 64,000,000 slots, or later by the release.
+/// 64,000,000 slots, or later by the release and by what all rows load.
 #[test]
 fn largest_works() {
     let mut tally = Tally::new("planner, largest works");
-    for release in [0, 1, 999_999] {
-        let high = largest(release);
+    for (release, loading) in [(0, 0), (1, 0), (999_999, 0), (0, 1), (999_999, 16)] {
+        let high = largest(release).with_loading(loading);
         let mut low = high;
         low.level = [LO; 64];
         for table in [high, low] {
@@ -136,8 +167,14 @@ fn largest_works() {
     (one.n, one.normal, one.degraded) = (1, 1, 1);
     (one.work[0], one.deadline[0]) = (1_000_000, 1_000_000);
     compare_all(&one, &mut tally);
-    one.release[0] = 1;
+    one.loading = 1;
     compare_all(&one, &mut tally);
-    tally.assert_common(&[7], 7);
-    tally.assert_common(&[0], 1);
+    (one.release[0], one.loading) = (1, 0);
+    compare_all(&one, &mut tally);
+    // With 16 slots of loading it is the one with 16 slots less work.
+    (one.release[0], one.loading) = (0, 16);
+    one.work[0] = 999_984;
+    compare_all(&one, &mut tally);
+    tally.assert_common(&[7], 12);
+    tally.assert_common(&[0], 2);
 }

@@ -1,35 +1,41 @@
-//! What the planning program writes, byte for byte.
+//! What the planning program writes, byte for byte, for sheets of every loading
+//! time.
 
 mod common;
 
 use common::sheets::{damaged, long, small_sheets};
-use common::{large_table, Tally};
+use common::{large_table, small_table, Loadings, Tally};
 use compiled::library;
-use compiled::sheets::{easy, hard};
+use compiled::sheets::{easy, easy_loading, hard, hard_loading};
+use model::before::without_loading_field;
 use model::cases::{p1, P1_TEXT};
 use model::plain;
 use model::program::{planning_program, KEPT};
 use model::random::Random;
-use model::sheet::sheet_of;
+use model::sheet::{read_field, sheet_of};
+use model::table::MOST_LOADING;
 use std::io::Write;
 use std::process::{Command, Stdio};
 use std::thread::sleep;
 use std::time::Duration;
 
 /// The number in the first field of a text.
-fn number_of(text: &[u8]) -> u8 {
-    text[7] - b'0'
+fn number_of(text: &[u8]) -> u32 {
+    let field: &[u8; 8] = text[..8].try_into().expect("a field");
+    read_field(field).expect("a number")
 }
 
-fn compare_with_model(input: &[u8], tally: &mut Tally<u8>) {
+fn compare_with_model(input: &[u8], tally: &mut Tally<u32>) -> u32 {
     assert_eq!(plain::program(input), planning_program(input));
-    compare(input, tally);
+    compare(input, tally)
 }
 
-fn compare(input: &[u8], tally: &mut Tally<u8>) {
+fn compare(input: &[u8], tally: &mut Tally<u32>) -> u32 {
     let text = library::program(input);
     assert_eq!(text, plain::program(input), "{input:?}");
-    tally.saw(number_of(&text));
+    let number = number_of(&text);
+    tally.saw(number);
+    number
 }
 
 #[test]
@@ -42,7 +48,25 @@ fn small_sheets_against_the_model() {
             compare_with_model(&input, &mut tally);
         }
     }
-    tally.assert_common(&[0, 1, 2, 3, 4, 5, 7], 500);
+    tally.assert_common(&[0, 1, 2, 3, 4, 5, 7, 11], 500);
+}
+
+/// Sheets as they are, and without the field of K, which is answered 2.
+#[test]
+fn every_loading_time() {
+    let mut random = Random::seeded(604);
+    let mut tally = Tally::new("program, small sheets that are whole");
+    let mut loadings = Loadings::new("program, small sheets that are whole, by K");
+    for _ in 0..8_000 {
+        let table = small_table(&mut random);
+        let sheet = sheet_of(&table);
+        let number = compare_with_model(&sheet, &mut tally);
+        loadings.saw(number, &table);
+        let old = without_loading_field(&sheet);
+        assert_eq!(compare_with_model(&old, &mut tally), 2);
+    }
+    tally.assert_common(&[0, 7], 1_500);
+    loadings.assert_every(150);
 }
 
 /// What the planning program itself writes for this standard input.
@@ -83,11 +107,14 @@ fn the_program_itself_against_the_model() {
         }
     }
     for n in (4..=64).step_by(4) {
-        for sheet in [sheet_of(&easy(n)), sheet_of(&hard(n))] {
+        let loading = n / 4;
+        let loads = [easy_loading(n, loading), hard_loading(n, loading)];
+        for table in [easy(n), hard(n)].iter().chain(&loads) {
+            let sheet = sheet_of(table);
             assert_eq!(plan(&sheet), plain::program(&sheet));
         }
     }
-    tally.assert_common(&[0, 1, 2, 3, 4, 5, 7], 250);
+    tally.assert_common(&[0, 1, 2, 3, 4, 5, 7, 11], 250);
 }
 
 /// A pipe hands over what is there, so that one read may bring only a part.
@@ -95,7 +122,7 @@ fn the_program_itself_against_the_model() {
 fn the_program_itself_on_input_in_pieces() {
     for sheet in [sheet_of(&p1()), sheet_of(&hard(64))] {
         let text = planning_program(&sheet);
-        for cut in [1, 24, 25, 26, 58, sheet.len() - 1] {
+        for cut in [1, 25, 32, 33, 34, 66, sheet.len() - 1] {
             let (first, rest) = sheet.split_at(cut);
             assert_eq!(plan_pieces(&[first, rest]), text, "cut at {cut}");
             assert_eq!(
@@ -120,17 +147,20 @@ fn large_sheets() {
         compare(&long(&mut random, sheet), &mut tally);
     }
     for n in (4..=64).step_by(4) {
-        compare(&sheet_of(&easy(n)), &mut tally);
-        compare(&sheet_of(&hard(n)), &mut tally);
+        for loading in 0..=MOST_LOADING {
+            compare(&sheet_of(&easy_loading(n, loading)), &mut tally);
+            compare(&sheet_of(&hard_loading(n, loading)), &mut tally);
+        }
     }
     tally.assert_common(&[0, 1, 2, 7], 1_000);
 }
 
-/// The longest sheet has 2,137 bytes, and the program itself keeps one byte
+/// The longest sheet has 2,145 bytes, and the program itself keeps one byte
 /// more, whichever that is: by it alone it tells the sheet from a longer input.
 #[test]
 fn the_program_itself_around_the_bytes_that_are_kept() {
     let mut tally = Tally::new("the planning program itself, around the bytes kept");
+    assert_eq!(KEPT, 2_146);
     for sheet in [sheet_of(&easy(64)), sheet_of(&hard(64))] {
         assert_eq!(sheet.len(), KEPT - 1);
         for extra in 0..=3 {
@@ -147,7 +177,7 @@ fn the_program_itself_around_the_bytes_that_are_kept() {
     tally.assert_common(&[1], 30);
 }
 
-/// The longest sheet has 2,137 bytes; one byte more is kept, and what follows
+/// The longest sheet has 2,145 bytes; one byte more is kept, and what follows
 /// makes no difference.
 #[test]
 fn around_the_bytes_that_are_kept() {

@@ -1,22 +1,29 @@
-//! The reader of the library against the model's: number and whole table.
+//! The reader of the library against the model's: number and whole table, with
+//! every loading time, and sheets that lack the field of K.
 
 mod common;
 
 use common::sheets::{
-    for_each_length, for_each_of_several_changes, for_each_single_byte_change, sheets_at_limits,
-    text,
+    damaged, for_each_length, for_each_of_several_changes, for_each_single_byte_change,
+    sheets_at_limits, text,
 };
-use common::Tally;
+use common::{large_table, small_table, Loadings, Tally};
 use compiled::library;
-use model::sheet::read_sheet;
+use model::before::{with_loading_field, without_loading_field};
+use model::random::Random;
+use model::sheet::{read_sheet, sheet_of};
 use model::table::Table;
 
 fn compare(sheet: &[u8], tally: &mut Tally<u32>) -> u32 {
+    compare_table(sheet, tally).0
+}
+
+fn compare_table(sheet: &[u8], tally: &mut Tally<u32>) -> (u32, Table) {
     let answer = library::read(sheet);
     assert_eq!(answer, read_sheet(sheet), "{:?}", text(sheet));
     assert!(answer.0 == 0 || answer.1 == Table::ZERO);
     tally.saw(answer.0);
-    answer.0
+    answer
 }
 
 #[test]
@@ -28,7 +35,7 @@ fn every_length_of_several_bases() {
     tally.assert_common(&[1, 2, 3], 2_000);
     // A base is a whole sheet at one length alone.
     tally.assert_common(&[0], 4);
-    tally.assert_common(&[4, 5], 1);
+    tally.assert_common(&[4, 5, 11], 1);
 }
 
 #[test]
@@ -38,7 +45,7 @@ fn every_single_byte_change() {
         compare(sheet, &mut tally);
     });
     tally.assert_common(&[0, 2, 5], 1_000);
-    tally.assert_common(&[1, 3, 4], 20);
+    tally.assert_common(&[1, 3, 4, 11], 20);
 }
 
 /// Several changes at once, so that the order of the checks shows.
@@ -48,7 +55,48 @@ fn several_changes_at_once() {
     for_each_of_several_changes(|sheet| {
         compare(sheet, &mut tally);
     });
-    tally.assert_common(&[0, 1, 2, 3, 4, 5], 1_000);
+    tally.assert_common(&[0, 1, 2, 3, 4, 5, 11], 1_000);
+}
+
+#[test]
+fn random_sheets_with_every_loading_time() {
+    let mut random = Random::seeded(102);
+    let mut tally = Tally::new("reader, random sheets");
+    let mut loadings = Loadings::new("reader, random sheets, by K");
+    for round in 0..40_000 {
+        let table = if round % 4 == 0 {
+            large_table(&mut random)
+        } else {
+            small_table(&mut random)
+        };
+        let sheet = sheet_of(&table);
+        assert_eq!(compare_table(&sheet, &mut tally), (0, table));
+        loadings.saw(0, &table);
+        compare(&damaged(&mut random, sheet), &mut tally);
+    }
+    tally.assert_common(&[0, 1, 2], 4_000);
+    loadings.assert_every(800);
+}
+
+/// A sheet without the field of K is refused with 2; with that of 0 slots put in
+/// it is read.
+#[test]
+fn sheets_without_the_field_of_loading() {
+    let mut random = Random::seeded(103);
+    let mut tally = Tally::new("reader, sheets without the field of K");
+    for round in 0..20_000 {
+        let table = if round % 4 == 0 {
+            large_table(&mut random)
+        } else {
+            small_table(&mut random)
+        };
+        let old = without_loading_field(&sheet_of(&table));
+        assert_eq!(compare(&old, &mut tally), 2);
+        let sheet = with_loading_field(&old);
+        let read = compare_table(&sheet, &mut tally);
+        assert_eq!(read, (0, table.with_loading(0)));
+    }
+    tally.assert_common(&[0, 2], 20_000);
 }
 
 #[test]
@@ -58,5 +106,5 @@ fn limits() {
         let answer = compare(sheet, &mut tally);
         assert_eq!(answer, *number, "{:?}", text(sheet));
     }
-    tally.assert_common(&[0, 3, 4, 5], 2);
+    tally.assert_common(&[0, 3, 4, 5, 11], 2);
 }

@@ -2,6 +2,7 @@
 //! byte, and on tables for which the model takes too long against the plain one.
 //! Each report is also read column by column and held against the rules and
 //! against the library's worst finishes and judge (section 16 of the rules).
+//! Every loading time from 0 to 16 slots comes up.
 
 mod common;
 
@@ -9,16 +10,19 @@ use common::records::any_record;
 use common::sheets::text;
 use common::{
     any_order, for_each_length_of_figures, for_each_small_table, for_each_word_changed,
-    large_table, no_order_of, rubbish, small_table, spoil_by_several, Tally, MODEL_LARGE,
+    large_table, no_order_of, rubbish, small_table, spoil_by_several, Loadings, Tally, MODEL_LARGE,
+    TABLE_CHECKS,
 };
 use compiled::library;
-use compiled::sheets::{easy, hard, largest, longest_windows, random_order, tight};
+use compiled::sheets::{
+    easy, easy_loading, hard, hard_loading, largest, longest_windows, random_order, tight,
+};
 use model::cases::{p1, p2, p3, p4, reports, row, table};
 use model::order::{order_of, Order, NO_ORDER};
 use model::plain;
 use model::random::{table_in, Random, Ranges};
 use model::report::{report, LONGEST_REPORT};
-use model::table::{Row, Table, HI, LO, ROWS};
+use model::table::{Row, Table, HI, LO, MOST_LOADING, ROWS};
 
 /// Bytes of the most room that is tried one by one.
 const LONGEST: usize = 3_300;
@@ -133,8 +137,8 @@ fn number_in(columns: &[u8]) -> i64 {
 }
 
 /// Each line has its place, the row that stands there, a need at N that is just
-/// enough for the row's work, and the finish that the library tells elsewhere
-/// (rules 16.2 and 16.10).
+/// enough for the row's work after it has loaded, and the finish that the library
+/// tells elsewhere (rules 16.2 and 16.10).
 fn assert_rows(table: &Table, order: &Order, lines: &Lines) {
     let (_, finishes) = library::finishes(table, order);
     assert_eq!(lines.places.len(), table.n as usize);
@@ -143,8 +147,9 @@ fn assert_rows(table: &Table, order: &Order, lines: &Lines) {
         assert_eq!(row, i64::from(order[index]));
         let job = table.row(order[index]);
         let (work, normal) = (i64::from(job.work), i64::from(table.normal));
-        assert!(work <= need * normal, "row {row} of {table:?}");
-        assert!(work > (need - 1) * normal, "row {row} of {table:?}");
+        let at_work = need - i64::from(table.loading);
+        assert!(work <= at_work * normal, "row {row} of {table:?}");
+        assert!(work > (at_work - 1) * normal, "row {row} of {table:?}");
         assert_eq!(finish, i64::from(finishes[row as usize - 1]));
         assert_eq!(slack, i64::from(job.deadline) - finish);
     }
@@ -156,7 +161,7 @@ fn assert_totals(table: &Table, lines: &Lines) {
     let of_lines = lines.places.iter().map(|line| line[2]).sum();
     let late = lines.places.iter().filter(|line| line[4] < 0).count();
     assert_eq!(lines.totals, [of_lines, late as i64], "{table:?}");
-    let of_row = |job: Row| i64::from(job.work.div_ceil(table.normal));
+    let of_row = |job: Row| i64::from(table.loading + job.work.div_ceil(table.normal));
     let of_rows: i64 = table.rows().into_iter().map(of_row).sum();
     assert_eq!(lines.totals[0], of_rows, "{table:?}");
 }
@@ -201,34 +206,40 @@ fn reports_by_hand() {
         assert_eq!(text(&written(&table, &order)), expected, "{table:?}");
         around_the_length(compare_with_model, &table, &order, &mut tally);
     }
-    tally.assert_common(&[0], 21);
+    tally.assert_common(&[0], 30);
 }
 
 #[test]
 fn all_small_tables() {
     let mut random = Random::seeded(801);
     let mut tally = Tally::new("report, all tables of the grid");
+    let mut loadings = Loadings::new("report, all tables of the grid, by K");
     for_each_small_table(|table| {
         let order = any_order(&mut random, table.n, 8);
         let before = rubbish(length_of(table.n));
-        compare_with_model(table, &order, &before, &mut tally);
+        let number = compare_with_model(table, &order, &before, &mut tally);
+        loadings.saw(number, table);
     });
-    tally.assert_common(&[0], 200_000);
-    tally.assert_common(&[6], 20_000);
+    tally.assert_common(&[0], 400_000);
+    tally.assert_common(&[6], 40_000);
+    loadings.assert_every(12_000);
 }
 
 #[test]
 fn random_tables_and_rooms_around_their_length() {
     let mut random = Random::seeded(802);
     let mut tally = Tally::new("report, random tables, room around the length");
+    let mut loadings = Loadings::new("report, random tables, by K");
     for _ in 0..6_000 {
         let small = small_table(&mut random);
         let order = random_order(&mut random, small.n);
         around_the_length(compare_with_model, &small, &order, &mut tally);
+        loadings.saw(0, &small);
         let large = large_table(&mut random);
         let order = random_order(&mut random, large.n);
         around_the_length(compare_with_plain, &large, &order, &mut tally);
     }
+    loadings.assert_every(120);
     for table in [p1(), p2(), p3(), p4()] {
         let order = random_order(&mut random, table.n);
         around_the_length(compare_with_model, &table, &order, &mut tally);
@@ -242,21 +253,24 @@ fn random_tables_and_rooms_around_their_length() {
 fn tables_of_up_to_64_rows_that_the_model_works() {
     let mut random = Random::seeded(803);
     let mut tally = Tally::new("report, up to 64 rows against the model");
+    let mut loadings = Loadings::new("report, up to 64 rows against the model, by K");
     let before = rubbish(LONGEST);
     for n in (1..=64).chain(1..=64) {
-        let table = tight(&mut random, n, MODEL_LARGE);
+        let table = tight(&mut random, n, MODEL_LARGE).with_loading(n % (MOST_LOADING + 1));
+        loadings.saw(0, &table);
         for order in [rising(n), any_order(&mut random, n, 6)] {
             compare_with_model(&table, &order, &before, &mut tally);
         }
     }
     for n in [4, 16, 64] {
-        for table in [easy(n), hard(n)] {
+        for table in [easy(n), hard(n), easy_loading(n, 16), hard_loading(n, 2)] {
             let order = random_order(&mut random, n);
             compare_with_model(&table, &order, &before, &mut tally);
         }
     }
     tally.assert_common(&[0], 230);
     tally.assert_common(&[6], 10);
+    loadings.assert_every(6);
 }
 
 #[test]
@@ -264,14 +278,18 @@ fn random_large_tables() {
     let mut random = Random::seeded(804);
     let mut tally = Tally::new("report, random tables of up to 64 rows");
     let mut late = Tally::new("report, random tables of up to 64 rows, by rows late");
+    let mut loadings = Loadings::new("report, random tables of up to 64 rows, by K");
     for _ in 0..20_000 {
         let table = large_table(&mut random);
         let order = any_order(&mut random, table.n, 8);
         let before = rubbish(length_of(table.n) + 64);
-        if compare_with_plain(&table, &order, &before, &mut tally) == 0 {
+        let number = compare_with_plain(&table, &order, &before, &mut tally);
+        loadings.saw(number, &table);
+        if number == 0 {
             late.saw(Lines::read(&written(&table, &order)).late());
         }
     }
+    loadings.assert_every(400);
     let table = longest_windows();
     for _ in 0..100 {
         let order = random_order(&mut random, 64);
@@ -350,10 +368,10 @@ fn every_room() {
     let tables = [
         table(1, 1, &[[0, 1, 1, LO]]),
         one,
-        p3(),
+        p3().with_loading(5),
         tight(&mut random, 17, MODEL_LARGE),
         hard(64),
-        largest(999_999),
+        largest(999_999).with_loading(16),
     ];
     for table in &tables {
         let order = random_order(&mut random, table.n);
@@ -368,30 +386,41 @@ fn every_room() {
 }
 
 /// Sixty-four HI rows of the largest work, worked at 1 work unit per slot: the
-/// row at place k finishes k times 1,000,000 slots after the release.
+/// row at place k finishes k times 1,000,000 slots, and k times K, after the
+/// release.
 #[test]
 fn largest_works() {
     let mut random = Random::seeded(807);
     let mut tally = Tally::new("report, largest works");
-    for release in [0, 1, 500_000, 999_999] {
+    let figures = [
+        (0, 0),
+        (0, 1),
+        (1, 0),
+        (500_000, 5),
+        (999_999, 0),
+        (999_999, 16),
+    ];
+    for (release, loading) in figures {
         for normal in [1, 7, 1_000] {
             let table = Table {
                 normal,
+                loading,
                 ..largest(release)
             };
             let order = random_order(&mut random, 64);
             around_the_length(compare_with_plain, &table, &order, &mut tally);
             let lines = Lines::read(&written(&table, &order));
+            let each = i64::from(loading) + 1_000_000;
             for (index, line) in lines.places.iter().enumerate() {
-                let finish = i64::from(release) + (index as i64 + 1) * 1_000_000;
+                let finish = i64::from(release) + (index as i64 + 1) * each;
                 assert_eq!(line[3..], [finish, 1_000_000 - finish]);
             }
-            let first_is_in_time = release == 0;
+            let first_is_in_time = release == 0 && loading == 0;
             assert_eq!(lines.late(), if first_is_in_time { 63 } else { 64 });
         }
     }
-    tally.assert_common(&[0], 36);
-    tally.assert_common(&[10], 24);
+    tally.assert_common(&[0], 54);
+    tally.assert_common(&[10], 36);
 }
 
 /// The lines of the places 1 and 64 and the last line, of a report of 64 rows.
@@ -411,6 +440,13 @@ fn widest_figures_by_hand() {
         "  64000000        64\n",
     );
     assert_eq!(first_and_last_lines(&latest), expected);
+    let loads = written(&largest(999_999).with_loading(16), &rising(64));
+    let expected = concat!(
+        "         1         1   1000016   2000015  -1000015\n",
+        "        64        64   1000016  65001023 -64001023\n",
+        "  64001024        64\n",
+    );
+    assert_eq!(first_and_last_lines(&loads), expected);
 
     // LO rows finish as late at N of 1, and at N of 1,000 a thousandth of that.
     let mut low = largest(0);
@@ -433,7 +469,7 @@ fn widest_figures_by_hand() {
     assert_eq!(first_and_last_lines(&written_fast), expected);
 
     // Two slots each, and a deadline after one.
-    let short = Table::of(1, 1, &[row([0, 2, 1, HI]); ROWS]);
+    let short = Table::of(1, 1, 0, &[row([0, 2, 1, HI]); ROWS]);
     let expected = concat!(
         "         1         1         2         2        -1\n",
         "        64        64         2       128      -127\n",
@@ -444,24 +480,33 @@ fn widest_figures_by_hand() {
 }
 
 /// Needs, finishes and slacks of every length, in time and late: one row at a
-/// speed of 1 work unit per slot finishes its work after its release.
+/// speed of 1 work unit per slot finishes its work after its release and its
+/// loading time.
 #[test]
 fn figures_of_every_length() {
     let mut tally = Tally::new("report, figures of every length");
     let mut lengths = Tally::new("report, columns that a slack takes");
-    for_each_length_of_figures(|figures| {
-        let one = table(1, 1, &[figures]);
+    let mut compare_one = |figures: [u32; 4], loading| {
+        let one = table(1, 1, &[figures]).with_loading(loading);
         let before = rubbish(length_of(1));
         if compare_with_plain(&one, &rising(1), &before, &mut tally) == 0 {
             let [release, work, deadline, _] = figures.map(i64::from);
             let lines = Lines::read(&written(&one, &rising(1)));
-            let finish = release + work;
-            assert_eq!(lines.places, [[1, 1, work, finish, deadline - finish]]);
+            let need = i64::from(loading) + work;
+            let finish = release + need;
+            assert_eq!(lines.places, [[1, 1, need, finish, deadline - finish]]);
             lengths.saw(lines.places[0][4].to_string().len());
         }
+    };
+    // Without loading, and with the other loading times in turn.
+    let mut loading = 0;
+    for_each_length_of_figures(|figures| {
+        loading = 1 + loading % MOST_LOADING;
+        compare_one(figures, 0);
+        compare_one(figures, loading);
     });
-    tally.assert_common(&[0], 2_000);
-    tally.assert_common(&[5], 2_000);
+    tally.assert_common(&[0], 4_000);
+    tally.assert_common(&[5], 4_000);
     lengths.assert_common(&[1, 2, 3, 4, 5, 6, 7], 20);
 }
 
@@ -512,7 +557,7 @@ fn over_an_older_report() {
 }
 
 /// One refusal and several at once, in the table, the order and the room: the
-/// first in the sequence 3, 4, 5, 6, 10 is given (rule 11.7).
+/// first in the sequence 3, 4, 11, 5, 6, 10 is given (rule 11.7).
 #[test]
 fn damaged_tables_and_orders() {
     let mut random = Random::seeded(810);
@@ -543,11 +588,12 @@ fn damaged_tables_and_orders() {
         let number = compare(&table, &order, &rubbish(room), &mut tally);
         by_fault.saw((number, wrong_order, room < length));
     }
-    tally.assert_common(&[0, 3, 4, 5, 6, 10], 5_000);
-    for number in [3, 4, 5] {
+    tally.assert_common(&[0, 3, 4, 6, 10], 5_000);
+    tally.assert_common(&[5, 11], 2_000);
+    for number in TABLE_CHECKS {
         for wrong_order in [true, false] {
             let both = [(number, wrong_order, true), (number, wrong_order, false)];
-            by_fault.assert_common(&both, 1_000);
+            by_fault.assert_common(&both, 500);
         }
     }
     by_fault.assert_common(&[(6, true, true), (6, true, false)], 5_000);
@@ -557,7 +603,7 @@ fn damaged_tables_and_orders() {
 fn checks_come_in_their_order() {
     let mut tally = Tally::new("report, checks one after another");
     let twice = order_of(&[1, 1]);
-    let mut wrong = table(0, 1, &[[0, 1, 1, LO], [4, 1, 4, LO]]);
+    let mut wrong = table(0, 1, &[[0, 1, 1, LO], [4, 1, 4, LO]]).with_loading(u32::MAX);
     for room in [0, length_of(2) - 1, length_of(2), LONGEST] {
         let mut number = |table: &Table, order: &Order| {
             compare_with_model(table, order, &rubbish(room), &mut tally)
@@ -568,21 +614,23 @@ fn checks_come_in_their_order() {
         }
         let counted = Table { n: 2, ..wrong };
         assert_eq!(number(&counted, &twice), 4);
-        let mut paced = Table {
+        let paced = Table {
             normal: 1,
             ..counted
         };
-        assert_eq!(number(&paced, &twice), 5);
-        paced.deadline[1] = 5;
-        paced.level[63] = 1;
-        assert_eq!(number(&paced, &twice), 5);
-        paced.level[63] = 0;
+        assert_eq!(number(&paced, &twice), 11);
+        let mut loads = paced.with_loading(16);
+        assert_eq!(number(&loads, &twice), 5);
+        loads.deadline[1] = 5;
+        loads.level[63] = 1;
+        assert_eq!(number(&loads, &twice), 5);
+        loads.level[63] = 0;
         for order in [twice, NO_ORDER, order_of(&[2]), order_of(&[1, 2, 3])] {
-            assert_eq!(number(&paced, &order), 6);
+            assert_eq!(number(&loads, &order), 6);
         }
         let short = room < length_of(2);
         assert_eq!(
-            number(&paced, &order_of(&[2, 1])),
+            number(&loads, &order_of(&[2, 1])),
             if short { 10 } else { 0 }
         );
     }
@@ -602,6 +650,7 @@ fn every_word_changed() {
     }
     tally.assert_common(&[0, 5, 10], 1_000);
     tally.assert_common(&[3, 4], 50);
+    tally.assert_common(&[11], 40);
 }
 
 /// Each byte of an order changed to each value.
@@ -638,10 +687,11 @@ fn any_words_and_any_bytes() {
             degraded: good.degraded,
             ..any.table
         };
+        let loads = paced.with_loading(good.loading);
         let room = random.one_of(&[0, 21, 72, LONGEST_REPORT]);
         let before = rubbish(room);
         for n in [any.table.n, 0, 1, 64, 65, u32::MAX] {
-            for table in [any.table, paced] {
+            for table in [any.table, paced, loads] {
                 let counted = Table { n, ..table };
                 for order in [any.order, rising(n.min(64))] {
                     compare_with_model(&counted, &order, &before, &mut tally);
@@ -654,5 +704,5 @@ fn any_words_and_any_bytes() {
         compare_with_model(&good, &rising(good.n), &before, &mut tally);
     }
     tally.assert_common(&[0, 10], 1_000);
-    tally.assert_common(&[3, 4, 5, 6], 9_000);
+    tally.assert_common(&[3, 4, 11, 5, 6], 9_000);
 }

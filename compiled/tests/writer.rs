@@ -1,6 +1,6 @@
 //! The writer of the library against the model's, number, length and every lent
 //! byte, and against the reader: each sheet that it accepts comes back byte for
-//! byte (section 15 of the rules).
+//! byte (section 15 of the rules). Every loading time from 0 to 16 slots comes up.
 
 mod common;
 
@@ -11,21 +11,21 @@ use common::sheets::{
 };
 use common::{
     for_each_length_of_figures, for_each_small_table, for_each_word_changed, large_table, rubbish,
-    small_table, spoil_by_several, Tally,
+    small_table, spoil_by_several, Loadings, Tally, SMALL_TABLES, TABLE_CHECKS,
 };
-use compiled::sheets::{easy, hard, largest, longest_windows};
+use compiled::sheets::{easy, hard, hard_loading, largest, longest_windows};
 use compiled::{library, raw};
 use model::cases::{p1, p2, p3, p4, table};
 use model::plain;
 use model::random::Random;
 use model::sheet::{field_of, read_sheet, sheet_of, write_back, LONGEST_SHEET};
-use model::table::Table;
+use model::table::{Table, MOST_LOADING};
 use std::collections::HashMap;
 use std::fs;
 
 /// Bytes in the sheet of a table of n rows (rule 15.8).
 fn length_of(n: u32) -> usize {
-    25 + 33 * n as usize
+    33 + 33 * n as usize
 }
 
 /// The library's, the plain and the model's writer over the same bytes; gives
@@ -147,21 +147,28 @@ fn random_sheets_and_samples_come_back() {
 #[test]
 fn all_small_tables() {
     let mut tally = Tally::new("writer, all tables of the grid");
+    let mut loadings = Loadings::new("writer, all tables of the grid, by K");
     for_each_small_table(|table| {
         let room = length_of(table.n);
-        compare(table, room, &mut tally);
+        let number = compare(table, room, &mut tally);
+        loadings.saw(number, table);
     });
-    tally.assert_common(&[0], 239_940);
+    tally.assert_common(&[0], SMALL_TABLES);
+    loadings.assert_every(14_000);
 }
 
 #[test]
 fn random_tables_and_rooms_around_their_length() {
     let mut random = Random::seeded(702);
     let mut tally = Tally::new("writer, random tables, room around the length");
+    let mut loadings = Loadings::new("writer, random tables, by K");
     for _ in 0..8_000 {
-        compare_around_the_length(&small_table(&mut random), &mut tally);
-        compare_around_the_length(&large_table(&mut random), &mut tally);
+        for table in [small_table(&mut random), large_table(&mut random)] {
+            compare_around_the_length(&table, &mut tally);
+            loadings.saw(0, &table);
+        }
     }
+    loadings.assert_every(400);
     for n in (4..=64).step_by(4) {
         compare_around_the_length(&easy(n), &mut tally);
         compare_around_the_length(&hard(n), &mut tally);
@@ -184,13 +191,13 @@ fn every_room() {
     let least = table(1, 1, &[[0, 1, 1, 0]]);
     let tables = [
         least,
-        one,
+        one.with_loading(16),
         p1(),
-        p3(),
+        p3().with_loading(1),
         easy(63),
-        hard(12),
+        hard_loading(12, 10),
         hard(64),
-        largest(999_999),
+        largest(999_999).with_loading(16),
     ];
     for table in &tables {
         for room in 0..=LONGEST {
@@ -216,6 +223,12 @@ fn figures_of_every_length() {
             let paced = table(normal, degraded, &[[0, 1, 1, 0]]);
             compare(&paced, length_of(1), &mut tally);
         }
+    }
+    for loading in (0..200).chain([999, 9_999, 99_999_999, 100_000_000, u32::MAX]) {
+        let loads = table(10, 9, &[[0, 1, 1, 0]]).with_loading(loading);
+        let number = compare(&loads, length_of(1), &mut tally);
+        let fine = loading <= MOST_LOADING;
+        assert_eq!(number, if fine { 0 } else { 11 }, "K {loading}");
     }
     tally.assert_common(&[0, 4, 5], 2_000);
 }
@@ -243,14 +256,20 @@ fn one_figure_edited() {
     edited.work[2] = 1_000_000;
     let sheet = sheet_of(&p1());
     let mut lent = sheet.clone();
-    assert_eq!(library::write(&edited, &mut lent), (0, 157));
-    let differ: Vec<usize> = (0..157).filter(|&at| lent[at] != sheet[at]).collect();
-    assert_eq!(differ, Vec::from_iter(100..107), "the work of row 3 alone");
+    assert_eq!(library::write(&edited, &mut lent), (0, 165));
+    let differ: Vec<usize> = (0..165).filter(|&at| lent[at] != sheet[at]).collect();
+    assert_eq!(differ, Vec::from_iter(108..115), "the work of row 3 alone");
     assert_eq!(read_sheet(&lent), (0, edited));
+    let loads = p1().with_loading(16);
+    let mut lent = sheet.clone();
+    assert_eq!(library::write(&loads, &mut lent), (0, 165));
+    let differ: Vec<usize> = (0..165).filter(|&at| lent[at] != sheet[at]).collect();
+    assert_eq!(differ, [30, 31], "the loading time alone");
+    assert_eq!(read_sheet(&lent), (0, loads));
 }
 
 /// One refusal and several at once, with too little room and with enough: the
-/// first in the order 3, 4, 5, 10 is given (rule 11.6).
+/// first in the order 3, 4, 11, 5, 10 is given (rule 11.6).
 #[test]
 fn damaged_tables() {
     let mut random = Random::seeded(704);
@@ -266,13 +285,14 @@ fn damaged_tables() {
         if !random.once_in(4) {
             spoil_by_several(&mut random, &mut table);
         }
-        let room = random.one_of(&[0, 24, length - 1, length, length + 1, LONGEST]);
+        let room = random.one_of(&[0, 32, length - 1, length, length + 1, LONGEST]);
         let number = compare(&table, room, &mut tally);
         by_room.saw((number, room < length));
     }
-    tally.assert_common(&[0, 3, 4, 5, 10], 10_000);
-    for number in [3, 4, 5] {
-        by_room.assert_common(&[(number, true), (number, false)], 5_000);
+    tally.assert_common(&[0, 3, 4, 10], 10_000);
+    tally.assert_common(&[5, 11], 4_000);
+    for number in TABLE_CHECKS {
+        by_room.assert_common(&[(number, true), (number, false)], 2_000);
     }
 }
 
@@ -288,7 +308,7 @@ fn every_word_changed() {
         });
     }
     tally.assert_common(&[0, 5, 10], 1_000);
-    tally.assert_common(&[3, 4], 40);
+    tally.assert_common(&[3, 4, 11], 40);
 }
 
 /// Tables of any words at all, most of them with a row count beyond the limit.
@@ -300,18 +320,24 @@ fn tables_of_any_words() {
         let mut table = any_record(&mut random).table;
         for n in [table.n, 0, 1, 64, 65, u32::MAX] {
             table.n = n;
-            let room = random.one_of(&[0, 25, 58, LONGEST_SHEET]);
+            let room = random.one_of(&[0, 33, 66, LONGEST_SHEET]);
             compare(&table, room, &mut tally);
+            let paced = Table {
+                normal: 3,
+                degraded: 2,
+                ..table
+            };
+            compare(&paced, room, &mut tally);
         }
     }
-    tally.assert_common(&[3, 4], 5_000);
+    tally.assert_common(&[3, 4, 11], 5_000);
 }
 
 #[test]
 fn checks_come_in_their_order() {
     let mut tally = Tally::new("writer, checks one after another");
-    let mut wrong = table(0, 1, &[[4, 1, 4, 0]]);
-    for room in [0, 57, 58, LONGEST] {
+    let mut wrong = table(0, 1, &[[4, 1, 4, 0]]).with_loading(17);
+    for room in [0, 65, 66, LONGEST] {
         let mut number = |table: &Table| compare(table, room, &mut tally);
         for n in [0, 65, u32::MAX] {
             wrong.n = n;
@@ -319,16 +345,18 @@ fn checks_come_in_their_order() {
         }
         let counted = Table { n: 1, ..wrong };
         assert_eq!(number(&counted), 4);
-        let mut paced = Table {
+        let paced = Table {
             normal: 1,
             ..counted
         };
-        assert_eq!(number(&paced), 5);
-        paced.deadline[0] = 5;
-        paced.level[63] = 1;
-        assert_eq!(number(&paced), 5);
-        paced.level[63] = 0;
-        assert_eq!(number(&paced), if room < 58 { 10 } else { 0 });
+        assert_eq!(number(&paced), 11);
+        let mut loads = paced.with_loading(16);
+        assert_eq!(number(&loads), 5);
+        loads.deadline[0] = 5;
+        loads.level[63] = 1;
+        assert_eq!(number(&loads), 5);
+        loads.level[63] = 0;
+        assert_eq!(number(&loads), if room < 66 { 10 } else { 0 });
     }
 }
 

@@ -5,7 +5,7 @@ use crate::plan::slack;
 use crate::table::{Row, Table, ROWS};
 
 /// The judge's answer: the verdict and the tightest row with its slack (rules
-/// 7.2 and 7.3). A refusal (3 to 6) is all zero: no, row 0, slack 0 (rule 7.4).
+/// 7.2 and 7.3). A refusal is all zero: no, row 0, slack 0 (rule 7.4).
 #[derive(Clone, Copy, Debug, PartialEq, Eq)]
 pub struct Verdict {
     pub number: u32,
@@ -16,12 +16,12 @@ pub struct Verdict {
 }
 
 /// The judge over a list of rows, whose length is n (rule 7.1). Speeds are in
-/// work units per slot.
-pub fn judge(normal: u32, degraded: u32, rows: &[Row], order: &Order) -> Verdict {
+/// work units per slot, the loading time in slots.
+pub fn judge(normal: u32, degraded: u32, loading: u32, rows: &[Row], order: &Order) -> Verdict {
     if rows.len() > ROWS {
         return refused(3);
     }
-    judge_table(&Table::of(normal, degraded, rows), order)
+    judge_table(&Table::of(normal, degraded, loading, rows), order)
 }
 
 /// The judge on a table: the checks of table and order (rule 11.4), then yes if

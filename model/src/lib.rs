@@ -14,7 +14,7 @@
 //!
 //! | module    | states                                                       |
 //! |-----------|--------------------------------------------------------------|
-//! | `table`   | rows, tables, need, allowance, checks 3, 4 and 5             |
+//! | `table`   | rows, tables, need, allowance, checks 3, 4, 11 and 5         |
 //! | `order`   | orders by value, check 6, every arrangement of some rows     |
 //! | `run`     | the state on paper, the chosen row, the step, kept deadlines |
 //! | `calls`   | the two run calls on paper, with number 8                    |
@@ -26,9 +26,11 @@
 //! | `report`  | the report: its figures, lines and totals                    |
 //! | `program` | the planning program from input bytes to output bytes        |
 //! | `cases`   | the tables and answers of cases P1 to P4                     |
+//! | `before`  | answers from before tables had a loading time                |
 //! | `random`  | a fixed-seed generator of numbers and tables for tests       |
 //! | `plain`   | the same answers by one sweep, for large tables and measures |
 
+pub mod before;
 pub mod calls;
 pub mod cases;
 pub mod judge;

@@ -5,6 +5,9 @@
 use crate::sheet::{read_field, read_sheet, FIELD, FIRST_LINE, LINE_END, ROW_LINE};
 use crate::table::{row_is_within_limits, speeds_are_within_limits, Row};
 
+/// Fields in every line, the first one too (rules 6.5 and 6.6).
+const FIELDS: u32 = 4;
+
 /// A place in a sheet. Row 0 is the first line; fields count from 1, and a line
 /// end counts as the field after the last; bytes count from 1.
 #[derive(Clone, Copy, Debug, PartialEq, Eq)]
@@ -14,8 +17,8 @@ pub struct Place {
     pub byte: u32,
 }
 
-/// The place that a sheet is refused for with 2 to 5; none for 0 and for 1,
-/// which speaks of the whole sheet.
+/// The place that a sheet is refused for with 2, 3, 4, 5 or 11; none for 0 and
+/// for 1, which speaks of the whole sheet.
 pub fn place_of_fault(sheet: &[u8]) -> Option<Place> {
     match read_sheet(sheet).0 {
         2 => malformed(sheet),
@@ -26,6 +29,7 @@ pub fn place_of_fault(sheet: &[u8]) -> Option<Place> {
             Some(whole_field(0, if degraded_at_fault { 3 } else { 2 }))
         }
         5 => outside_limits(sheet),
+        11 => Some(whole_field(0, 4)),
         _ => None,
     }
 }
@@ -45,8 +49,7 @@ fn malformed(sheet: &[u8]) -> Option<Place> {
     let mut at = 0;
     let mut row = 0;
     while at < sheet.len() {
-        let fields = if row == 0 { 3 } else { 4 };
-        for field in 1..=fields {
+        for field in 1..=FIELDS {
             let bytes: &[u8; FIELD] = sheet[at..at + FIELD].try_into().expect("a field");
             if read_field(bytes).is_none() {
                 let byte = (at + goes_wrong(bytes)) as u32 + 1;
@@ -58,7 +61,7 @@ fn malformed(sheet: &[u8]) -> Option<Place> {
             let byte = at as u32 + 1;
             return Some(Place {
                 row,
-                field: fields + 1,
+                field: FIELDS + 1,
                 byte,
             });
         }

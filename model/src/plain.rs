@@ -34,14 +34,15 @@ impl Load<'_> {
             at_degraded: [0; ROWS],
             by_release: std::array::from_fn(|index| index as u8),
         };
-        for index in 0..table.n as usize {
-            let at_normal = need(table.work[index], table.normal);
+        for row in 1..=table.n as u8 {
+            let index = row as usize - 1;
+            let at_normal = need(table, row, table.normal);
             load.at_normal[index] = at_normal;
             // A LO row takes no more than its allowance (rule 1.9).
             load.at_degraded[index] = if table.level[index] == LO {
                 at_normal
             } else {
-                need(table.work[index], table.degraded)
+                need(table, row, table.degraded)
             };
         }
         let rows = &mut load.by_release[..table.n as usize];
@@ -129,7 +130,7 @@ fn answer(number: u32, order: Order, left: u64) -> Plan {
     }
 }
 
-/// Checks 3, 4, 5, then 6.
+/// The checks of the table, then 6.
 fn check(table: &Table, order: &Order) -> u32 {
     match check_table(table) {
         0 if is_order(table.n as usize, order) => 0,
@@ -189,10 +190,12 @@ pub fn judge(table: &Table, order: &Order) -> Verdict {
     verdict
 }
 
-/// What closes a row: its work got, or a LO row's allowance used up.
+/// What closes a row: its work got, or a LO row's allowance used up. That is so
+/// once its slots after loading would have brought all of its work at N.
 fn is_over(table: &Table, index: usize, got: u32, used: u32) -> bool {
-    let dropped = || used >= need(table.work[index], table.normal);
-    got >= table.work[index] || table.level[index] != HI && dropped()
+    let at_work = u64::from(used.saturating_sub(table.loading));
+    let used_up = || at_work * u64::from(table.normal) >= u64::from(table.work[index]);
+    got >= table.work[index] || table.level[index] != HI && used_up()
 }
 
 /// Check 9 does not refuse the record.
@@ -228,8 +231,10 @@ fn step(record: &mut Record, supply: u32) -> u8 {
     record.clock += 1;
     if row != 0 {
         let index = row as usize - 1;
-        let got = record.got[index].saturating_add(supply);
-        record.got[index] = got.min(record.table.work[index]);
+        if record.used[index] >= record.table.loading {
+            let got = record.got[index].saturating_add(supply);
+            record.got[index] = got.min(record.table.work[index]);
+        }
         record.used[index] += 1;
         if is_over(&record.table, index, record.got[index], record.used[index]) {
             record.closing[index] = record.clock;
@@ -287,7 +292,8 @@ pub fn write_back(table: &Table, lent: &mut [u8]) -> (u32, u32) {
         return (10, 0);
     };
     let (first, rows) = sheet.split_at_mut(FIRST_LINE);
-    put_line(first, &[table.n, table.normal, table.degraded], write_field);
+    let (n, normal, degraded) = (table.n, table.normal, table.degraded);
+    put_line(first, &[n, normal, degraded, table.loading], write_field);
     for (index, line) in rows.chunks_exact_mut(ROW_LINE).enumerate() {
         let (release, work) = (table.release[index], table.work[index]);
         let (deadline, level) = (table.deadline[index], table.level[index]);
@@ -324,13 +330,14 @@ pub fn report(table: &Table, order: &Order, lent: &mut [u8]) -> (u32, u32) {
     let (places, last) = report.split_at_mut(of_places);
     let (mut needs, mut late) = (0, 0);
     for (place, line) in places.chunks_exact_mut(PLACE_LINE).enumerate() {
-        let index = order[place] as usize - 1;
-        let need = i64::from(need(table.work[index], table.normal));
+        let row = order[place];
+        let index = row as usize - 1;
+        let need = i64::from(need(table, row, table.normal));
         let finish = i64::from(finishes[index]);
         let slack = i64::from(table.deadline[index]) - finish;
         needs += need;
         late += i64::from(slack < 0);
-        let numbers = [place as i64 + 1, index as i64 + 1, need, finish, slack];
+        let numbers = [place as i64 + 1, i64::from(row), need, finish, slack];
         put_line(line, &numbers, figure);
     }
     put_line(last, &[needs, late], figure);

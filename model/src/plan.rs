@@ -84,7 +84,7 @@ pub fn passes_lowest(table: &Table, left: &[u8], placed: &[u8], row: u8) -> bool
 }
 
 /// The planner's answer: 0 with an order (rule 10.0), 7 with the rows left and
-/// an order of zeros (rule 10.7), 3 to 5 with all zero.
+/// an order of zeros (rule 10.7), 3, 4, 11 or 5 with all zero.
 #[derive(Clone, Copy, Debug, PartialEq, Eq)]
 pub struct Plan {
     pub number: u32,

@@ -1,6 +1,6 @@
 //! A small generator with fixed seeds, so that every test run is the same.
 
-use crate::table::{Row, Table};
+use crate::table::{Row, Table, MOST_LOADING};
 
 /// The splitmix64 generator.
 pub struct Random {
@@ -59,13 +59,14 @@ pub struct Ranges {
     pub speed: u32,
     /// Latest release, in slots.
     pub release: u32,
-    /// Largest need at N, in slots; the work follows from it.
+    /// Most slots that a row's work takes at N.
     pub need: u32,
-    /// Longest time from release to deadline, in slots.
+    /// Longest time from release to deadline without loading, in slots.
     pub window: u32,
 }
 
-/// An accepted table: 1 to `rows` rows, every figure from its range.
+/// An accepted table: 1 to `rows` rows, every figure from its range, a loading
+/// time from 0 to 16 slots.
 pub fn table_in(random: &mut Random, ranges: Ranges) -> Table {
     let n = random.between(1, ranges.rows);
     table_of_rows_in(random, n, ranges)
@@ -73,18 +74,40 @@ pub fn table_in(random: &mut Random, ranges: Ranges) -> Table {
 
 /// An accepted table of exactly n rows, every other figure from its range.
 pub fn table_of_rows_in(random: &mut Random, n: u32, ranges: Ranges) -> Table {
-    let normal = random.between(1, ranges.speed);
-    let degraded = random.between(1, normal);
-    let rows: Vec<Row> = (0..n).map(|_| row_in(random, normal, ranges)).collect();
-    Table::of(normal, degraded, &rows)
+    let loading = loading(random);
+    loading_table_in(random, n, loading, ranges)
 }
 
-fn row_in(random: &mut Random, normal: u32, ranges: Ranges) -> Row {
-    let release = random.between(0, ranges.release);
-    Row {
-        release,
-        work: random.between(1, ranges.need * normal),
-        deadline: release + random.between(1, ranges.window),
-        level: random.between(0, 1),
+/// A loading time from 0 to 16 slots: 0 as often as all others together.
+pub fn loading(random: &mut Random) -> u32 {
+    if random.once_in(2) {
+        0
+    } else {
+        random.between(1, MOST_LOADING)
     }
+}
+
+/// An accepted table of exactly n rows with this loading time, in slots. A row has
+/// time for one to n rows to load, or seldom for none, so that about as many rows
+/// are late as without loading.
+pub fn loading_table_in(random: &mut Random, n: u32, loading: u32, ranges: Ranges) -> Table {
+    let normal = random.between(1, ranges.speed);
+    let degraded = random.between(1, normal);
+    let row = |random: &mut Random| {
+        let release = random.between(0, ranges.release);
+        let loads = if random.once_in(8) {
+            0
+        } else {
+            random.between(1, n)
+        };
+        let window = random.between(1, ranges.window) + loads * loading;
+        Row {
+            release,
+            work: random.between(1, ranges.need * normal),
+            deadline: release + window,
+            level: random.between(0, 1),
+        }
+    };
+    let rows: Vec<Row> = (0..n).map(|_| row(random)).collect();
+    Table::of(normal, degraded, loading, &rows)
 }

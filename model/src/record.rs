@@ -70,7 +70,7 @@ impl Record {
     };
 
     /// The fresh record of a table and an order: a state of zeros beside them.
-    /// Refused with 3 to 6, and then all zero (rule 8.2).
+    /// Refused with 3, 4, 11, 5 or 6, and then all zero (rule 8.2).
     pub fn fresh(table: &Table, order: &Order) -> (u32, Record) {
         match check_table_and_order(table, order) {
             0 => (0, Record::holding(table, order, &State::FRESH)),
@@ -101,7 +101,7 @@ impl Record {
     }
 
     /// Every reason for which check 9 refuses this record, each named once. The
-    /// rows are looked at only if table and order pass 3 to 6.
+    /// rows are looked at only if table and order pass their own checks.
     pub fn reasons(&self) -> Vec<Unsound> {
         let refusal = check_table_and_order(&self.table, &self.order);
         if refusal != 0 {

@@ -43,7 +43,7 @@ fn line(numbers: &[i64]) -> Vec<u8> {
 
 /// The need of a row at N, in slots (rule 1.8), whatever its level.
 fn need_at_normal(table: &Table, row: u8) -> i64 {
-    i64::from(need(table.row(row).work, table.normal))
+    i64::from(need(table, row, table.normal))
 }
 
 /// The line of a place, counted from 1 (rule 16.2).

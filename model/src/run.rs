@@ -5,7 +5,7 @@ use crate::order::Order;
 use crate::table::{allowance, Table, LO, ROWS};
 
 /// The state of a run (rule 2.13). The entry of row i stands at index i - 1.
-#[derive(Clone, Copy, Debug, PartialEq, Eq)]
+#[derive(Clone, Copy, Debug, PartialEq, Eq, Hash)]
 pub struct State {
     /// The clock t, in slots: slot t is the next one to be worked.
     pub clock: u32,
@@ -51,17 +51,29 @@ pub fn step(table: &Table, order: &Order, state: &mut State, supply: u32) -> u8 
     row
 }
 
-/// The row has used one slot more and gets the supply, never more than its work
-/// in all (rules 2.1 and 2.5). If that closes it, the closing slot is the clock
-/// after this slot (rule 2.10).
+/// The row has used one slot more and gets what the slot brings, never more than
+/// its work in all (rules 2.1 and 2.5). If that closes it, the closing slot is
+/// the clock after this slot (rule 2.10).
 fn run_row(table: &Table, row: u8, state: &mut State, supply: u32) {
     let index = row as usize - 1;
     let work = u64::from(table.work[index]);
-    let brought = u64::from(state.got[index]) + u64::from(supply);
+    let brought = brought(table, state.used[index], supply);
+    let got = u64::from(state.got[index]) + u64::from(brought);
     state.used[index] += 1;
-    state.got[index] = brought.min(work) as u32;
+    state.got[index] = got.min(work) as u32;
     if is_finished(table, row, state.got[index], state.used[index]) {
         state.closing[index] = state.clock + 1;
+    }
+}
+
+/// The work units that a slot with this supply brings a row which has used this
+/// many slots before it: none while the row loads, and loading goes on from where
+/// a preemption broke it off (rule 2.14).
+fn brought(table: &Table, used_before: u32, supply: u32) -> u32 {
+    if used_before < table.loading {
+        0
+    } else {
+        supply
     }
 }
 

@@ -7,8 +7,8 @@ use crate::table::{check_table, count_is_within_limit, Row, Table, ROWS};
 /// Bytes in a field (rule 6.1).
 pub const FIELD: usize = 8;
 
-/// Bytes in the first line: n, N, G and the line end (rule 6.5).
-pub const FIRST_LINE: usize = 25;
+/// Bytes in the first line: n, N, G, K and the line end (rule 6.5).
+pub const FIRST_LINE: usize = 33;
 
 /// Bytes in the line of a row: a, c, d, level and the line end (rule 6.6).
 pub const ROW_LINE: usize = 33;
@@ -66,7 +66,7 @@ fn read_or_refuse(bytes: &[u8]) -> Result<Table, u32> {
         return Err(1);
     }
     let (first_line, row_lines) = bytes.split_at(FIRST_LINE);
-    let [n, normal, degraded] = read_line(first_line).ok_or(2u32)?;
+    let [n, normal, degraded, loading] = read_line(first_line).ok_or(2u32)?;
     if !count_is_within_limit(n) {
         return Err(3);
     }
@@ -83,8 +83,8 @@ fn read_or_refuse(bytes: &[u8]) -> Result<Table, u32> {
             level,
         });
     }
-    // The count has passed 3, so what is left of these checks is 4, then 5.
-    let table = Table::of(normal, degraded, &rows);
+    // The count has passed 3, so what is left of these checks is 4, 11, then 5.
+    let table = Table::of(normal, degraded, loading, &rows);
     match check_table(&table) {
         0 => Ok(table),
         refusal => Err(refusal),
@@ -129,8 +129,8 @@ pub fn write_line(numbers: &[u32]) -> Vec<u8> {
 
 /// A sheet with this first line and these rows, accepted or not (rules 6.5 and
 /// 6.6).
-pub fn write_sheet(n: u32, normal: u32, degraded: u32, rows: &[Row]) -> Vec<u8> {
-    let mut sheet = write_line(&[n, normal, degraded]);
+pub fn write_sheet(n: u32, normal: u32, degraded: u32, loading: u32, rows: &[Row]) -> Vec<u8> {
+    let mut sheet = write_line(&[n, normal, degraded, loading]);
     for row in rows {
         sheet.extend(write_line(&[
             row.release,
@@ -144,7 +144,8 @@ pub fn write_sheet(n: u32, normal: u32, degraded: u32, rows: &[Row]) -> Vec<u8> 
 
 /// The sheet of a table with at most 64 rows (rule 15.1).
 pub fn sheet_of(table: &Table) -> Vec<u8> {
-    write_sheet(table.n, table.normal, table.degraded, &table.rows())
+    let (n, normal, degraded) = (table.n, table.normal, table.degraded);
+    write_sheet(n, normal, degraded, table.loading, &table.rows())
 }
 
 /// The writer: the number, and the length in bytes of the sheet, which then

@@ -1,4 +1,4 @@
-//! Rows, tables, need and allowance, and the checks on tables (3, 4 and 5;
+//! Rows, tables, need and allowance, and the checks on tables (3, 4, 11 and 5;
 //! sections 1 and 5 of the rules).
 
 /// Entries in every column of a table: the most rows it can hold (rule 5.1).
@@ -6,6 +6,9 @@ pub const ROWS: usize = 64;
 
 /// Largest normal speed N, in work units per slot (rule 5.2).
 pub const MOST_SPEED: u32 = 1_000;
+
+/// Longest loading time K, in slots (rule 5.8).
+pub const MOST_LOADING: u32 = 16;
 
 /// Largest work c, in work units (rule 5.3).
 pub const MOST_WORK: u32 = 1_000_000;
@@ -32,8 +35,9 @@ pub struct Row {
     pub level: u32,
 }
 
-/// A table of n rows with its two speeds. The column entry of row i stands at
-/// index i - 1. Any values may be held; the checks say which are accepted.
+/// A table of n rows with its two speeds and its loading time. The column entry
+/// of row i stands at index i - 1. Any values may be held; the checks say which
+/// are accepted.
 #[derive(Clone, Copy, Debug, PartialEq, Eq)]
 pub struct Table {
     /// Row count n.
@@ -42,6 +46,9 @@ pub struct Table {
     pub normal: u32,
     /// Degraded speed G, in work units per slot.
     pub degraded: u32,
+    /// Loading time K, in slots: the first K slots that a job runs bring it no
+    /// work (rule 1.10).
+    pub loading: u32,
     /// Release of each row, in slots.
     pub release: [u32; ROWS],
     /// Work of each row, in work units.
@@ -58,19 +65,22 @@ impl Table {
         n: 0,
         normal: 0,
         degraded: 0,
+        loading: 0,
         release: [0; ROWS],
         work: [0; ROWS],
         deadline: [0; ROWS],
         level: [0; ROWS],
     };
 
-    /// The table with these speeds and at most 64 rows, zeros after the last.
-    pub fn of(normal: u32, degraded: u32, rows: &[Row]) -> Table {
+    /// The table with these speeds, this loading time and at most 64 rows, zeros
+    /// after the last.
+    pub fn of(normal: u32, degraded: u32, loading: u32, rows: &[Row]) -> Table {
         assert!(rows.len() <= ROWS, "a table holds at most 64 rows");
         let mut table = Table {
             n: rows.len() as u32,
             normal,
             degraded,
+            loading,
             ..Table::ZERO
         };
         for (index, row) in rows.iter().enumerate() {
@@ -80,6 +90,11 @@ impl Table {
             table.level[index] = row.level;
         }
         table
+    }
+
+    /// The same table with a loading time of K slots.
+    pub fn with_loading(self, loading: u32) -> Table {
+        Table { loading, ..self }
     }
 
     /// Row number `row`, from 1 on (rule 1.3).
@@ -102,15 +117,16 @@ impl Table {
     }
 }
 
-/// The slots that this work takes at this speed, rounded up (rule 1.8). The
-/// speed is at least 1 work unit per slot.
-pub fn need(work: u32, speed: u32) -> u32 {
-    work.div_ceil(speed)
+/// The need of a row at a speed, in slots: those in which it loads, and those
+/// that its work takes, rounded up (rule 1.8). The speed is at least 1 work unit
+/// per slot.
+pub fn need(table: &Table, row: u8, speed: u32) -> u32 {
+    table.loading + table.row(row).work.div_ceil(speed)
 }
 
 /// The allowance of a LO row in slots: its need at N (rule 1.9).
 pub fn allowance(table: &Table, row: u8) -> u32 {
-    need(table.row(row).work, table.normal)
+    need(table, row, table.normal)
 }
 
 /// Check 3 refuses any other count (rule 5.1).
@@ -121,6 +137,11 @@ pub fn count_is_within_limit(n: u32) -> bool {
 /// In work units per slot; check 4 refuses all other speeds (rule 5.2).
 pub fn speeds_are_within_limits(normal: u32, degraded: u32) -> bool {
     (1..=MOST_SPEED).contains(&normal) && (1..=normal).contains(&degraded)
+}
+
+/// In slots; check 11 refuses any longer loading time (rule 5.8).
+pub fn loading_is_within_limit(loading: u32) -> bool {
+    loading <= MOST_LOADING
 }
 
 /// Check 5 refuses any other row (rule 5.3).
@@ -136,7 +157,7 @@ pub fn row_is_zero(row: &Row) -> bool {
     row.release == 0 && row.work == 0 && row.deadline == 0 && row.level == 0
 }
 
-/// Checks 3, 4 and 5 in this order on a table with any values: 0 if it is
+/// Checks 3, 4, 11 and 5 in this order on a table with any values: 0 if it is
 /// accepted (rule 5.5), else the number of the first refusal (rule 11.3).
 pub fn check_table(table: &Table) -> u32 {
     if !count_is_within_limit(table.n) {
@@ -144,6 +165,9 @@ pub fn check_table(table: &Table) -> u32 {
     }
     if !speeds_are_within_limits(table.normal, table.degraded) {
         return 4;
+    }
+    if !loading_is_within_limit(table.loading) {
+        return 11;
     }
     for index in 0..ROWS {
         let row = table.row_at(index);

@@ -1,18 +1,23 @@
-//! The cases that must hold, starred and also run (section 13 of the rules).
+//! The cases that must hold, starred and also run (section 13 of the rules). In
+//! the starred ones no job loads; after them come cases in which jobs do.
 
 mod common;
 
 use common::refused_verdict;
 use model::calls::LAST_CLOCK;
-use model::cases::{no_order, ordered, p1, p2, p3, p4, row, table, P1_TEXT};
+use model::cases::{
+    at_loading, at_loading_planned, loading_runs, no_order, ordered, p1, p2, p3, p4, row, table,
+    P1_TEXT,
+};
 use model::judge::{judge, judge_table, Verdict};
 use model::order::{order_of, NO_ORDER};
-use model::plan::{passes_lowest, plan, slack, Plan};
+use model::plain;
+use model::plan::{passes_lowest, plan, slack, worst_finish, Plan};
 use model::program::planning_program;
 use model::record::Record;
-use model::run::run;
+use model::run::{run, step, State};
 use model::sheet::{read_sheet, sheet_of, write_sheet};
-use model::table::{Row, Table};
+use model::table::{allowance, need, Row, Table, MOST_LOADING};
 
 #[test]
 fn p1_order_and_slacks() {
@@ -90,6 +95,67 @@ fn p8_normal_run_of_p3() {
     assert_eq!(state.got[..2], [2, 4]);
 }
 
+/// P1 to P8 as above have a loading time of 0 slots.
+#[test]
+fn the_starred_cases_do_not_load() {
+    for table in [p1(), p2(), p3(), p4(), table(3, 1, &[[0, 3, 1, 0]])] {
+        assert_eq!(table.loading, 0);
+    }
+}
+
+/// Each slot's row, what it brought and what it closed (rules 1.9, 1.10, 2.14).
+#[test]
+fn runs_that_load() {
+    for case in loading_runs() {
+        let what = case.what;
+        let mut state = State::FRESH;
+        let step_with = |supply: &u32| step(&case.table, &case.order, &mut state, *supply);
+        let rows: Vec<u8> = case.supplies.iter().map(step_with).collect();
+        assert_eq!(rows, case.rows, "{what}");
+        let entries = |index: usize| [state.got[index], state.used[index], state.closing[index]];
+        let ends: Vec<[u32; 3]> = (0..case.table.n as usize).map(entries).collect();
+        assert_eq!(ends, case.ends, "{what}");
+        let (number, fresh) = Record::fresh(&case.table, &case.order);
+        let worked = fresh.forward(&case.supplies);
+        assert_eq!((number, worked.number), (0, 0), "{what}");
+        assert_eq!(worked.record.state(), state, "{what}");
+        let mut by_plain = fresh;
+        plain::forward(&mut by_plain, &case.supplies);
+        assert_eq!(by_plain, worked.record, "{what}");
+    }
+}
+
+#[test]
+fn an_order_with_1_slot_of_loading_and_none_with_2() {
+    for (loading, answer) in (0..).zip(at_loading_planned()) {
+        assert_eq!(plan(&at_loading(loading)), answer, "K {loading}");
+        assert_eq!(plain::plan(&at_loading(loading)), answer, "K {loading}");
+    }
+    let order = order_of(&[1, 2]);
+    let slacks = |loading| [1, 2].map(|row| slack(&at_loading(loading), &order, row));
+    assert_eq!([slacks(0), slacks(1), slacks(2)], [[2, 3], [1, 1], [0, -1]]);
+    for loading in 2..=MOST_LOADING {
+        assert_eq!(plan(&at_loading(loading)), no_order(0b11), "K {loading}");
+    }
+}
+
+/// K counts in each need by itself, LO and HI, at N and at G (rules 1.8, 1.9).
+#[test]
+fn every_need_grows_by_the_loading_time() {
+    for loading in 0..=MOST_LOADING {
+        let table = p1().with_loading(loading);
+        let needs = |speed| [1, 2, 3, 4].map(|row| need(&table, row, speed) - loading);
+        assert_eq!(needs(5), [4, 3, 3, 1], "K {loading}");
+        assert_eq!(needs(2), [10, 8, 6, 3], "K {loading}");
+        let allowances = [2, 4].map(|row| allowance(&table, row));
+        assert_eq!(allowances, [loading + 3, loading + 1]);
+        // The lowest row, LO, waits for three needs at N and has its own.
+        let finish = worst_finish(&table, &order_of(&[1, 2, 3, 4]), 4);
+        let without = if loading == 0 { 5 } else { 11 };
+        assert_eq!(finish, without + 4 * loading, "K {loading}");
+    }
+}
+
 /// A table of n rows, each with work 1 and the same latest deadline n.
 fn rows_of_one_slot(n: usize) -> Vec<Row> {
     vec![row([0, 1, n as u32, 0]); n]
@@ -97,7 +163,7 @@ fn rows_of_one_slot(n: usize) -> Vec<Row> {
 
 #[test]
 fn sixty_four_rows_are_planned() {
-    let full = Table::of(1, 1, &rows_of_one_slot(64));
+    let full = Table::of(1, 1, 0, &rows_of_one_slot(64));
     let answer = plan(&full);
     assert_eq!(answer.number, 0);
     // Equal deadlines: the lower row takes the lower place.
@@ -115,11 +181,11 @@ fn sixty_four_rows_are_planned() {
 #[test]
 fn sixty_five_rows_are_refused() {
     let rows = rows_of_one_slot(65);
-    let sheet = write_sheet(65, 1, 1, &rows);
+    let sheet = write_sheet(65, 1, 1, 0, &rows);
     assert_eq!(read_sheet(&sheet), (3, Table::ZERO));
     assert_eq!(planning_program(&sheet), b"       3       0\n");
-    assert_eq!(judge(1, 1, &rows, &NO_ORDER), refused_verdict(3));
-    assert_eq!(judge(1, 1, &[], &NO_ORDER), refused_verdict(3));
+    assert_eq!(judge(1, 1, 0, &rows, &NO_ORDER), refused_verdict(3));
+    assert_eq!(judge(1, 1, 0, &[], &NO_ORDER), refused_verdict(3));
 }
 
 #[test]
@@ -146,11 +212,14 @@ fn deadline_one_million_and_one_more() {
 #[test]
 fn the_least_slack_there_is() {
     // 64 rows of 1,000,000 slots each, all released in slot 999,999: the lowest
-    // finishes at 64,999,999, which is 63,999,999 slots late.
+    // finishes at 64,999,999, which is 63,999,999 slots late. With 16 slots of
+    // loading it finishes 64 × 16 slots later.
     let rows = vec![row([999_999, 1_000_000, 1_000_000, 1]); 64];
-    let full = Table::of(1, 1, &rows);
     let order: Vec<u8> = (1..=64).collect();
-    assert_eq!(slack(&full, &order_of(&order), 64), -63_999_999);
+    for (loading, least) in [(0, -63_999_999), (16, -64_001_023)] {
+        let full = Table::of(1, 1, loading, &rows);
+        assert_eq!(slack(&full, &order_of(&order), 64), least);
+    }
 }
 
 #[test]

@@ -3,7 +3,7 @@
 
 mod common;
 
-use common::all_rows;
+use common::{all_rows, Loadings};
 use model::order::orders;
 use model::plan::worst_finish;
 use model::random::{table_of_rows_in, Random, Ranges};
@@ -21,8 +21,10 @@ const RANGES: Ranges = Ranges {
 fn worst_finish_depends_on_the_set_above_only() {
     let mut random = Random::seeded(31);
     let (mut compared, mut differ_by_set) = (0u32, 0u32);
+    let mut loadings = Loadings::default();
     for round in 0..1_200 {
         let table = table_of_rows_in(&mut random, 2 + round % 4, RANGES);
+        loadings.saw(&table);
         // Finish by row and rows above it, for all arrangements of all rows.
         let mut finishes: HashMap<(u8, Vec<u8>), u32> = HashMap::new();
         for order in orders(table.n) {
@@ -50,6 +52,7 @@ fn worst_finish_depends_on_the_set_above_only() {
     }
     println!("{compared} equal finishes, {differ_by_set} rows finish later under some set");
     assert!(compared > 100_000 && differ_by_set > 2_000);
+    loadings.assert_all(20);
 }
 
 #[test]

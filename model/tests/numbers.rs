@@ -4,15 +4,17 @@
 
 mod common;
 
-use common::refused_verdict;
+use common::{refused_verdict, rubbish, TOO_LONG};
 use model::cases::{p1, p3, table};
-use model::judge::judge_table;
+use model::judge::{judge, judge_table};
 use model::order::{check_order, order_of, NO_ORDER};
-use model::plan::plan;
+use model::plain;
+use model::plan::{plan, Plan};
 use model::program::planning_program;
 use model::record::Record;
+use model::report::{report, LONGEST_REPORT};
 use model::sheet::{read_sheet, sheet_of, write_back, write_sheet};
-use model::table::{check_table, Table};
+use model::table::{check_table, Table, MOST_LOADING};
 
 #[test]
 fn number_1_no_bytes() {
@@ -58,17 +60,51 @@ fn number_4_degraded_above_normal() {
     assert_eq!(check_table(&fastest), 0);
 }
 
-/// The reader's number for the sheet of this table, speeds cut to eight digits.
+/// The sheet of this table, its speeds and loading time cut to eight digits.
+fn cut_sheet(table: &Table) -> Vec<u8> {
+    let figures = [table.normal, table.degraded, table.loading];
+    let [normal, degraded, loading] = figures.map(|figure| figure.min(99_999_999));
+    write_sheet(table.n, normal, degraded, loading, &table.rows())
+}
+
+/// The reader's number for such a sheet; a refusal comes with a table of zeros.
 fn read_sheet_number(table: &Table) -> u32 {
-    let cut = |speed: u32| speed.min(99_999_999);
-    let rows = table.rows();
-    read_sheet(&write_sheet(
-        table.n,
-        cut(table.normal),
-        cut(table.degraded),
-        &rows,
-    ))
-    .0
+    let (number, read) = read_sheet(&cut_sheet(table));
+    assert!(number == 0 || read == Table::ZERO);
+    number
+}
+
+/// Every call that takes a table answers 11 as it answers 5: with zeros, and with
+/// lent bytes as they were (rule 10.11).
+#[test]
+fn number_11_loading_of_17_slots() {
+    let order = order_of(&[1, 2, 3, 4]);
+    let refused = Plan {
+        number: 11,
+        order: NO_ORDER,
+        left: 0,
+    };
+    for loading in TOO_LONG {
+        let long = p1().with_loading(loading);
+        assert_eq!(check_table(&long), 11, "K {loading}");
+        assert_eq!(read_sheet_number(&long), 11);
+        assert_eq!(planning_program(&cut_sheet(&long)), b"      11       0\n");
+        assert_eq!((plan(&long), plain::plan(&long)), (refused, refused));
+        assert_eq!(judge_table(&long, &order), refused_verdict(11));
+        let listed = judge(5, 2, loading, &long.rows(), &order);
+        assert_eq!(listed, refused_verdict(11));
+        assert_eq!(plain::finishes(&long, &order), (11, [0; 64]));
+        assert_eq!(Record::fresh(&long, &order), (11, Record::ZERO));
+        assert_eq!(refused_writing(&long, 3_000), (11, 0));
+        let mut lent = rubbish(LONGEST_REPORT);
+        assert_eq!(report(&long, &order, &mut lent), (11, 0));
+        assert_eq!(lent, rubbish(LONGEST_REPORT));
+    }
+    for loading in 0..=MOST_LOADING {
+        let fine = p1().with_loading(loading);
+        assert_eq!(check_table(&fine), 0, "K {loading}");
+        assert_eq!(read_sheet(&sheet_of(&fine)), (0, fine));
+    }
 }
 
 #[test]
@@ -178,44 +214,46 @@ fn refused_writing(table: &Table, room: usize) -> (u32, u32) {
 
 #[test]
 fn number_10_a_byte_less_than_the_sheet() {
-    for room in [0, 1, 25, 156] {
+    for room in [0, 1, 33, 157, 164] {
         assert_eq!(refused_writing(&p1(), room), (10, 0), "{room} bytes");
     }
-    let mut lent = [165; 158];
-    assert_eq!(write_back(&p1(), &mut lent[..157]), (0, 157));
-    assert_eq!((&lent[..157], lent[157]), (&sheet_of(&p1())[..], 165));
-    assert_eq!(write_back(&p1(), &mut lent), (0, 157));
-    assert_eq!((&lent[..157], lent[157]), (&sheet_of(&p1())[..], 165));
+    let mut lent = [165; 166];
+    assert_eq!(write_back(&p1(), &mut lent[..165]), (0, 165));
+    assert_eq!((&lent[..165], lent[165]), (&sheet_of(&p1())[..], 165));
+    assert_eq!(write_back(&p1(), &mut lent), (0, 165));
+    assert_eq!((&lent[..165], lent[165]), (&sheet_of(&p1())[..], 165));
 }
 
-/// 3, 4 and 5 come before 10, however few the lent bytes (rule 11.6).
+/// 3, 4, 11 and 5 come before 10, however few the lent bytes (rule 11.6).
 #[test]
 fn checks_of_the_writer_come_in_their_order() {
     let mut wrong = Table {
         n: 0,
         normal: 0,
-        ..table(1, 1, &[[4, 1, 4, 0]])
+        ..table(1, 1, &[[4, 1, 4, 0]]).with_loading(17)
     };
-    for room in [0, 57, 58, 3_000] {
+    for room in [0, 65, 66, 3_000] {
         for n in [0, 65, u32::MAX] {
             wrong.n = n;
             assert_eq!(refused_writing(&wrong, room), (3, 0), "n {n}");
         }
         let counted = Table { n: 1, ..wrong };
         assert_eq!(refused_writing(&counted, room), (4, 0));
-        let mut paced = Table {
+        let paced = Table {
             normal: 1,
             ..counted
         };
-        assert_eq!(refused_writing(&paced, room), (5, 0));
-        paced.deadline[0] = 5;
-        let mut behind = paced;
+        assert_eq!(refused_writing(&paced, room), (11, 0));
+        let mut loads = paced.with_loading(16);
+        assert_eq!(refused_writing(&loads, room), (5, 0));
+        loads.deadline[0] = 5;
+        let mut behind = loads;
         behind.level[63] = 1;
         assert_eq!(refused_writing(&behind, room), (5, 0));
-        if room < 58 {
-            assert_eq!(refused_writing(&paced, room), (10, 0));
+        if room < 66 {
+            assert_eq!(refused_writing(&loads, room), (10, 0));
         } else {
-            assert_eq!(write_back(&paced, &mut vec![165; room]), (0, 58));
+            assert_eq!(write_back(&loads, &mut vec![165; room]), (0, 66));
         }
     }
 }
@@ -225,7 +263,7 @@ fn checks_on_a_table_come_in_their_order() {
     let wrong = Table {
         n: 65,
         normal: 0,
-        ..table(1, 1, &[[4, 1, 4, 0]])
+        ..table(1, 1, &[[4, 1, 4, 0]]).with_loading(u32::MAX)
     };
     let order = order_of(&[1, 1]);
     assert_eq!(judge_table(&wrong, &order).number, 3);
@@ -235,8 +273,9 @@ fn checks_on_a_table_come_in_their_order() {
         normal: 1,
         ..counted
     };
-    assert_eq!(judge_table(&paced, &order).number, 5);
-    let mut limited = paced;
+    assert_eq!(judge_table(&paced, &order).number, 11);
+    let mut limited = paced.with_loading(16);
+    assert_eq!(judge_table(&limited, &order).number, 5);
     limited.deadline[0] = 5;
     assert_eq!(judge_table(&limited, &order).number, 6);
     assert_eq!(judge_table(&limited, &order_of(&[1])).number, 0);

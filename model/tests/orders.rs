@@ -2,14 +2,15 @@
 
 mod common;
 
-use common::{all_rows, rows_at_level, rows_in_word, SMALL};
+use common::{all_rows, rows_at_level, rows_in_word, Loadings, SMALL};
 use model::judge::{judge, judge_table};
 use model::order::{check_order, orders, Order, NO_ORDER};
 use model::plan::{passes_lowest, plan, slack};
 use model::random::{table_in, Random, Ranges};
-use model::run::{kept_deadline, run};
+use model::run::{kept_deadline, run, step, State};
 use model::sheet::{sheet_of, write_line};
 use model::table::{Table, HI};
+use std::collections::HashSet;
 
 const TINY: Ranges = Ranges {
     rows: 3,
@@ -38,19 +39,26 @@ fn horizon(table: &Table) -> usize {
     table.deadline.iter().copied().max().unwrap() as usize
 }
 
-/// Every course of speed over so many slots with supplies from `least` to
-/// `most`, in work units per slot.
-fn courses(slots: usize, least: u32, most: u32) -> Vec<Vec<u32>> {
-    let mut all = vec![Vec::new()];
-    for _ in 0..slots {
-        all = all
-            .iter()
-            .flat_map(|course: &Vec<u32>| {
-                (least..=most).map(move |supply| [course.as_slice(), &[supply]].concat())
-            })
-            .collect();
+/// Every state that a run has at the latest deadline under some course of speed,
+/// with supplies from `least` to `most`, in work units per slot. Courses that
+/// have come to the same state go on together.
+fn states_after_every_course(
+    table: &Table,
+    order: &Order,
+    least: u32,
+    most: u32,
+) -> HashSet<State> {
+    let mut states = HashSet::from([State::FRESH]);
+    for _ in 0..horizon(table) {
+        let stepped = |state: &State, supply| {
+            let mut after = *state;
+            step(table, order, &mut after, supply);
+            after
+        };
+        let after = |state| (least..=most).map(move |supply| stepped(state, supply));
+        states = states.iter().flat_map(after).collect();
     }
-    all
+    states
 }
 
 /// Judged by the definition (rules 3.2 to 3.4): every course that stays at N or
@@ -60,9 +68,9 @@ fn courses(slots: usize, least: u32, most: u32) -> Vec<Vec<u32>> {
 fn correct_by_every_course(table: &Table, order: &Order) -> bool {
     let largest = table.work.iter().copied().max().unwrap();
     let kept = |least: u32, rows: &[u8]| {
-        courses(horizon(table), least, largest.max(least))
-            .iter()
-            .all(|course| all_kept(table, order, course, rows))
+        let states = states_after_every_course(table, order, least, largest.max(least));
+        let keeps = |state| rows.iter().all(|&row| kept_deadline(table, state, row));
+        states.iter().all(keeps)
     };
     kept(table.normal, &all_rows(table)) && kept(table.degraded, &rows_at_level(table, HI))
 }
@@ -101,6 +109,7 @@ fn survives_random_courses(table: &Table, order: &Order, random: &mut Random) ->
 fn an_order_is_answered_exactly_if_a_correct_one_exists() {
     let mut random = Random::seeded(21);
     let mut answered = [[0u32; 2]; 6];
+    let mut by_answer = [(); 2].map(|()| Loadings::default());
     for _ in 0..40_000 {
         let table = table_in(&mut random, SMALL);
         let answer = plan(&table);
@@ -122,9 +131,14 @@ fn an_order_is_answered_exactly_if_a_correct_one_exists() {
             }
             number => panic!("{number} for {table:?}"),
         }
-        answered[table.n as usize][usize::from(answer.number == 7)] += 1;
+        let none = usize::from(answer.number == 7);
+        answered[table.n as usize][none] += 1;
+        by_answer[none].saw(&table);
     }
     println!("answers 0 and 7 by row count: {answered:?}");
+    for loadings in &by_answer {
+        loadings.assert_all(200);
+    }
     for by_count in &answered[1..] {
         assert!(
             by_count[0] >= 700 && by_count[1] >= 700,
@@ -149,8 +163,10 @@ fn no_row_left_passes(table: &Table, left: &[u8]) {
 fn slacks_judge_as_every_course_of_speed_does() {
     let mut random = Random::seeded(22);
     let (mut correct, mut incorrect, mut without) = (0, 0, 0);
+    let mut loadings = Loadings::default();
     for _ in 0..9_000 {
         let table = table_in(&mut random, TINY);
+        loadings.saw(&table);
         let mut exists = false;
         for order in orders(table.n) {
             let by_slacks = correct_by_slacks(&table, &order);
@@ -168,14 +184,17 @@ fn slacks_judge_as_every_course_of_speed_does() {
     }
     println!("{correct} correct orders, {incorrect} others; {without} tables have none");
     assert!(correct > 3_000 && incorrect > 3_000 && (2_000..7_000).contains(&without));
+    loadings.assert_all(200);
 }
 
 #[test]
 fn slacks_judge_as_random_courses_of_speed_do() {
     let mut random = Random::seeded(23);
     let (mut correct, mut incorrect) = (0, 0);
+    let mut loadings = Loadings::default();
     for _ in 0..10_000 {
         let table = table_in(&mut random, SMALL);
+        loadings.saw(&table);
         let all = orders(table.n);
         for order in [random.one_of(&all), plan(&table).order] {
             if order == NO_ORDER {
@@ -193,16 +212,20 @@ fn slacks_judge_as_random_courses_of_speed_do() {
     }
     println!("{correct} correct orders, {incorrect} others");
     assert!(correct > 2_000 && incorrect > 2_000);
+    loadings.assert_all(200);
 }
 
 #[test]
 fn the_judge_answers_from_the_slacks_of_all_rows() {
     let mut random = Random::seeded(24);
     let (mut yes, mut no, mut ties) = (0, 0, 0);
-    for _ in 0..2_000 {
+    let mut loadings = Loadings::default();
+    for _ in 0..4_000 {
         let table = table_in(&mut random, SMALL);
+        loadings.saw(&table);
         let order = random.one_of(&orders(table.n));
-        let verdict = judge(table.normal, table.degraded, &table.rows(), &order);
+        let (normal, degraded) = (table.normal, table.degraded);
+        let verdict = judge(normal, degraded, table.loading, &table.rows(), &order);
         let slacks: Vec<i64> = all_rows(&table)
             .into_iter()
             .map(|row| slack(&table, &order, row))
@@ -217,14 +240,17 @@ fn the_judge_answers_from_the_slacks_of_all_rows() {
         ties += u32::from(holders.len() > 1);
     }
     assert!(yes > 200 && no > 200 && ties > 100, "{yes} {no} {ties}");
+    loadings.assert_all(80);
 }
 
 #[test]
 fn the_program_writes_what_the_planner_answers() {
     let mut random = Random::seeded(25);
     let mut seen = [0; 2];
-    for _ in 0..500 {
+    let mut loadings = Loadings::default();
+    for _ in 0..2_000 {
         let table = table_in(&mut random, SMALL);
+        loadings.saw(&table);
         let answer = plan(&table);
         let output = model::program::planning_program(&sheet_of(&table));
         let mut expected;
@@ -242,5 +268,6 @@ fn the_program_writes_what_the_planner_answers() {
         assert_eq!(output, expected);
         seen[usize::from(answer.number == 7)] += 1;
     }
-    assert!(seen[0] > 100 && seen[1] > 100, "{seen:?}");
+    assert!(seen[0] > 400 && seen[1] > 400, "{seen:?}");
+    loadings.assert_all(20);
 }

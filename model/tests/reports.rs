@@ -4,15 +4,15 @@
 
 mod common;
 
-use common::{rubbish, table_and_order, SMALL};
+use common::{rubbish, table_and_order, Loadings, SMALL};
 use model::cases::{p1, p3, reports, table};
 use model::judge::judge_table;
 use model::order::{order_of, orders, Order, NO_ORDER};
 use model::plain;
 use model::plan::{plan, slack, worst_finish};
-use model::random::{table_in, table_of_rows_in, Random, Ranges};
+use model::random::{loading_table_in, table_in, table_of_rows_in, Random, Ranges};
 use model::report::{figure, report, report_of, LONGEST_REPORT};
-use model::table::{need, Table, ROWS};
+use model::table::{Table, ROWS};
 
 /// Right-justified in ten columns, as Rust's own formatting has it; a column is
 /// left before every number of up to eight digits (rule 16.11).
@@ -23,7 +23,7 @@ fn a_figure_is_what_formatting_gives() {
         [ten - 1, ten, ten + 1, 9 * ten + 9]
     });
     let spread = (0..100_000_000).step_by(9_973);
-    let last = [63_999_999, 64_999_999, 99_999_999];
+    let last = [64_001_023, 65_001_023, 99_999_999];
     for size in (0..200_000).chain(near_powers).chain(spread).chain(last) {
         for value in [size, -size] {
             let written = figure(value);
@@ -56,18 +56,24 @@ fn numbers_of(report: &[u8]) -> (Vec<Vec<i64>>, Vec<i64>) {
     (lines, last)
 }
 
+/// The slots in which a row loads, and those that its work takes at N (rule 1.8).
+fn need_at_normal(table: &Table, row: u8) -> i64 {
+    let (work, normal) = (table.row(row).work, table.normal);
+    i64::from(table.loading) + i64::from(work.div_ceil(normal))
+}
+
 /// The line of a place says what rule 16.2 asks for.
 fn assert_places(table: &Table, order: &Order, lines: &[Vec<i64>]) {
     assert_eq!(lines.len(), table.n as usize);
     for (index, line) in lines.iter().enumerate() {
         let row = order[index];
         let finish = worst_finish(table, order, row);
-        let at_normal = need(table.row(row).work, table.normal);
+        let at_normal = need_at_normal(table, row);
         let [place, row_of_line, need, finish_of_line, slack_of_line] = line[..] else {
             panic!("{line:?} has not five figures");
         };
         assert_eq!((place, row_of_line), (index as i64 + 1, i64::from(row)));
-        assert_eq!((need, finish_of_line), (at_normal.into(), finish.into()));
+        assert_eq!((need, finish_of_line), (at_normal, finish.into()));
         let deadline = i64::from(table.row(row).deadline);
         assert_eq!(slack_of_line, deadline - i64::from(finish));
     }
@@ -79,10 +85,9 @@ fn assert_totals(table: &Table, order: &Order, lines: &[Vec<i64>], last: &[i64])
         lines.iter().map(|line| line[2]).sum(),
         lines.iter().filter(|line| line[4] < 0).count() as i64,
     ];
-    let of_rows = table.rows().into_iter().map(|row| row.work);
     let rows = 1..=table.n as u8;
     let over_rows = [
-        of_rows.map(|work| need(work, table.normal) as i64).sum(),
+        rows.clone().map(|row| need_at_normal(table, row)).sum(),
         rows.filter(|&row| slack(table, order, row) < 0).count() as i64,
     ];
     assert_eq!(last, over_lines, "{table:?} {order:?}");
@@ -105,8 +110,10 @@ fn assert_judged(table: &Table, order: &Order, lines: &[Vec<i64>], last: &[i64])
 fn lines_and_totals_are_those_of_the_rows_and_of_the_judge() {
     let mut random = Random::seeded(41);
     let mut by_late = [0; 6];
+    let mut loadings = Loadings::default();
     for _ in 0..20_000 {
         let (table, order) = table_and_order(&mut random);
+        loadings.saw(&table);
         let (lines, last) = numbers_of(&report_of(&table, &order));
         assert_places(&table, &order, &lines);
         assert_totals(&table, &order, &lines, &last);
@@ -115,6 +122,7 @@ fn lines_and_totals_are_those_of_the_rows_and_of_the_judge() {
     }
     println!("tables by rows late: {by_late:?}");
     assert!(by_late.iter().all(|&times| times > 20), "{by_late:?}");
+    loadings.assert_all(400);
 }
 
 /// A planned order has no row that is late (rule 16.10).
@@ -158,16 +166,15 @@ fn compare_over(table: &Table, order: &Order, before: &[u8]) -> (u32, u32) {
     answers[0]
 }
 
-/// A table of n rows of up to two slots each.
-fn short_rows(random: &mut Random, n: u32) -> Table {
-    let ranges = Ranges {
+/// Ranges of tables of n rows, each with work for up to two slots.
+fn short_rows(n: u32) -> Ranges {
+    Ranges {
         rows: n,
         speed: 5,
         release: n,
         need: 2,
         window: n,
-    };
-    table_of_rows_in(random, n, ranges)
+    }
 }
 
 /// The rows of a table of n rows from the last up.
@@ -181,8 +188,8 @@ fn upwards(n: u32) -> Order {
 #[test]
 fn lent_bytes_of_every_length() {
     let mut random = Random::seeded(43);
-    for n in [1, 2, 17, 64] {
-        let table = short_rows(&mut random, n);
+    for (n, loading) in [(1, 16), (2, 3), (17, 1), (64, 0)] {
+        let table = loading_table_in(&mut random, n, loading, short_rows(n));
         let length = 51 * n as usize + 21;
         assert_eq!(report_of(&table, &upwards(n)).len(), length);
         for room in 0..=LONGEST_REPORT + 15 {
@@ -195,24 +202,26 @@ fn lent_bytes_of_every_length() {
     assert_eq!(LONGEST_REPORT, 3_285);
 }
 
-/// 3, 4, 5 and 6 come before 10, however few the lent bytes (rule 11.7).
+/// 3, 4, 11, 5 and 6 come before 10, however few the lent bytes (rule 11.7).
 #[test]
 fn checks_of_the_report_come_in_their_order() {
     let enough = 2 * 51 + 21;
     for room in [0, 1, enough - 1, enough, 4_000] {
         let number = |table: &Table, order: &Order| compare_over(table, order, &rubbish(room)).0;
         let twice = order_of(&[1, 1]);
-        let mut wrong = table(0, 1, &[[0, 1, 1, 0], [4, 1, 4, 0]]);
+        let mut wrong = table(0, 1, &[[0, 1, 1, 0], [4, 1, 4, 0]]).with_loading(17);
         for n in [0, 65, u32::MAX] {
             wrong.n = n;
             assert_eq!(number(&wrong, &twice), 3, "n {n}, {room} bytes");
         }
         let counted = Table { n: 2, ..wrong };
         assert_eq!(number(&counted, &twice), 4, "{room} bytes");
-        let mut limited = Table {
+        let paced = Table {
             normal: 1,
             ..counted
         };
+        assert_eq!(number(&paced, &twice), 11, "{room} bytes");
+        let mut limited = paced.with_loading(16);
         assert_eq!(number(&limited, &twice), 5, "{room} bytes");
         limited.deadline[1] = 5;
         limited.level[63] = 1;
@@ -254,27 +263,32 @@ fn over_other_reports_and_other_bytes() {
 }
 
 /// The plain report on up to 64 rows, of which most are late, and on works that
-/// run to 2,000,000 slots.
+/// run to 2,000,000 slots and load before.
 #[test]
 fn the_plain_report_on_many_rows_and_on_long_works() {
     let mut random = Random::seeded(45);
     let most: Vec<u8> = (1..=ROWS as u8).collect();
-    for round in 0..300 {
+    let mut loadings = Loadings::default();
+    for round in 0..600 {
         let n = 1 + round % 64;
-        let table = short_rows(&mut random, n);
+        let table = table_of_rows_in(&mut random, n, short_rows(n));
+        loadings.saw(&table);
         let order = order_of(&random.shuffled(&most[..n as usize]));
         let length = 51 * n + 21;
         let answer = compare_over(&table, &order, &rubbish(LONGEST_REPORT));
         assert_eq!(answer, (0, length), "{table:?} {order:?}");
     }
-    for level in [0, 1] {
-        let long = table(1, 1, &[[0, 1_000_000, 1, level], [0, 1_000_000, 1, 1]]);
+    loadings.assert_all(10);
+    for (level, loading) in [(0, 0), (1, 0), (0, 16), (1, 16)] {
+        let rows = [[0, 1_000_000, 1, level], [0, 1_000_000, 1, 1]];
+        let long = table(1, 1, &rows).with_loading(loading);
+        let finish = 2_000_000 + 2 * i64::from(loading);
         for order in orders(2) {
             let answer = compare_over(&long, &order, &rubbish(123));
             assert_eq!(answer, (0, 123), "{order:?}");
             let (lines, last) = numbers_of(&report_of(&long, &order));
-            assert_eq!(lines[1][3..], [2_000_000, -1_999_999]);
-            assert_eq!(last, [2_000_000, 2]);
+            assert_eq!(lines[1][3..], [finish, 1 - finish]);
+            assert_eq!(last, [finish, 2]);
         }
     }
 }

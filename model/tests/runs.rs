@@ -3,7 +3,7 @@
 
 mod common;
 
-use common::{all_rows, fresh, supplies, table_and_order, SMALL};
+use common::{all_rows, fresh, slots_with_loading, supplies, table_and_order, Loadings, SMALL};
 use model::calls::{play_on_paper, Answer, Call, LAST_CLOCK};
 use model::cases::{p1, p3, table};
 use model::order::order_of;
@@ -11,7 +11,7 @@ use model::plan::plan;
 use model::random::{table_in, Random};
 use model::record::Record;
 use model::run::{chosen, kept_deadline, run, step, State};
-use model::table::{allowance, HI};
+use model::table::{allowance, HI, MOST_LOADING};
 
 /// These supplies cut into calls, some of them forward over an empty list.
 fn calls_for(random: &mut Random, supplies: &[u32]) -> Vec<Call> {
@@ -34,9 +34,12 @@ fn calls_for(random: &mut Random, supplies: &[u32]) -> Vec<Call> {
 fn calls_on_a_record_answer_as_on_paper() {
     let mut random = Random::seeded(41);
     let mut idle = 0;
+    let mut loadings = Loadings::default();
     for _ in 0..3_000 {
         let (table, order) = table_and_order(&mut random);
-        let count = random.between(0, 40);
+        loadings.saw(&table);
+        let most = slots_with_loading(&table, 40);
+        let count = random.between(0, most);
         let supplies = supplies(&mut random, count);
         let calls = calls_for(&mut random, &supplies);
         let (answers, record) = fresh(&table, &order).play(&calls);
@@ -49,6 +52,7 @@ fn calls_on_a_record_answer_as_on_paper() {
             .count();
     }
     assert!(idle > 1_000, "{idle} idle slots");
+    loadings.assert_all(40);
 }
 
 #[test]
@@ -56,13 +60,14 @@ fn splitting_the_list_changes_nothing() {
     let mut random = Random::seeded(42);
     for _ in 0..2_000 {
         let (table, order) = table_and_order(&mut random);
-        let supplies = supplies(&mut random, 30);
+        let slots = slots_with_loading(&table, 30);
+        let supplies = supplies(&mut random, slots);
         let record = fresh(&table, &order);
         let whole = record.forward(&supplies);
-        assert_eq!((whole.number, whole.worked), (0, 30));
+        assert_eq!((whole.number, whole.worked), (0, slots));
         assert_eq!(whole.record.state(), run(&table, &order, &supplies));
 
-        let cut = random.between(0, 30) as usize;
+        let cut = random.between(0, slots) as usize;
         let first = record.forward(&supplies[..cut]);
         let second = first.record.forward(&supplies[cut..]);
         assert_eq!(first.worked + second.worked, whole.worked);
@@ -99,10 +104,11 @@ fn splitting_the_list_at_the_last_clock() {
 #[test]
 fn the_row_is_the_same_for_every_supply_of_its_slot() {
     let mut random = Random::seeded(43);
-    let mut different = 0;
-    for _ in 0..4_000 {
+    let (mut different, mut loaded) = (0, 0);
+    for _ in 0..8_000 {
         let (table, order) = table_and_order(&mut random);
-        let length = random.between(0, 12);
+        let most = slots_with_loading(&table, 12);
+        let length = random.between(0, most);
         let before = run(&table, &order, &supplies(&mut random, length));
         let choice = chosen(&table, &order, &before);
         let mut after = Vec::new();
@@ -112,12 +118,55 @@ fn the_row_is_the_same_for_every_supply_of_its_slot() {
             assert_eq!(state.clock, before.clock + 1);
             after.push(state);
         }
-        different += u32::from(after.iter().any(|state| *state != after[0]));
+        let differs = after.iter().any(|state| *state != after[0]);
+        let loads = choice != 0 && before.used[choice as usize - 1] < table.loading;
+        // An idle slot and one that loads bring nothing, whatever they supply.
+        assert_eq!(differs, choice != 0 && !loads, "{table:?} {order:?}");
+        different += u32::from(differs);
+        loaded += u32::from(loads);
     }
     assert!(
-        different > 1_000,
-        "the supply of a slot changed what it brought only {different} times"
+        different > 1_000 && loaded > 1_000,
+        "{different} slots brought work and {loaded} loaded"
     );
+}
+
+/// The first K slots that a row runs bring it no work, however they lie in the
+/// run, and every later one brings its supply (rules 1.10 and 2.14).
+#[test]
+fn the_first_slots_that_a_row_runs_load_it() {
+    let mut random = Random::seeded(48);
+    let mut loadings = Loadings::default();
+    let (mut broken_off, mut worked) = (0, 0);
+    for _ in 0..4_000 {
+        let (table, order) = table_and_order(&mut random);
+        loadings.saw(&table);
+        let slots = slots_with_loading(&table, 30);
+        let mut state = State::FRESH;
+        let mut slots_run = [0; 64];
+        let mut last = 0;
+        for supply in supplies(&mut random, slots) {
+            let before = state;
+            let row = step(&table, &order, &mut state, supply);
+            if row != 0 {
+                let index = row as usize - 1;
+                slots_run[index] += 1;
+                let missing = table.work[index] - before.got[index];
+                let loads = slots_run[index] <= table.loading;
+                let brought = if loads { 0 } else { supply.min(missing) };
+                assert_eq!(state.got[index] - before.got[index], brought);
+                assert_eq!(state.used[index], slots_run[index]);
+                broken_off += u32::from(loads && slots_run[index] > 1 && last != row);
+                worked += u32::from(brought > 0);
+            }
+            last = row;
+        }
+    }
+    assert!(
+        broken_off > 500 && worked > 5_000,
+        "{broken_off} came back while they loaded, {worked} slots brought work"
+    );
+    loadings.assert_all(60);
 }
 
 #[test]
@@ -126,8 +175,9 @@ fn a_slot_runs_the_first_ready_row_of_the_order() {
     let mut passed_over = 0;
     for _ in 0..3_000 {
         let (table, order) = table_and_order(&mut random);
+        let slots = slots_with_loading(&table, 30);
         let mut state = State::FRESH;
-        for supply in supplies(&mut random, 30) {
+        for supply in supplies(&mut random, slots) {
             let before = state;
             let run = step(&table, &order, &mut state, supply);
             let ready: Vec<u8> = order[..table.n as usize]
@@ -191,6 +241,30 @@ fn done_and_dropped() {
     assert_eq!((late_lo.got[0], late_lo.closing[0]), (5, 4));
 }
 
+/// The same LO row with each loading time: it uses K slots more and then gets
+/// what it got without loading.
+#[test]
+fn done_and_dropped_after_loading() {
+    let order = order_of(&[1]);
+    for loading in 0..=MOST_LOADING {
+        let lo = table(2, 1, &[[0, 5, 9, 0]]).with_loading(loading);
+        assert_eq!(allowance(&lo, 1), loading + 3);
+        let after_loading = |supplies: &[u32]| {
+            let loads = vec![9; loading as usize];
+            let state = run(&lo, &order, &[&loads, supplies].concat());
+            let closing = state.closing[0].saturating_sub(loading);
+            (state.got[0], state.used[0] - loading, closing)
+        };
+        assert_eq!(after_loading(&[]), (0, 0, 0), "loaded, K {loading}");
+        assert_eq!(after_loading(&[9]), (5, 1, 1), "done, K {loading}");
+        assert_eq!(after_loading(&[2, 2]), (4, 2, 0), "open, K {loading}");
+        assert_eq!(after_loading(&[2, 2, 1]), (5, 3, 3), "done, K {loading}");
+        let dropped = (4, 3, 3);
+        assert_eq!(after_loading(&[2, 2, 0]), dropped, "dropped, K {loading}");
+        assert_eq!(after_loading(&[2, 2, 0, 9]), dropped, "for good");
+    }
+}
+
 #[test]
 fn a_deadline_is_kept_by_work_got_and_closing_from_1_to_d() {
     // Row 1 of P3: work 2, deadline 2.
@@ -221,12 +295,15 @@ fn rows_left_out_of_the_table_stay_zero() {
 fn planned_rows_keep_their_deadlines_in_their_windows() {
     let mut random = Random::seeded(47);
     let (mut kept, mut lost) = ([0; 2], 0);
-    for _ in 0..8_000 {
+    let mut loadings = Loadings::default();
+    for _ in 0..12_000 {
         let table = table_in(&mut random, SMALL);
         let answer = plan(&table);
         if answer.number != 0 {
             continue;
         }
+        loadings.saw(&table);
+        let slots = slots_with_loading(&table, 30);
         let earliest = table.rows().iter().map(|job| job.release).min().unwrap();
         let watched = random.between(1, table.n) as u8;
         let job = table.row(watched);
@@ -235,7 +312,7 @@ fn planned_rows_keep_their_deadlines_in_their_windows() {
         } else {
             table.normal
         };
-        let course: Vec<u32> = (0..30)
+        let course: Vec<u32> = (0..slots)
             .map(|slot| match slot {
                 slot if slot < earliest || slot >= job.deadline => random.between(0, 9),
                 _ => least + random.one_of(&[0, 0, 0, 1, 5]),
@@ -243,7 +320,7 @@ fn planned_rows_keep_their_deadlines_in_their_windows() {
             .collect();
         let calls = calls_for(&mut random, &course);
         let (_, record) = fresh(&table, &answer.order).play(&calls);
-        assert_eq!(record.clock, 30);
+        assert_eq!(record.clock, slots);
         assert!(kept_deadline(&table, &record.state(), watched));
         kept[job.level as usize] += 1;
         lost += all_rows(&table)
@@ -255,4 +332,5 @@ fn planned_rows_keep_their_deadlines_in_their_windows() {
         kept[0] > 800 && kept[1] > 800 && lost > 200,
         "{kept:?} {lost}"
     );
+    loadings.assert_all(50);
 }

@@ -4,7 +4,7 @@
 
 mod common;
 
-use common::rubbish;
+use common::{rubbish, Loadings};
 use model::cases::{p1, p2, row, table};
 use model::program::{planning_program, KEPT};
 use model::random::{table_in, Random, Ranges};
@@ -12,7 +12,7 @@ use model::sheet::{
     read_field, read_sheet, sheet_of, write_back, write_field, write_line, write_sheet,
     LONGEST_SHEET,
 };
-use model::table::{check_table, Table};
+use model::table::{check_table, Table, MOST_LOADING};
 
 #[test]
 fn fields_of_the_rule() {
@@ -91,12 +91,15 @@ const WIDE: Ranges = Ranges {
 #[test]
 fn sheets_are_read_back_whole() {
     let mut random = Random::seeded(12);
-    for _ in 0..500 {
+    let mut loadings = Loadings::default();
+    for _ in 0..1_000 {
         let table = table_in(&mut random, WIDE);
         let sheet = sheet_of(&table);
-        assert_eq!(sheet.len(), 25 + 33 * table.n as usize);
+        assert_eq!(sheet.len(), 33 + 33 * table.n as usize);
         assert_eq!(read_sheet(&sheet), (0, table));
+        loadings.saw(&table);
     }
+    loadings.assert_all(10);
 }
 
 /// The number for a sheet; a refusal comes with a table of zeros.
@@ -121,35 +124,41 @@ fn sheet_checks_come_in_their_order() {
         sheet
     };
 
-    // Under 25 bytes comes before everything.
-    assert_eq!(number(&[b'x'; 24]), 1);
-    assert_eq!(number(&write_line(&[1, 1, 1])[..24]), 1);
-    // The first line comes before count, length, rows and speeds.
-    assert_eq!(number(&[b'x'; 25]), 2);
-    for place in [7, 15, 23, 24] {
-        let sheet = write_sheet(65, 0, 0, &[bad]);
+    // Under 33 bytes comes before everything.
+    assert_eq!(number(&[b'x'; 32]), 1);
+    assert_eq!(number(&write_line(&[1, 1, 1])), 1);
+    assert_eq!(number(&write_line(&[1, 1, 1, 0])[..32]), 1);
+    // The first line comes before count, length, rows, speeds and loading time.
+    assert_eq!(number(&[b'x'; 33]), 2);
+    for place in [7, 15, 23, 31, 32] {
+        let sheet = write_sheet(65, 0, 0, 17, &[bad]);
         assert_eq!(number(&spoil(sheet, place)), 2, "byte {place}");
     }
     // The count comes before the length.
-    assert_eq!(number(&write_sheet(65, 0, 0, &[])), 3);
-    assert_eq!(number(&write_sheet(0, 0, 0, &[])), 3);
-    assert_eq!(number(&write_sheet(99_999_999, 1, 1, &[good])), 3);
+    assert_eq!(number(&write_sheet(65, 0, 0, 17, &[])), 3);
+    assert_eq!(number(&write_sheet(0, 0, 0, 17, &[])), 3);
+    assert_eq!(number(&write_sheet(99_999_999, 1, 1, 0, &[good])), 3);
     // The length comes before the rows' fields and line ends.
-    assert_eq!(number(&spoil(write_sheet(2, 0, 0, &[bad]), 32)), 1);
+    assert_eq!(number(&spoil(write_sheet(2, 0, 0, 17, &[bad]), 40)), 1);
     assert_eq!(
-        number(&with(spoil(write_sheet(1, 0, 0, &[bad]), 32), b"\n")),
+        number(&with(spoil(write_sheet(1, 0, 0, 17, &[bad]), 40), b"\n")),
         1
     );
     // The rows' fields and line ends come before the speeds.
-    for place in [25 + 7, 25 + 15, 25 + 23, 25 + 31, 25 + 32, 25 + 33 + 32] {
-        let sheet = write_sheet(2, 0, 0, &[bad, bad]);
+    for place in [33 + 7, 33 + 15, 33 + 23, 33 + 31, 33 + 32, 33 + 33 + 32] {
+        let sheet = write_sheet(2, 0, 0, 17, &[bad, bad]);
         assert_eq!(number(&spoil(sheet, place)), 2, "byte {place}");
     }
-    // The speeds come before the rows' limits.
-    assert_eq!(number(&write_sheet(1, 0, 0, &[bad])), 4);
-    assert_eq!(number(&write_sheet(1, 99_999_999, 1, &[good])), 4);
-    assert_eq!(number(&write_sheet(2, 1, 1, &[good, bad])), 5);
-    assert_eq!(number(&write_sheet(2, 1, 1, &[good, good])), 0);
+    // The speeds come before the loading time, and it before the rows' limits.
+    assert_eq!(number(&write_sheet(1, 0, 0, 17, &[bad])), 4);
+    assert_eq!(number(&write_sheet(1, 99_999_999, 1, 0, &[good])), 4);
+    assert_eq!(number(&write_sheet(1, 1, 1, 17, &[bad])), 11);
+    assert_eq!(number(&write_sheet(1, 1, 1, 99_999_999, &[good])), 11);
+    for loading in 0..=MOST_LOADING {
+        let rows_with = |last| write_sheet(2, 1, 1, loading, &[good, last]);
+        assert_eq!(number(&rows_with(bad)), 5);
+        assert_eq!(number(&rows_with(good)), 0);
+    }
     // Well formed but outside the limits is 5 and not 2.
     assert_eq!(number(&sheet_of(&table(1, 1, &[[0, 1, 1, 2]]))), 5);
     assert_eq!(number(&sheet_of(&table(1, 1, &[[0, 99_999_999, 1, 0]]))), 5);
@@ -171,8 +180,8 @@ fn every_other_length_is_refused_with_1() {
 
 #[test]
 fn every_other_line_end_is_refused_with_2() {
-    let sheet = sheet_of(&p2());
-    for place in [24, 57, 90, 123, 156] {
+    let sheet = sheet_of(&p2().with_loading(16));
+    for place in [32, 65, 98, 131, 164] {
         assert_eq!(sheet[place], b'\n');
         for byte in (0..=255).filter(|&byte| byte != b'\n') {
             let mut damaged = sheet.clone();
@@ -185,7 +194,7 @@ fn every_other_line_end_is_refused_with_2() {
 #[test]
 fn bytes_after_those_kept_change_no_answer() {
     let rows = vec![row([0, 1, 64, 1]); 64];
-    let longest = write_sheet(64, 1, 1, &rows);
+    let longest = write_sheet(64, 1, 1, 0, &rows);
     assert_eq!(longest.len() + 1, KEPT);
     assert_eq!(number(&longest), 0);
     assert!(planning_program(&longest).starts_with(b"       0      64\n"));
@@ -195,13 +204,13 @@ fn bytes_after_those_kept_change_no_answer() {
     let mut seen = [0; 10];
     for _ in 0..300 {
         let count = random.one_of(&[0, 1, 63, 64, 65]);
-        let mut input = write_sheet(count, 1, 1, &rows);
+        let mut input = write_sheet(count, 1, 1, random.between(0, 17), &rows);
         let length = random.between(KEPT as u32, 3 * KEPT as u32) as usize;
         while input.len() < length {
             input.push(random.one_of(b" 019\n"));
         }
         if random.once_in(3) {
-            let place = random.between(0, 30) as usize;
+            let place = random.between(0, 32) as usize;
             input[place] = random.one_of(b" 0x\n");
         }
         assert_eq!(read_sheet(&input), read_sheet(&input[..KEPT]));
@@ -216,7 +225,7 @@ fn bytes_after_those_kept_change_no_answer() {
 /// Writes an accepted table into just enough bytes, and reads it again (rules
 /// 15.2 and 15.6).
 fn written(table: &Table) -> Vec<u8> {
-    let mut lent = rubbish(25 + 33 * table.n as usize);
+    let mut lent = rubbish(33 + 33 * table.n as usize);
     assert_eq!(write_back(table, &mut lent), (0, lent.len() as u32));
     assert_eq!(read_sheet(&lent), (0, *table));
     lent
@@ -251,7 +260,9 @@ fn figures_of_every_length_come_back() {
         for &work in &figures {
             for &deadline in &figures {
                 for level in [0, 1] {
-                    let one = table(10, 9, &[[release, work, deadline, level]]);
+                    let loading = accepted % (MOST_LOADING + 1);
+                    let figures = [release, work, deadline, level];
+                    let one = table(10, 9, &[figures]).with_loading(loading);
                     if check_table(&one) == 0 {
                         let sheet = sheet_of(&one);
                         assert_eq!(written(&one), sheet);
@@ -269,6 +280,12 @@ fn figures_of_every_length_come_back() {
             assert_eq!(written(&paced), sheet_of(&paced));
         }
     }
+    for loading in 0..=MOST_LOADING {
+        let loads = p1().with_loading(loading);
+        assert_eq!(written(&loads), sheet_of(&loads));
+        let first = format!("       4       5       2{loading:>8}\n");
+        assert!(sheet_of(&loads).starts_with(first.as_bytes()));
+    }
 }
 
 /// The sheet of P1 stands here as bytes, so that the writer is not compared
@@ -276,7 +293,7 @@ fn figures_of_every_length_come_back() {
 #[test]
 fn the_sheet_of_p1() {
     let sheet = concat!(
-        "       4       5       2\n",
+        "       4       5       2       0\n",
         "       0      20      10       1\n",
         "       5      15      10       0\n",
         "       5      11      19       1\n",
@@ -314,7 +331,7 @@ fn accepted_sheets_come_back_byte_for_byte() {
 /// are fewer than the sheet has (rule 15.4), and all other bytes stay.
 #[test]
 fn lent_bytes_of_every_length() {
-    let longest = Table::of(1, 1, &[row([0, 1, 64, 1]); 64]);
+    let longest = Table::of(1, 1, 16, &[row([0, 1, 64, 1]); 64]);
     for table in [p1(), table(1, 1, &[[0, 1, 1, 0]]), longest] {
         let sheet = sheet_of(&table);
         for room in 0..=LONGEST_SHEET + 63 {
@@ -331,5 +348,5 @@ fn lent_bytes_of_every_length() {
         }
     }
     assert_eq!(sheet_of(&longest).len(), LONGEST_SHEET);
-    assert_eq!(LONGEST_SHEET, 2_137);
+    assert_eq!(LONGEST_SHEET, 2_145);
 }

@@ -1,25 +1,29 @@
-//! Check 9: sound records stay sound, and each clause violated alone is refused.
+//! Check 9: sound records stay sound, and each clause violated alone is refused,
+//! with every loading time from 0 to 16 slots.
 
 mod common;
 
-use common::{all_rows, fresh, supplies, table_and_order};
+use common::{all_rows, fresh, slots_with_loading, supplies, table_and_order, Loadings, TOO_LONG};
 use model::calls::LAST_CLOCK;
 use model::cases::table;
 use model::order::order_of;
 use model::random::Random;
 use model::record::{Record, Unsound};
 use model::run::step;
-use model::table::LO;
+use model::table::{LO, MOST_LOADING};
 
 #[test]
 fn every_step_from_a_fresh_record_keeps_it_sound() {
     let mut random = Random::seeded(45);
     let (mut done, mut dropped) = (0, 0);
-    for _ in 0..1_000 {
+    let mut loadings = Loadings::default();
+    for _ in 0..2_000 {
         let (table, order) = table_and_order(&mut random);
+        loadings.saw(&table);
         let mut record = fresh(&table, &order);
         assert!(record.is_sound());
-        for supply in supplies(&mut random, 40) {
+        let slots = slots_with_loading(&table, 40);
+        for supply in supplies(&mut random, slots) {
             let slot = record.one_slot(supply);
             assert_eq!(slot.number, 0);
             assert_eq!((slot.record.table, slot.record.order), (table, order));
@@ -36,9 +40,10 @@ fn every_step_from_a_fresh_record_keeps_it_sound() {
         }
     }
     assert!(
-        done > 500 && dropped > 200,
+        done > 1_000 && dropped > 400,
         "{done} done, {dropped} dropped"
     );
+    loadings.assert_all(20);
 }
 
 /// A sound record that need not be reachable by running: any figures that check
@@ -57,7 +62,7 @@ fn sound_record(random: &mut Random) -> Record {
             assert!(attempts < 10_000, "no sound figures for {record:?}");
             let index = row as usize - 1;
             record.got[index] = random.between(0, table.work[index]);
-            record.used[index] = random.between(0, clock.min(6));
+            record.used[index] = random.between(0, clock.min(6 + table.loading));
             record.closing[index] = random.one_of(&[0, clock / 2, clock]);
             if record.is_sound() {
                 break;
@@ -70,13 +75,16 @@ fn sound_record(random: &mut Random) -> Record {
 #[test]
 fn sound_records_that_no_run_reaches_step_by_the_same_rule() {
     let mut random = Random::seeded(46);
-    let (mut unreached, mut refused) = (0, 0);
-    for _ in 0..5_000 {
+    let (mut unreached, mut refused, mut early) = (0, 0, 0);
+    let mut loadings = Loadings::default();
+    for _ in 0..10_000 {
         let record = sound_record(&mut random);
+        loadings.saw(&record.table);
         let supply = random.between(0, 5);
         let slot = record.one_slot(supply);
         let used: u32 = record.used.iter().sum();
         unreached += u32::from(used > record.clock);
+        early += u32::from(has_work_before_loading_ends(&record));
         assert!(slot.record.is_sound());
         if record.clock == LAST_CLOCK {
             assert_eq!((slot.number, slot.row, slot.record), (8, 0, record));
@@ -88,38 +96,71 @@ fn sound_records_that_no_run_reaches_step_by_the_same_rule() {
         assert_eq!((slot.number, slot.row), (0, row));
         assert_eq!(slot.record.state(), state);
     }
-    assert!(unreached > 200 && refused > 200, "{unreached} {refused}");
+    assert!(
+        unreached > 400 && refused > 400 && early > 400,
+        "{unreached} {refused} {early}"
+    );
+    loadings.assert_all(100);
 }
 
-/// A record of three rows at clock 10: row 1 LO and dropped, row 2 HI and open,
-/// row 3 LO and open. N is 2 and G is 1.
-fn sound_example() -> Record {
-    let table = table(2, 1, &[[0, 4, 5, 0], [0, 9, 20, 1], [3, 6, 12, 0]]);
+/// A row has got work in slots that should have loaded it, as none does in a run.
+fn has_work_before_loading_ends(record: &Record) -> bool {
+    let mut entries = record.got.iter().zip(record.used);
+    entries.any(|(&got, used)| got > 0 && used < record.table.loading)
+}
+
+/// Such a row is sound, and goes on loading by the same rule (rule 2.14).
+#[test]
+fn work_got_before_loading_ends_is_sound() {
+    let table = table(2, 1, &[[0, 9, 20, 1]]).with_loading(3);
     let mut record = Record {
-        clock: 10,
+        clock: 5,
+        ..fresh(&table, &order_of(&[1]))
+    };
+    (record.got[0], record.used[0]) = (4, 1);
+    assert_eq!(record.reasons(), []);
+    let entries = |record: &Record| (record.got[0], record.used[0], record.closing[0]);
+    let after = |supplies: &[u32]| entries(&record.forward(supplies).record);
+    assert_eq!(after(&[7]), (4, 2, 0), "still loading");
+    assert_eq!(after(&[7, 7]), (4, 3, 0), "still loading");
+    assert_eq!(after(&[7, 7, 2]), (6, 4, 0), "at work");
+    assert_eq!(after(&[7, 7, 2, 7]), (9, 5, 9), "done");
+}
+
+/// A record of three rows at clock 30: row 1 LO and dropped, row 2 HI and open,
+/// row 3 LO and open. N is 2 and G is 1. The allowances of rows 1 and 3 are K + 2
+/// and K + 3 slots.
+fn sound_example(loading: u32) -> Record {
+    let rows = [[0, 4, 5, 0], [0, 9, 20, 1], [3, 6, 12, 0]];
+    let table = table(2, 1, &rows).with_loading(loading);
+    let mut record = Record {
+        clock: 30,
         ..fresh(&table, &order_of(&[1, 3, 2]))
     };
-    (record.got[0], record.used[0], record.closing[0]) = (3, 2, 2);
-    (record.got[1], record.used[1], record.closing[1]) = (5, 6, 0);
-    (record.got[2], record.used[2], record.closing[2]) = (2, 2, 0);
+    (record.got[0], record.used[0], record.closing[0]) = (3, loading + 2, 20);
+    (record.got[1], record.used[1], record.closing[1]) = (5, loading + 6, 0);
+    (record.got[2], record.used[2], record.closing[2]) = (2, loading + 2, 0);
     record
 }
 
-/// The example with one change, refused for this reason and no other.
+/// The example with one change, refused for this reason and no other, with every
+/// loading time.
 fn refused_for(reason: Unsound, change: impl Fn(&mut Record)) {
-    let mut record = sound_example();
-    assert_eq!(record.reasons(), []);
-    assert_eq!(record.one_slot(1).number, 0);
-    change(&mut record);
-    assert_eq!(record.reasons(), [reason]);
-    let slot = record.one_slot(1);
-    assert_eq!((slot.number, slot.row, slot.record), (9, 0, record));
-    for supplies in [&[][..], &[1, 1][..]] {
-        let forward = record.forward(supplies);
-        assert_eq!(
-            (forward.number, forward.worked, forward.record),
-            (9, 0, record)
-        );
+    for loading in 0..=MOST_LOADING {
+        let mut record = sound_example(loading);
+        assert_eq!(record.reasons(), []);
+        assert_eq!(record.one_slot(1).number, 0);
+        change(&mut record);
+        assert_eq!(record.reasons(), [reason], "K {loading}");
+        let slot = record.one_slot(1);
+        assert_eq!((slot.number, slot.row, slot.record), (9, 0, record));
+        for supplies in [&[][..], &[1, 1][..]] {
+            let forward = record.forward(supplies);
+            assert_eq!(
+                (forward.number, forward.worked, forward.record),
+                (9, 0, record)
+            );
+        }
     }
 }
 
@@ -128,6 +169,9 @@ fn check_9_refuses_each_clause_alone() {
     refused_for(Unsound::TableOrOrder(3), |r| r.table.n = 65);
     refused_for(Unsound::TableOrOrder(3), |r| r.table.n = 0);
     refused_for(Unsound::TableOrOrder(4), |r| r.table.degraded = 3);
+    for loading in TOO_LONG {
+        refused_for(Unsound::TableOrOrder(11), |r| r.table.loading = loading);
+    }
     refused_for(Unsound::TableOrOrder(5), |r| r.table.level[1] = 2);
     refused_for(Unsound::TableOrOrder(5), |r| r.table.release[3] = 1);
     refused_for(Unsound::TableOrOrder(6), |r| r.order[0] = 2);
@@ -137,20 +181,22 @@ fn check_9_refuses_each_clause_alone() {
     // Row 1 is closed by its allowance, so that only the work got is wrong.
     refused_for(Unsound::GotOverWork, |r| r.got[0] = 5);
     refused_for(Unsound::GotOverWork, |r| r.got[1] = u32::MAX);
-    refused_for(Unsound::UsedOverClock, |r| r.used[1] = 11);
+    refused_for(Unsound::UsedOverClock, |r| r.used[1] = 31);
     refused_for(Unsound::UsedOverClock, |r| r.used[0] = u32::MAX);
-    refused_for(Unsound::ClosingOverClock, |r| r.closing[0] = 11);
+    refused_for(Unsound::ClosingOverClock, |r| r.closing[0] = 31);
     refused_for(Unsound::ClosingOverClock, |r| r.closing[0] = u32::MAX);
     // Open though the work is got, HI and LO.
     refused_for(Unsound::OpenThoughFinished, |r| r.got[1] = 9);
     refused_for(Unsound::OpenThoughFinished, |r| r.got[2] = 6);
-    // Open though the allowance of 2 or 3 slots is used up, or more than that.
+    // Open though the allowance of K + 2 or K + 3 slots is used up, or more than
+    // that.
     refused_for(Unsound::OpenThoughFinished, |r| r.closing[0] = 0);
-    refused_for(Unsound::OpenThoughFinished, |r| r.used[2] = 3);
-    refused_for(Unsound::OpenThoughFinished, |r| r.used[2] = 4);
+    refused_for(Unsound::OpenThoughFinished, |r| r.used[2] += 1);
+    refused_for(Unsound::OpenThoughFinished, |r| r.used[2] += 2);
     // Closed with neither, HI (which has no allowance) and LO.
     refused_for(Unsound::ClosedWithNeither, |r| r.closing[1] = 9);
     refused_for(Unsound::ClosedWithNeither, |r| r.closing[2] = 9);
+    refused_for(Unsound::ClosedWithNeither, |r| r.used[0] -= 1);
     refused_for(Unsound::ClosedWithNeither, |r| r.used[0] = 1);
     for index in [3, 63] {
         refused_for(Unsound::EntryAfterLastRow, |r| r.got[index] = 1);
@@ -162,27 +208,30 @@ fn check_9_refuses_each_clause_alone() {
 #[test]
 fn check_9_lets_the_limits_themselves_through() {
     let accepted = |change: fn(&mut Record)| {
-        let mut record = sound_example();
-        change(&mut record);
-        assert_eq!(record.reasons(), []);
-        let slot = record.one_slot(1);
-        assert_eq!(slot.number, if record.clock == LAST_CLOCK { 8 } else { 0 });
+        for loading in 0..=MOST_LOADING {
+            let mut record = sound_example(loading);
+            change(&mut record);
+            assert_eq!(record.reasons(), [], "K {loading}");
+            let slot = record.one_slot(1);
+            assert_eq!(slot.number, if record.clock == LAST_CLOCK { 8 } else { 0 });
+        }
     };
     accepted(|r| r.clock = 2_000_000);
-    accepted(|r| r.used[1] = 10);
-    accepted(|r| r.closing[0] = 10);
+    accepted(|r| r.used[1] = 30);
+    accepted(|r| r.used[2] = 0);
+    accepted(|r| r.closing[0] = 30);
     accepted(|r| r.got[0] = 4);
-    accepted(|r| r.used[0] = 10);
-    accepted(|r| (r.got[1], r.closing[1]) = (9, 10));
+    accepted(|r| r.used[0] = 30);
+    accepted(|r| (r.got[1], r.closing[1]) = (9, 30));
     accepted(|r| (r.got[1], r.used[1], r.closing[1]) = (9, 0, 1));
-    accepted(|r| (r.got[2], r.used[2], r.closing[2]) = (0, 3, 1));
+    accepted(|r| (r.got[2], r.used[2], r.closing[2]) = (0, r.table.loading + 3, 1));
 }
 
 #[test]
 fn check_9_comes_before_8() {
     let mut record = Record {
         clock: LAST_CLOCK,
-        ..sound_example()
+        ..sound_example(5)
     };
     assert_eq!(record.one_slot(5).number, 8);
     assert_eq!(record.forward(&[5]).number, 8);

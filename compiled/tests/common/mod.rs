@@ -1,5 +1,5 @@
-//! What several test files share: tallies of answers, tables, orders, supplies,
-//! lent bytes.
+//! What several test files share: tallies of answers and of loading times, tables,
+//! orders, supplies, lent bytes.
 #![allow(dead_code)]
 
 pub mod records;
@@ -11,7 +11,7 @@ use model::cases::row;
 use model::order::{check_order, Order, NO_ORDER};
 use model::random::{table_in, Random, Ranges};
 use model::sheet::write_sheet;
-use model::table::{Row, Table, ROWS};
+use model::table::{Row, Table, MOST_LOADING, ROWS};
 use std::collections::BTreeMap;
 use std::fmt::Debug;
 
@@ -48,26 +48,69 @@ impl<Kind: Ord + Debug> Drop for Tally<Kind> {
     }
 }
 
+/// Counts how often each loading time came up where nothing was refused, so that a
+/// test can show that it looked at all of them.
+pub struct Loadings(Tally<u32>);
+
+impl Loadings {
+    pub fn new(of: &'static str) -> Loadings {
+        Loadings(Tally::new(of))
+    }
+
+    /// Counts a table's loading time if the call's number, 0 or 7, rests on it.
+    pub fn saw(&mut self, number: u32, table: &Table) {
+        if number == 0 || number == 7 {
+            self.0.saw(table.loading);
+        }
+    }
+
+    /// Fails unless each loading time from 0 to 16 slots came up `least` times.
+    pub fn assert_every(&self, least: u64) {
+        let all: Vec<u32> = (0..=MOST_LOADING).collect();
+        self.0.assert_common(&all, least);
+    }
+}
+
 /// Bytes that neither a sheet nor a report has, each other than its neighbours.
 pub fn rubbish(length: usize) -> Vec<u8> {
     (0..length).map(|index| 128 | index as u8).collect()
 }
 
+/// Tables that `for_each_small_table` calls `with` on.
+pub const SMALL_TABLES: u64 = 2 * 239_940;
+
 /// Calls `with` on every table of one to three rows whose figures come from a
-/// small grid: 239,940 tables, some with an order and some with none.
+/// small grid, some with an order and some with none: each without loading, and
+/// then with one of the other loading times, which take turns.
 pub fn for_each_small_table(mut with: impl FnMut(&Table)) {
     let grid = grid_rows();
+    let mut loading = 0;
+    let mut with_and_without = |table: Table| {
+        with(&table);
+        loading = 1 + loading % MOST_LOADING;
+        with(&with_time_to_load(&table, loading));
+    };
     for [normal, degraded] in [[1, 1], [2, 1], [2, 2], [3, 1], [3, 2]] {
         for &first in &grid {
-            with(&Table::of(normal, degraded, &[first]));
+            with_and_without(Table::of(normal, degraded, 0, &[first]));
             for &second in &grid {
-                with(&Table::of(normal, degraded, &[first, second]));
+                with_and_without(Table::of(normal, degraded, 0, &[first, second]));
                 for &third in &grid {
-                    with(&Table::of(normal, degraded, &[first, second, third]));
+                    with_and_without(Table::of(normal, degraded, 0, &[first, second, third]));
                 }
             }
         }
     }
+}
+
+/// The table with this loading time, in slots; row i has time for i rows to load.
+fn with_time_to_load(table: &Table, loading: u32) -> Table {
+    let mut loads = table.with_loading(loading);
+    let rows = (1..).zip(&mut loads.deadline).take(table.n as usize);
+    for (row, deadline) in rows {
+        *deadline += row * loading;
+    }
+    loads
 }
 
 fn grid_rows() -> Vec<Row> {
@@ -108,6 +151,8 @@ pub fn for_each_word_changed(table: &Table, mut with: impl FnMut(&Table)) {
         1,
         2,
         4,
+        16,
+        17,
         64,
         65,
         1_000,
@@ -208,8 +253,11 @@ pub fn any_order(random: &mut Random, n: u32, out_of: u32) -> Order {
     }
 }
 
-/// The table changed so that a check on tables refuses it with this number (3,
-/// 4 or 5), or with one before it.
+/// The numbers of the checks on tables, in their order (rule 11.3).
+pub const TABLE_CHECKS: [u32; 4] = [3, 4, 11, 5];
+
+/// The table changed so that a check on tables refuses it with this number, or
+/// with one before it.
 pub fn spoil_table(random: &mut Random, table: &mut Table, number: u32) {
     let index = random.between(0, table.n - 1) as usize;
     match number {
@@ -220,6 +268,10 @@ pub fn spoil_table(random: &mut Random, table: &mut Table, number: u32) {
             2 => table.degraded = table.normal + 1,
             _ => table.degraded = u32::MAX,
         },
+        11 => {
+            let any = random.word() as u32 | 32;
+            table.loading = random.one_of(&[17, 17, 18, 64, u32::MAX, any]);
+        }
         _ => match random.between(0, 5) {
             0 => table.work[index] = random.one_of(&[0, 1_000_001, u32::MAX]),
             1 => table.deadline[index] = random.one_of(&[1_000_001, u32::MAX]),
@@ -231,11 +283,12 @@ pub fn spoil_table(random: &mut Random, table: &mut Table, number: u32) {
     }
 }
 
-/// The table changed so that 3, 4 or 5 refuses it, or several of them would.
+/// The table changed so that one of the checks on tables refuses it, or several of
+/// them would.
 pub fn spoil_by_several(random: &mut Random, table: &mut Table) {
-    let wanted = random.between(1, 7);
-    for number in [5, 4, 3] {
-        if wanted >> (number - 3) & 1 == 1 {
+    let wanted = random.between(1, 15);
+    for (bit, number) in TABLE_CHECKS.into_iter().enumerate().rev() {
+        if wanted >> bit & 1 == 1 {
             spoil_table(random, table, number);
         }
     }
@@ -278,7 +331,7 @@ pub fn supply(random: &mut Random) -> u32 {
 /// The sheet of this table changed so that a check on tables refuses it.
 pub fn refused_sheet(random: &mut Random, table: &Table) -> Vec<u8> {
     let mut spoiled = *table;
-    let number = random.between(3, 5);
+    let number = random.one_of(&TABLE_CHECKS);
     spoil_table(random, &mut spoiled, number);
     let field = |figure: u32| figure.min(99_999_999);
     let count = field(spoiled.n);
@@ -290,6 +343,7 @@ pub fn refused_sheet(random: &mut Random, table: &Table) -> Vec<u8> {
         level: field(row.level),
     });
     let rows: Vec<Row> = rows.collect();
-    let (normal, degraded) = (field(spoiled.normal), field(spoiled.degraded));
-    write_sheet(count, normal, degraded, &rows)
+    let figures = [spoiled.normal, spoiled.degraded, spoiled.loading];
+    let [normal, degraded, loading] = figures.map(field);
+    write_sheet(count, normal, degraded, loading, &rows)
 }

@@ -9,9 +9,10 @@ use model::record::{Record, Unsound};
 use model::table::{allowance, HI, LO, ROWS};
 
 /// Every clause of check 9.
-pub const CLAUSES: [Unsound; 11] = [
+pub const CLAUSES: [Unsound; 12] = [
     Unsound::TableOrOrder(3),
     Unsound::TableOrOrder(4),
+    Unsound::TableOrOrder(11),
     Unsound::TableOrOrder(5),
     Unsound::TableOrOrder(6),
     Unsound::Clock,
@@ -37,7 +38,7 @@ pub fn fresh_record(random: &mut Random) -> Record {
 /// A record that a run of some slots reaches.
 pub fn reached_record(random: &mut Random) -> Record {
     let record = fresh_record(random);
-    let slots = random.between(0, 60);
+    let slots = random.between(0, 60 + 6 * record.table.loading);
     record.forward(&supplies(random, slots)).record
 }
 
@@ -170,6 +171,7 @@ pub fn any_record(random: &mut Random) -> Record {
     record.table.n = word();
     record.table.normal = word();
     record.table.degraded = word();
+    record.table.loading = word();
     record.table.release = std::array::from_fn(|_| word());
     record.table.work = std::array::from_fn(|_| word());
     record.table.deadline = std::array::from_fn(|_| word());

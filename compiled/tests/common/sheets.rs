@@ -2,12 +2,12 @@
 //! the writer have in common.
 
 use super::{refused_sheet, small_table};
-use compiled::sheets::hard;
-use model::cases::{p1, p3, row};
+use compiled::sheets::{hard, hard_loading};
+use model::cases::{p1, p3, row, table};
 use model::program::KEPT;
 use model::random::Random;
-use model::sheet::{sheet_of, write_field, write_line, write_sheet};
-use model::table::Table;
+use model::sheet::{sheet_of, write_field, write_line, write_sheet, ROW_LINE};
+use model::table::{Table, MOST_LOADING};
 
 /// Bytes of the longest input tried at every length.
 pub const LONGEST: usize = 2_200;
@@ -36,14 +36,17 @@ fn malformed_at_the_end(mut sheet: Vec<u8>) -> Vec<u8> {
 /// Calls `with` on the first bytes of several inputs, none to 2,200 of them.
 pub fn for_each_length(mut with: impl FnMut(&[u8])) {
     let a_row = write_line(&[0, 20, 10, 1]);
+    let outside_limits = write_line(&[4, 1, 4, 0]);
     let bases = [
-        extended(sheet_of(&hard(64)), &a_row),
+        extended(sheet_of(&hard_loading(64, 16)), &a_row),
         extended(sheet_of(&p1()), &a_row),
-        extended(sheet_of(&p3()), b" "),
-        extended(sheet_of(&Table::of(1, 1, &[row([0, 1, 1, 0])])), b"\n"),
-        extended(write_line(&[65, 5, 2]), &a_row),
-        extended(write_line(&[20, 2, 3]), &a_row),
-        extended(write_line(&[9, 1_000, 1_000]), &write_line(&[4, 1, 4, 0])),
+        extended(sheet_of(&p3().with_loading(3)), b" "),
+        extended(sheet_of(&Table::of(1, 1, 0, &[row([0, 1, 1, 0])])), b"\n"),
+        extended(write_line(&[65, 5, 2, 0]), &a_row),
+        extended(write_line(&[20, 2, 3, 17]), &a_row),
+        extended(write_line(&[9, 1_000, 1_000, 17]), &outside_limits),
+        extended(write_line(&[9, 1_000, 1_000, 16]), &outside_limits),
+        extended(write_line(&[4, 5, 2]), &a_row),
         extended(malformed_at_the_end(sheet_of(&hard(32))), &a_row),
         extended(Vec::new(), b"        "),
         extended(Vec::new(), b"       1"),
@@ -58,12 +61,13 @@ pub fn for_each_length(mut with: impl FnMut(&[u8])) {
 
 /// Calls `with` on several sheets with each byte changed to each value.
 pub fn for_each_single_byte_change(mut with: impl FnMut(&[u8])) {
+    let largest_row = table(1_000, 999, &[[999_999, 1_000_000, 1_000_000, 1]]);
     let sheets = [
         sheet_of(&p1()),
-        sheet_of(&p3()),
-        write_sheet(1, 1_000, 999, &[row([999_999, 1_000_000, 1_000_000, 1])]),
-        write_sheet(1, 1, 1, &[row([0, 1, 1, 0])]),
-        sheet_of(&hard(12)),
+        sheet_of(&p3().with_loading(9)),
+        sheet_of(&largest_row.with_loading(16)),
+        write_sheet(1, 1, 1, 0, &[row([0, 1, 1, 0])]),
+        sheet_of(&hard_loading(12, 1)),
         sheet_of(&hard(64)),
     ];
     for sheet in &sheets {
@@ -81,13 +85,15 @@ pub fn for_each_single_byte_change(mut with: impl FnMut(&[u8])) {
 pub fn for_each_of_several_changes(mut with: impl FnMut(&[u8])) {
     let mut random = Random::seeded(101);
     let bases = [sheet_of(&p1()), sheet_of(&p3()), sheet_of(&hard(64))];
-    let fields = [0, 1, 2, 3, 4, 64, 65, 1_000, 1_001, 1_000_000, 1_000_001];
+    let fields = [
+        0, 1, 2, 3, 4, 9, 16, 17, 64, 65, 1_000, 1_001, 1_000_000, 1_000_001,
+    ];
     for round in 0..200_000 {
         let mut sheet = bases[if round % 16 == 0 { 2 } else { round % 2 }].clone();
         for _ in 0..random.between(1, 3) {
+            // All lines, the first one too, have four fields.
             let line = random.between(0, 4) as usize;
-            let start = if line == 0 { 0 } else { 25 + 33 * (line - 1) };
-            let field = start + 8 * random.between(0, 3) as usize;
+            let field = ROW_LINE * line + 8 * random.between(0, 3) as usize;
             if field + 8 <= sheet.len() {
                 let number = random.one_of(&fields);
                 sheet[field..field + 8].copy_from_slice(&write_field(number));
@@ -107,10 +113,12 @@ pub fn for_each_of_several_changes(mut with: impl FnMut(&[u8])) {
 /// Sheets at and past each limit, with the reader's number.
 pub fn sheets_at_limits() -> Vec<(Vec<u8>, u32)> {
     let row_of_one = row([0, 1, 1, 0]);
-    let one = |figures| write_sheet(1, 5, 2, &[row(figures)]);
-    let speeds = |normal, degraded| write_sheet(1, normal, degraded, &[row_of_one]);
-    let rows = |count: usize| write_sheet(count as u32, 1, 1, &vec![row_of_one; count]);
-    vec![
+    let one = |figures| write_sheet(1, 5, 2, 0, &[row(figures)]);
+    let speeds = |normal, degraded| write_sheet(1, normal, degraded, 0, &[row_of_one]);
+    let loading = |loading| write_sheet(1, 5, 2, loading, &[row_of_one]);
+    let rows = |count: usize| write_sheet(count as u32, 1, 1, 0, &vec![row_of_one; count]);
+    let wrong = row([4, 1, 4, 0]);
+    let mut sheets = vec![
         (rows(1), 0),
         (rows(64), 0),
         (rows(65), 3),
@@ -130,10 +138,19 @@ pub fn sheets_at_limits() -> Vec<(Vec<u8>, u32)> {
         (one([0, 1, 1, 2]), 5),
         (one([4, 1, 4, 0]), 5),
         (one([99_999_999, 99_999_999, 99_999_999, 99_999_999]), 5),
+        (loading(17), 11),
+        (loading(18), 11),
+        (loading(99_999_999), 11),
+        (write_sheet(1, 5, 6, 17, &[wrong]), 4),
+        (write_sheet(1, 5, 5, 17, &[wrong]), 11),
+        (write_sheet(1, 5, 5, 16, &[wrong]), 5),
         (Vec::new(), 1),
-        (vec![b' '; 24], 1),
-        (vec![b' '; 25], 2),
-    ]
+        (write_line(&[1, 1, 1]), 1),
+        (vec![b' '; 32], 1),
+        (vec![b' '; 33], 2),
+    ];
+    sheets.extend((0..=MOST_LOADING).map(|slots| (loading(slots), 0)));
+    sheets
 }
 
 /// The sheet with a byte changed, or with a byte more or some fewer.

@@ -1,13 +1,14 @@
-// The need of a job (rule 1.8), checks 3 to 6 on tables and orders (section 5 of the rules), and check 10 on lent bytes (rule 10.10).
+// The need of a job (rules 1.8, 1.10), checks 3, 4, 11, 5 and 6 on tables and orders (section 5 of the rules), and check 10 on lent bytes
+// (rule 10.10).
 ghost use mathlib.Core.Path.{_≡_};
 ghost use mathlib.Core.Bool.{_&&_};
 ghost use Prim.Native.Nat.{ℕ, _≤_};
 ghost use lib.Dec.{eqb};
 ghost use lib.ListN.{length, getD, drop};
 ghost use Rattle.rules.specs.Lists.{all, allZero, count, rowsTo};
-ghost use Rattle.rules.specs.Need.{need};
+ghost use Rattle.rules.specs.Need.{workSlots, need};
 ghost use Rattle.rules.specs.Rows.{rowsOf};
-ghost use Rattle.rules.specs.Tables.{countOk, speedsOk, rowOk, tailOk, checkTable};
+ghost use Rattle.rules.specs.Tables.{countOk, speedsOk, loadingOk, rowOk, tailOk, checkTable};
 ghost use Rattle.rules.specs.Orders.{checkOrder, andThen, checkBoth};
 ghost use Rattle.rules.specs.Lent.{checkRoom};
 ghost use Rattle.checks.specs.Limits.{limitsOk};
@@ -16,8 +17,8 @@ use rules::Refusal;
 use rules::Table;
 
 // The slots that work units take at speed work units per slot: the quotient, and one more for a rest. 0 at speed 0.
-pub fn need(work: u32, speed: u32) -> u32
-    ensures { λ r. ⌜ r ≡ need work speed ⌝ }
+fn work_slots(work: u32, speed: u32) -> u32
+    ensures { λ r. ⌜ r ≡ workSlots work speed ⌝ }
 {
     if speed == 0 {
         return 0;
@@ -27,6 +28,14 @@ pub fn need(work: u32, speed: u32) -> u32
     } else {
         work / speed + 1
     }
+}
+
+// The need of a job, in slots: those that load it, and those that its work units take at speed work units per slot.
+pub fn need(loading: u32, work: u32, speed: u32) -> u32
+    requires { ⌜ (loading ≤ 16) × (work ≤ 1000000) ⌝ }
+    ensures { λ r. ⌜ r ≡ need loading work speed ⌝ }
+{
+    loading + work_slots(work, speed)
 }
 
 // n is from 1 to 64 rows.
@@ -41,6 +50,13 @@ fn speeds_ok(normal: u32, degraded: u32) -> bool
     ensures { λ r. ⌜ r ≡ speedsOk normal degraded ⌝ }
 {
     1 <= normal && normal <= 1000 && 1 <= degraded && degraded <= normal
+}
+
+// K is at most 16 slots.
+fn loading_ok(loading: u32) -> bool
+    ensures { λ r. ⌜ r ≡ loadingOk loading ⌝ }
+{
+    loading <= 16
 }
 
 // A row's figures are within their limits: release and deadline in slots, work in work units.
@@ -98,7 +114,7 @@ fn tail_ok(t: Table) -> bool
     zero_after(n, &t.level)
 }
 
-// Checks 3, 4 and 5 on any table.
+// Checks 3, 4, 11 and 5 on any table.
 pub fn check_table(t: Table) -> Check
     ensures { λ r. ⌜ r ≡ checkTable t ⌝ }
 {
@@ -107,6 +123,9 @@ pub fn check_table(t: Table) -> Check
     }
     if !speeds_ok(t.normal, t.degraded) {
         return Check::Refused(Refusal::Speeds);
+    }
+    if !loading_ok(t.loading) {
+        return Check::Refused(Refusal::Loading);
     }
     if !rows_ok(t) {
         return Check::Refused(Refusal::RowLimits);
@@ -179,7 +198,7 @@ fn check_order(t: Table, order: [u8; 64]) -> Check
     Check::Passed
 }
 
-// Checks 3, 4, 5, then 6 on any table and any sixty-four numbers.
+// The checks of the table, then 6, on any table and any sixty-four numbers.
 pub fn check_both(t: Table, order: [u8; 64]) -> Check
     ensures { λ r. ⌜ r ≡ checkBoth t order ⌝ }
 {

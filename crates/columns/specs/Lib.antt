@@ -2,3 +2,4 @@ pub mod AllRows
 pub mod Figures
 pub mod Places
 pub mod Entries
+pub mod Products

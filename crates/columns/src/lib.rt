@@ -1,35 +1,59 @@
 // What check 9 asks of plain columns (rules 8.6, 8.7) and what a slot does to them (section 2 of the rules), one entry for each row, below
-// the type of the run record. Row i is at index i - 1. Releases, clocks, slots used and closing slots are in slots; work and
-// supplies are in work units, speeds in work units per slot.
+// the type of the run record. Row i is at index i - 1. Releases, clocks, loading, slots used and closing slots are in slots; work and
+// supplies are in work units, speeds in work units per slot. Nothing here divides: a slot asks for no quotient.
 ghost use mathlib.Core.Path.{_≡_};
 ghost use mathlib.Core.Bool.{cond, _&&_};
 ghost use Prim.Native.Nat.{_+_, _≤_, _<_, min};
 ghost use lib.Dec.{eqb, leb};
 ghost use lib.ListN.{getD};
 ghost use Rattle.rules.specs.Lists.{rowsTo, all, first};
+ghost use Rattle.rules.specs.Need.{need};
+ghost use Rattle.rules.specs.Slots.{brought};
 ghost use Rattle.columns.specs.Figures.{over, soundAt, rowSoundAt, readyAt};
 ghost use Rattle.columns.specs.Places.{Placed};
 
-// Whether a row of this work (work units) and level, at speed N (work units per slot), is over: done, having got its work (rule 2.6), or
-// LO with its allowance used up, in slots (rules 1.9, 2.7).
-fn is_over(work: u32, level: u32, normal: u32, got: u32, used: u32) -> bool
-    ensures { λ b. ⌜ b ≡ over work level normal got used ⌝ }
+// Whether a row of this work has used its need at N, in slots (rules 1.8, 1.10): it has loaded, and at N work units each the slots after
+// that bring its work. The product is at most 2,000,000 slots times 1,000 work units per slot, so it fits.
+fn need_used(work: u32, normal: u32, loading: u32, used: u32) -> bool
+    requires { ⌜ (1 ≤ normal) × (normal ≤ 1000) × (used ≤ 2000000) ⌝ }
+    ensures { λ b. ⌜ b ≡ leb (need loading work normal) used ⌝ }
+{
+    if used < loading {
+        return false;
+    }
+    work <= (used - loading) * normal
+}
+
+// Whether a row of this work and level is over: done, having got its work (rule 2.6), or LO with its allowance, the need at N, used up
+// (rules 1.9, 2.7).
+fn is_over(work: u32, level: u32, normal: u32, loading: u32, got: u32, used: u32) -> bool
+    requires { ⌜ (1 ≤ normal) × (normal ≤ 1000) × (used ≤ 2000000) ⌝ }
+    ensures { λ b. ⌜ b ≡ over work level normal loading got used ⌝ }
 {
     if got == work {
         return true;
     }
     if level == 0 {
-        checks::need(work, normal) <= used
+        need_used(work, normal, loading, used)
     } else {
         false
     }
 }
 
 // The closing slot of a row that ran up to the clock: the clock if it is over now, 0 while it is open (rule 2.10).
-pub fn closing_slot(work: u32, level: u32, normal: u32, got: u32, used: u32, clock: u32) -> u32
-    ensures { λ k. ⌜ k ≡ cond (over work level normal got used) clock 0 ⌝ }
+pub fn closing_slot(
+    work: u32,
+    level: u32,
+    normal: u32,
+    loading: u32,
+    got: u32,
+    used: u32,
+    clock: u32,
+) -> u32
+    requires { ⌜ (1 ≤ normal) × (normal ≤ 1000) × (used ≤ 2000000) ⌝ }
+    ensures { λ k. ⌜ k ≡ cond (over work level normal loading got used) clock 0 ⌝ }
 {
-    if is_over(work, level, normal, got, used) {
+    if is_over(work, level, normal, loading, got, used) {
         clock
     } else {
         0
@@ -41,12 +65,14 @@ fn row_sound(
     work: u32,
     level: u32,
     normal: u32,
+    loading: u32,
     clock: u32,
     got: u32,
     used: u32,
     closing: u32,
 ) -> bool
-    ensures { λ b. ⌜ b ≡ soundAt work level normal clock got used closing ⌝ }
+    requires { ⌜ (1 ≤ normal) × (normal ≤ 1000) × (clock ≤ 2000000) ⌝ }
+    ensures { λ b. ⌜ b ≡ soundAt work level normal loading clock got used closing ⌝ }
 {
     if work < got {
         return false;
@@ -57,7 +83,7 @@ fn row_sound(
     if clock < closing {
         return false;
     }
-    let over = is_over(work, level, normal, got, used);
+    let over = is_over(work, level, normal, loading, got, used);
     if closing == 0 { !over } else { over }
 }
 
@@ -65,6 +91,7 @@ fn row_sound(
 pub fn rows_sound<'a>(
     n: u32,
     normal: u32,
+    loading: u32,
     clock: u32,
     work: &'a [u32; 64],
     level: &'a [u32; 64],
@@ -72,8 +99,8 @@ pub fn rows_sound<'a>(
     used: &'a [u32; 64],
     closing: &'a [u32; 64],
 ) -> bool
-    requires { ⌜ n ≤ 64 ⌝ }
-    ensures { λ b. ⌜ b ≡ all (rowSoundAt normal clock (now (work .entry)) (now (level .entry)) (now (got .entry)) (now (used .entry))
+    requires { ⌜ (n ≤ 64) × (1 ≤ normal) × (normal ≤ 1000) × (clock ≤ 2000000) ⌝ }
+    ensures { λ b. ⌜ b ≡ all (rowSoundAt normal loading clock (now (work .entry)) (now (level .entry)) (now (got .entry)) (now (used .entry))
         (now (closing .entry))) (rowsTo n) ⌝ }
 {
     let mut i: u32 = 0;
@@ -83,6 +110,7 @@ pub fn rows_sound<'a>(
             work[k],
             level[k],
             normal,
+            loading,
             clock,
             got[k],
             used[k],
@@ -146,11 +174,15 @@ pub fn entry(column: &[u32; 64], i: usize) -> u32
     column[i]
 }
 
-// The work units that a row has after a slot of this supply: to its work at most (rule 2.5).
-pub fn grown(got: u32, supply: u32, work: u32) -> u32
+// The work units that a row has after a slot of this supply, used being its slots before that one: no more than before while it loads
+// (rule 2.14), then more by the supply, to its work at most (rule 2.5).
+pub fn grown(got: u32, used: u32, loading: u32, supply: u32, work: u32) -> u32
     requires { ⌜ got ≤ work ⌝ }
-    ensures { λ g. ⌜ g ≡ min work (got + supply) ⌝ }
+    ensures { λ g. ⌜ g ≡ min work (got + brought loading used supply) ⌝ }
 {
+    if used < loading {
+        return got;
+    }
     if supply < work - got {
         got + supply
     } else {

@@ -2,6 +2,7 @@
 use Prim.Native.Nat.{ℕ, zero, suc, _+_, _-_, _*_, _≤_}
 use mathlib.Core.Bool.{Bool, true, false, cond, _&&_}
 use mathlib.Core.List.{List, [], _∷_}
+use mathlib.Core.Logic.{_⊎_, inl, inr}
 use mathlib.Core.Path.{_≡_, refl, sym, _∙_}
 use native.Mathlib.Numerals.{add-one}
 use native.Mathlib.Omega.{arith}
@@ -17,26 +18,30 @@ use Rattle.rules.specs.Numbers.{refusalNumber, checkNumber}
 use Rattle.rules.specs.Rows.{at}
 use Rattle.rules.specs.Sheets as Sheets
 use Rattle.rules.specs.Sheets.{isLine, numberAt, lineOf, columnOf, checkSheet, readChecked, readOf}
-use Rattle.rules.specs.Tables.{countOk, speedsOk, rowOk, tailOk, checkTable, Accepted, FullTable}
+use Rattle.rules.specs.Tables.{countOk, speedsOk, loadingOk, rowOk, tailOk, checkTable, Accepted, FullTable}
 use Rattle.theory.specs.Facts.{facts}
 use Rattle.theory.specs.Tests.{not-both, and-right, and-both}
 use Rattle.columns.specs.AllRows.{zeros-of, all-of}
 use Rattle.planner.specs.Promise.{refusal-number}
 use Rattle.sheet.specs.Lines.{column-more, column-start, lines-line}
 use Rattle.sheet.specs.SheetsDiffer.{Accepts, accepts, column-long, column-at}
-use Rattle.jasminebrace.specs.Words.{wordsOf}
-use Rattle.jasminebrace.specs.Words as Words
-use Rattle.jasminebrace.specs.Inverse.{table-in-words-of}
+use Rattle.words.specs.Words.{wordsOf}
+use Rattle.words.specs.Words as Words
+use Rattle.words.specs.Inverse.{table-in-words-of}
 use Rattle.conclusions.specs.Conclusions.{figureAt, RowFits, RowTaken, Taken, TableAuthor}
 use Rattle.conclusions.specs.Entries.{TableWords, table-words}
 
 -- ---- the numbers of the checks, one test after another
 
--- a table's: the row count, the speeds, the rows
-abbrev tableNumber : Bool → Bool → Bool → ℕ
-tableNumber count speeds rows = cond count (cond speeds (cond rows 0 5) 4) 3
+-- a table's: the row count, the speeds, the loading, the rows
+abbrev tableNumber : Bool → Bool → Bool → Bool → ℕ
+tableNumber count speeds loading rows = cond count (cond speeds (cond loading (cond rows 0 5) 11) 4) 3
 
--- a sheet's: under 25 bytes, the first line, the row count, the length, the row lines, and the table's
+-- what a reader may answer
+abbrev Known : ℕ → Type 0
+Known k = (k ≤ 5) ⊎ (k ≡ 11)
+
+-- a sheet's: under 33 bytes, the first line, the row count, the length, the row lines, and the table's
 abbrev sheetNumber : Bool → Bool → Bool → Bool → Bool → ℕ → ℕ
 sheetNumber short first count long lines table = cond short 1 (cond first (cond count (cond long (cond lines table 2) 1) 3) 2)
 
@@ -69,41 +74,53 @@ module _ (k : ℕ) where
   of-table false true true true false h = absurd (omega arith)
   of-table false true true true true h = refl
 
-  known : (short first count long lines : Bool) → k ≤ 5 → sheetNumber short first count long lines k ≤ 5
-  known true first count long lines h = omega arith
-  known false false count long lines h = omega arith
-  known false true false long lines h = omega arith
-  known false true true false lines h = omega arith
-  known false true true true false h = omega arith
+  known : (short first count long lines : Bool) → Known k → Known (sheetNumber short first count long lines k)
+  known true first count long lines h = inl (omega arith)
+  known false false count long lines h = inl (omega arith)
+  known false true false long lines h = inl (omega arith)
+  known false true true false lines h = inl (omega arith)
+  known false true true true false h = inl (omega arith)
   known false true true true true h = h
 
-table-known : (count speeds rows : Bool) → tableNumber count speeds rows ≤ 5
-table-known false speeds rows = omega arith
-table-known true false rows = omega arith
-table-known true true false = omega arith
-table-known true true true = omega arith
+table-known : (count speeds loading rows : Bool) → Known (tableNumber count speeds loading rows)
+table-known false speeds loading rows = inl (omega arith)
+table-known true false loading rows = inl (omega arith)
+table-known true true false rows = inr refl
+table-known true true true false = inl (omega arith)
+table-known true true true true = inl (omega arith)
 
-table-not-one : (count speeds rows : Bool) → (tableNumber count speeds rows ≡ 1 → ⊥) × (tableNumber count speeds rows ≡ 2 → ⊥)
-table-not-one false speeds rows = (λ e. omega arith, λ e. omega arith)
-table-not-one true false rows = (λ e. omega arith, λ e. omega arith)
-table-not-one true true false = (λ e. omega arith, λ e. omega arith)
-table-not-one true true true = (λ e. omega arith, λ e. omega arith)
+table-not-one : (count speeds loading rows : Bool)
+    → (tableNumber count speeds loading rows ≡ 1 → ⊥) × (tableNumber count speeds loading rows ≡ 2 → ⊥)
+table-not-one false speeds loading rows = (λ e. omega arith, λ e. omega arith)
+table-not-one true false loading rows = (λ e. omega arith, λ e. omega arith)
+table-not-one true true false rows = (λ e. omega arith, λ e. omega arith)
+table-not-one true true true false = (λ e. omega arith, λ e. omega arith)
+table-not-one true true true true = (λ e. omega arith, λ e. omega arith)
 
-table-not-three : (speeds rows : Bool) → tableNumber true speeds rows ≡ 3 → ⊥
-table-not-three false rows e = omega arith
-table-not-three true false e = omega arith
-table-not-three true true e = omega arith
+table-not-three : (speeds loading rows : Bool) → tableNumber true speeds loading rows ≡ 3 → ⊥
+table-not-three false loading rows e = omega arith
+table-not-three true false rows e = omega arith
+table-not-three true true false e = omega arith
+table-not-three true true true e = omega arith
 
-table-not-four : (count rows : Bool) → tableNumber count true rows ≡ 4 → ⊥
-table-not-four false rows e = omega arith
-table-not-four true false e = omega arith
-table-not-four true true e = omega arith
+table-not-four : (count loading rows : Bool) → tableNumber count true loading rows ≡ 4 → ⊥
+table-not-four false loading rows e = omega arith
+table-not-four true false rows e = omega arith
+table-not-four true true false e = omega arith
+table-not-four true true true e = omega arith
 
-table-five : (count speeds rows : Bool) → tableNumber count speeds rows ≡ 5 → (count ≡ true) × (rows ≡ false)
-table-five false speeds rows e = absurd (omega arith)
-table-five true false rows e = absurd (omega arith)
-table-five true true false e = (refl, refl)
-table-five true true true e = absurd (omega arith)
+table-not-eleven : (count speeds rows : Bool) → tableNumber count speeds true rows ≡ 11 → ⊥
+table-not-eleven false speeds rows e = omega arith
+table-not-eleven true false rows e = omega arith
+table-not-eleven true true false e = omega arith
+table-not-eleven true true true e = omega arith
+
+table-five : (count speeds loading rows : Bool) → tableNumber count speeds loading rows ≡ 5 → (count ≡ true) × (rows ≡ false)
+table-five false speeds loading rows e = absurd (omega arith)
+table-five true false loading rows e = absurd (omega arith)
+table-five true true false rows e = absurd (omega arith)
+table-five true true true false e = (refl, refl)
+table-five true true true true e = absurd (omega arith)
 
 -- ---- the columns that are read
 
@@ -117,7 +134,7 @@ zero-later (x ∷ xs) (suc k) e = zero-later xs k e
 column-tail : (sheet : List ℕ) (j n : ℕ) → n ≤ 64 → allZero (drop n (columnOf sheet n j)) ≡ true
 column-tail sheet j zero h = rw (← column-start sheet j) (zeros-of 64 0)
 column-tail sheet j (suc m) h =
-    rw (← add-one m, column-more sheet m j (omega arith), drop-set-lt (m + 1) (columnOf sheet m j) m (numberAt sheet (25 + 33 * m) j) (omega arith), add-one m)
+    rw (← add-one m, column-more sheet m j (omega arith), drop-set-lt (m + 1) (columnOf sheet m j) m (numberAt sheet (33 + 33 * m) j) (omega arith), add-one m)
     (zero-later (columnOf sheet m j) m (column-tail sheet j m (omega arith)))
 
 -- ---- a sheet, and the table that it states
@@ -145,20 +162,23 @@ module _ (sheet : List ℕ) where
   abbrev speeds : Bool
   speeds = speedsOk (numberAt sheet 0 2) (numberAt sheet 0 3)
 
+  abbrev loads : Bool
+  loads = loadingOk (numberAt sheet 0 4)
+
   abbrev short : Bool
-  short = ltb (length sheet) 25
+  short = ltb (length sheet) 33
 
   abbrev first : Bool
-  first = isLine sheet 0 3
+  first = isLine sheet 0 4
 
   abbrev long : Bool
-  long = eqb (length sheet) (25 + 33 * n)
+  long = eqb (length sheet) (33 + 33 * n)
 
   abbrev lines : Bool
   lines = all (λ i. isLine sheet (lineOf i) 4) (rowsTo n)
 
   abbrev ofTable : ℕ
-  ofTable = tableNumber (countOk n) speeds rows
+  ofTable = tableNumber (countOk n) speeds loads rows
 
   numbered : checkNumber (checkSheet sheet) ≡ sheetNumber short first (countOk n) long lines ofTable
   unfolding checkSheet checkTable checkNumber refusalNumber Sheets.tableIn
@@ -239,11 +259,13 @@ module _ (sheet : List ℕ) where
         runs = f .crawls;
         slower = f .slower;
         most = f .fast;
+        loading = refl;
+        loads = f .loads;
         row = λ i l h. row-taken a i l h;
         accepted = words-accepted a;
       }
 
-  refused-words : (c : Check) → (checkNumber c ≡ 0 → ⊥) → wordsOf (readChecked c t .table) ≡ replicate 259 0
+  refused-words : (c : Check) → (checkNumber c ≡ 0 → ⊥) → wordsOf (readChecked c t .table) ≡ replicate 260 0
   unfolding wordsOf checkNumber
   refused-words Passed m = absurd (m refl)
   refused-words (Refused r) m = refl
@@ -269,7 +291,7 @@ module _ (sheet : List ℕ) where
   unfolding readOf
   read-as p = rw p (taken p)
 
-  all-zero : (checkNumber (readOf sheet .check) ≡ 0 → ⊥) → wordsOf (readOf sheet .table) ≡ replicate 259 0
+  all-zero : (checkNumber (readOf sheet .check) ≡ 0 → ⊥) → wordsOf (readOf sheet .table) ≡ replicate 260 0
   unfolding readOf
   all-zero m = refused-words (checkSheet sheet) (λ z. m (read-number ∙ z))
 
@@ -284,20 +306,21 @@ module _ (sheet : List ℕ) where
       record {
         taken = λ e. let p = passed-check (checkSheet sheet) (sym read-number ∙ e) in read-as p;
         refused = λ m. all-zero m;
-        known = rw chain (known ofTable short first (countOk n) long lines (table-known (countOk n) speeds rows));
-        one = λ e l h. not-one ofTable first (countOk n) lines (table-not-one (countOk n) speeds rows .0)
-            (rw (le-ltb (length sheet) 25 h, eq-eqb (length sheet) (25 + 33 * n) l) at (sym chain ∙ e));
-        three = λ e l h. not-three (tableNumber true speeds rows) short first long lines
-            (table-not-three speeds rows)
+        known = rw chain (known ofTable short first (countOk n) long lines (table-known (countOk n) speeds loads rows));
+        one = λ e l h. not-one ofTable first (countOk n) lines (table-not-one (countOk n) speeds loads rows .0)
+            (rw (le-ltb (length sheet) 33 h, eq-eqb (length sheet) (33 + 33 * n) l) at (sym chain ∙ e));
+        three = λ e l h. not-three (tableNumber true speeds loads rows) short first long lines
+            (table-not-three speeds loads rows)
             (rw (le-leb 1 n l, le-leb n 64 h) at (sym chain ∙ e));
-        four = λ e l h m. table-not-four (countOk n) rows
+        four = λ e l h m. table-not-four (countOk n) loads rows
             (rw (
               le-leb 1 (numberAt sheet 0 2) (omega arith),
               le-leb (numberAt sheet 0 2) 1000 m,
               le-leb 1 (numberAt sheet 0 3) l,
               le-leb (numberAt sheet 0 3) (numberAt sheet 0 2) h,
             ) at (from-table 4 (omega arith) e));
-        two = λ e l f. not-two ofTable short (countOk n) long (table-not-one (countOk n) speeds rows .1)
+        two = λ e l f. not-two ofTable short (countOk n) long (table-not-one (countOk n) speeds loads rows .1)
             (rw (l, all-of (λ i. isLine sheet (lineOf i) 4) n f) at (sym chain ∙ e));
-        five = λ e f. some-row-out f (table-five (countOk n) speeds rows (from-table 5 (omega arith) e));
+        eleven = λ e l. table-not-eleven (countOk n) speeds rows (rw (le-leb (numberAt sheet 0 4) 16 l) at (from-table 11 (omega arith) e));
+        five = λ e f. some-row-out f (table-five (countOk n) speeds loads rows (from-table 5 (omega arith) e));
       }

@@ -19,7 +19,7 @@ use Rattle.rules.specs.Numbers.{refusalNumber, checkNumber}
 use Rattle.rules.specs.Rows.{rowsOf}
 use Rattle.rules.specs.Sheets as Sheets
 use Rattle.rules.specs.Sheets.{numberAt, checkSheet, readChecked, readOf, sheetOf, checkWrite, writeOf}
-use Rattle.rules.specs.Tables.{countOk, speedsOk, rowOk, tailOk, checkTable, Accepted, FullTable, zeroTable}
+use Rattle.rules.specs.Tables.{countOk, speedsOk, loadingOk, rowOk, tailOk, checkTable, Accepted, FullTable, zeroTable}
 use Rattle.theory.specs.Tests.{by-bool, by-ltb}
 use Rattle.fields.specs.Values.{value-written, field-written, last-digits}
 use Rattle.fields.specs.Lengths.{written-long}
@@ -28,8 +28,8 @@ use Rattle.sheet.specs.SheetsDiffer.{accepts}
 use Rattle.sheet.specs.RoundTrip.{read-back, sheet-back, only-sheet, table-full}
 use Rattle.sheet.specs.Writer.{sheet-long, passes, fits, back-refused, back-passed}
 use Rattle.jasminebrace.specs.Finishes.{yesWord}
-use Rattle.jasminebrace.specs.Words.{tableIn, wordsOf}
-use Rattle.jasminebrace.specs.Inverse.{words-of-table-in, table-in-words-of}
+use Rattle.words.specs.Words.{tableIn, wordsOf}
+use Rattle.words.specs.Inverse.{words-of-table-in, table-in-words-of}
 use Rattle.conclusions.specs.declared.Again.{Again}
 use Rattle.conclusions.specs.Author.{passed-check}
 use Rattle.conclusions.specs.Entries.{full-table}
@@ -45,9 +45,12 @@ table-not-ten t e =
     (λ a.
     by-bool (speedsOk (t .normal) (t .degraded))
     (λ b.
+    by-bool (loadingOk (t .loading))
+    (λ c.
     by-bool (all (rowOk t) (rowsOf t) && tailOk t)
-    (λ d. let z : _≡_ {A = ℕ} 0 10 = rw (a, b, d) at e in omega arith)
-    (λ d. let z : _≡_ {A = ℕ} 5 10 = rw (a, b, d) at e in omega arith))
+    (λ d. let z : _≡_ {A = ℕ} 0 10 = rw (a, b, c, d) at e in omega arith)
+    (λ d. let z : _≡_ {A = ℕ} 5 10 = rw (a, b, c, d) at e in omega arith))
+    (λ c. let z : _≡_ {A = ℕ} 11 10 = rw (a, b, c) at e in omega arith))
     (λ b. let z : _≡_ {A = ℕ} 4 10 = rw (a, b) at e in omega arith))
     (λ a. let z : _≡_ {A = ℕ} 3 10 = rw a at e in omega arith)
 
@@ -69,7 +72,7 @@ read-full bytes = go (checkSheet bytes)
 both-parts : (r : Reading) (t : Table) → r .check ≡ Passed → r .table ≡ t → r ≡ record { check = Passed; table = t }
 both-parts r t p e = let f : _≡_ {A = Reading} (record { check = r .check; table = r .table }) (record { check = Passed; table = t }) = rw (p, e) in f
 
-module _ (table : List ℕ) (words : length table ≡ 259) where
+module _ (table : List ℕ) (words : length table ≡ 260) where
   abbrev t : Table
   t = tableIn table
 
@@ -88,7 +91,7 @@ module _ (table : List ℕ) (words : length table ≡ 259) where
       only-sheet bytes t (both-parts (readOf bytes) t p same)
 
 -- ---- a table in words, written back
-module _ (table lent : List ℕ) (words : length table ≡ 259) where
+module _ (table lent : List ℕ) (words : length table ≡ 260) where
   abbrev u : Table
   u = tableIn table
 
@@ -141,7 +144,7 @@ module _ (table lent : List ℕ) (words : length table ≡ 259) where
   written-back = by-check (checkWrite u (length lent)) refl
 
 -- ---- a sheet, read and written back
-module _ (sheet lent : List ℕ) (long : length lent ≡ 2137) where
+module _ (sheet lent : List ℕ) (long : length lent ≡ 2145) where
   abbrev read : Reading
   read = readOf sheet
 

@@ -16,8 +16,8 @@ use Rattle.judge.specs.Checked.{checked}
 use Rattle.planner.specs.Promise.{refusal-number}
 use Rattle.record.specs.declared.FreshRun.{FreshRun}
 use Rattle.record.specs.Records.{freshOf}
-use Rattle.jasminebrace.specs.Words.{tableIn, wordsOf, stateWords}
-use Rattle.jasminebrace.specs.Inverse.{words-of-table-in}
+use Rattle.words.specs.Words.{tableIn, wordsOf, stateWords}
+use Rattle.words.specs.Inverse.{words-of-table-in}
 use Rattle.conclusions.specs.declared.Begun.{Begun}
 use Rattle.conclusions.specs.Conclusions.{FreshRecord}
 use Rattle.conclusions.specs.Judged.{both-pass}
@@ -26,7 +26,7 @@ use Rattle.conclusions.specs.Judged.{both-pass}
 abbrev saidOf : FreshRun → Begun
 saidOf f = record { number = checkNumber (f .check); table = wordsOf (f .run .table); order = f .run .order; state = stateWords (f .run) }
 
-module _ (table order : List ℕ) (tables : length table ≡ 259) where
+module _ (table order : List ℕ) (tables : length table ≡ 260) where
   abbrev Begins : Type 0
   Begins = FreshRecord table order (saidOf (freshOf (tableIn table) order))
 

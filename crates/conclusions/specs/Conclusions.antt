@@ -1,6 +1,7 @@
 -- What each caller may rely on, in plain terms and down to the words that the exported functions are lent. One section for each caller.
--- A table's words are n, N, G and then release, work, deadline and level of row 1 to 64; a state's words are the clock and then three figures
--- of row 1 to 64: its work got, its slots used, its closing slot. Times are in slots, work and supplies in work units, speeds in work units per slot.
+-- A table's words are n, N, G, K and then release, work, deadline and level of row 1 to 64; a state's words are the clock and then three
+-- figures of row 1 to 64: its work got, its slots used, its closing slot. Times and K are in slots, work and supplies in work units, speeds in
+-- work units per slot.
 use Prim.Native.Nat.{ℕ, _+_, _-_, _*_, _/_, _%_, _^_, _≤_, _<_, min}
 use mathlib.Core.Bool.{true, false, cond}
 use mathlib.Core.Logic.{_⊎_}
@@ -27,7 +28,7 @@ use Rattle.rules.specs.Tables.{checkTable, Accepted}
 use Rattle.rules.specs.Worst.{horizon, worstSpeed, slack}
 use Rattle.record.specs.Answers.{slotSaid, forwardSaid}
 use Rattle.record.specs.Records.{isSound, freshRun, oneSlot, forwardOver}
-use Rattle.jasminebrace.specs.Words.{tableIn, wordsOf, runIn, stateWords}
+use Rattle.words.specs.Words.{tableIn, wordsOf, runIn, stateWords}
 use Rattle.conclusions.specs.declared.Again.{Again}
 use Rattle.conclusions.specs.declared.Begun.{Begun}
 use Rattle.conclusions.specs.declared.Drawing.{Drawing}
@@ -35,11 +36,12 @@ use Rattle.conclusions.specs.declared.Forwards.{Forwards}
 use Rattle.conclusions.specs.declared.Opinion.{Opinion}
 use Rattle.conclusions.specs.declared.Slots.{Slots}
 
--- ---- The table author: a sheet that is taken states its table (rules 6.5 to 6.8), and a refusal means what it says (rules 10.1 to 10.5).
+-- ---- The table author: a sheet that is taken states its table (rules 6.5 to 6.8), and a refusal means what it says (rules 10.1 to 10.5,
+-- 10.11).
 
 -- the j-th figure of row i's line (rule 6.6)
 abbrev pub figureAt : List ℕ → ℕ → ℕ → ℕ
-figureAt sheet i j = numberAt sheet (25 + 33 * (i - 1)) j
+figureAt sheet i j = numberAt sheet (33 + 33 * (i - 1)) j
 
 -- a row's release, work, deadline and level are within their limits (rule 5.3)
 pub record RowWithin (a c d level : ℕ) : Type 0 where
@@ -51,29 +53,32 @@ pub record RowWithin (a c d level : ℕ) : Type 0 where
 
 -- row i's figures are those of the four fields of its line (rule 6.6), and within their limits (rule 5.3)
 pub record RowTaken (sheet table : List ℕ) (i : ℕ) : Type 0 where
-  pub release : getD table (2 + i) 0 ≡ figureAt sheet i 1
-  pub work : getD table (66 + i) 0 ≡ figureAt sheet i 2
-  pub deadline : getD table (130 + i) 0 ≡ figureAt sheet i 3
-  pub level : getD table (194 + i) 0 ≡ figureAt sheet i 4
-  pub formed : isLine sheet (25 + 33 * (i - 1)) 4 ≡ true
-  pub within : RowWithin (getD table (2 + i) 0) (getD table (66 + i) 0) (getD table (130 + i) 0) (getD table (194 + i) 0)
+  pub release : getD table (3 + i) 0 ≡ figureAt sheet i 1
+  pub work : getD table (67 + i) 0 ≡ figureAt sheet i 2
+  pub deadline : getD table (131 + i) 0 ≡ figureAt sheet i 3
+  pub level : getD table (195 + i) 0 ≡ figureAt sheet i 4
+  pub formed : isLine sheet (33 + 33 * (i - 1)) 4 ≡ true
+  pub within : RowWithin (getD table (3 + i) 0) (getD table (67 + i) 0) (getD table (131 + i) 0) (getD table (195 + i) 0)
 
 -- row i's figures in the sheet are within their limits (rule 5.3)
 abbrev pub RowFits : List ℕ → ℕ → Type 0
 RowFits sheet i = RowWithin (figureAt sheet i 1) (figureAt sheet i 2) (figureAt sheet i 3) (figureAt sheet i 4)
 
--- the sheet has the length of its row count (rule 6.7), its first line (rule 6.5) is well formed, and the table is within its limits (rules 5.1 to 5.3)
+-- the sheet has the length of its row count (rule 6.7), its first line (rule 6.5) is well formed, and the table is within its limits (rules 5.1 to 5.3,
+-- 5.8)
 pub record Taken (sheet table : List ℕ) : Type 0 where
   pub some : 1 ≤ getD table 0 0
   pub few : getD table 0 0 ≤ 64
-  pub length : length sheet ≡ 25 + 33 * getD table 0 0
-  pub formed : isLine sheet 0 3 ≡ true
+  pub length : length sheet ≡ 33 + 33 * getD table 0 0
+  pub formed : isLine sheet 0 4 ≡ true
   pub count : getD table 0 0 ≡ numberAt sheet 0 1
   pub normal : getD table 1 0 ≡ numberAt sheet 0 2
   pub degraded : getD table 2 0 ≡ numberAt sheet 0 3
   pub runs : 1 ≤ getD table 2 0
   pub slower : getD table 2 0 ≤ getD table 1 0
   pub most : getD table 1 0 ≤ 1000
+  pub loading : getD table 3 0 ≡ numberAt sheet 0 4
+  pub loads : getD table 3 0 ≤ 16
   pub row : (i : ℕ) → 1 ≤ i → i ≤ getD table 0 0 → RowTaken sheet table i
   -- the table is accepted as it stands in the words, with nothing after its last row
   pub accepted : Accepted (tableIn table)
@@ -81,24 +86,26 @@ pub record Taken (sheet table : List ℕ) : Type 0 where
 -- with 0 the sheet is taken, with any other number the table is that of zeros (rule 6.8)
 pub record TableAuthor (sheet : List ℕ) (number : ℕ) (table : List ℕ) : Type 0 where
   pub taken : number ≡ 0 → Taken sheet table
-  pub refused : (number ≡ 0 → ⊥) → table ≡ replicate 259 0
-  pub known : number ≤ 5
+  pub refused : (number ≡ 0 → ⊥) → table ≡ replicate 260 0
+  pub known : (number ≤ 5) ⊎ (number ≡ 11)
   -- with 1 the length is wrong, with 3 the row count, with 4 a speed (rules 10.1, 10.3, 10.4)
-  pub one : number ≡ 1 → length sheet ≡ 25 + 33 * numberAt sheet 0 1 → 25 ≤ length sheet → ⊥
+  pub one : number ≡ 1 → length sheet ≡ 33 + 33 * numberAt sheet 0 1 → 33 ≤ length sheet → ⊥
   pub three : number ≡ 3 → 1 ≤ numberAt sheet 0 1 → numberAt sheet 0 1 ≤ 64 → ⊥
   pub four : number ≡ 4 → 1 ≤ numberAt sheet 0 3 → numberAt sheet 0 3 ≤ numberAt sheet 0 2 → numberAt sheet 0 2 ≤ 1000 → ⊥
   -- with 2 some line is not well formed (rule 10.2)
-  pub two : number ≡ 2 → isLine sheet 0 3 ≡ true → ((i : ℕ) → 1 ≤ i → i ≤ numberAt sheet 0 1 → isLine sheet (25 + 33 * (i - 1)) 4 ≡ true) → ⊥
+  pub two : number ≡ 2 → isLine sheet 0 4 ≡ true → ((i : ℕ) → 1 ≤ i → i ≤ numberAt sheet 0 1 → isLine sheet (33 + 33 * (i - 1)) 4 ≡ true) → ⊥
+  -- with 11 the loading is beyond its limit (rule 10.11)
+  pub eleven : number ≡ 11 → numberAt sheet 0 4 ≤ 16 → ⊥
   -- with 5 some row is beyond its limits (rule 10.5)
   pub five : number ≡ 5 → ((i : ℕ) → 1 ≤ i → i ≤ numberAt sheet 0 1 → RowFits sheet i) → ⊥
 
 -- What a table author gets who has a table written back (section 15 of the rules): the lent bytes as they were and as they are afterwards.
 pub record SheetBack (table lent : List ℕ) (number size : ℕ) (after : List ℕ) : Type 0 where
-  -- 0 exactly if the table is accepted and its sheet fits: 25 bytes, and 33 for each row (rules 15.4, 15.8)
+  -- 0 exactly if the table is accepted and its sheet fits: 33 bytes, and 33 for each row (rules 15.4, 15.8)
   pub accepted : number ≡ 0 → Accepted (tableIn table)
-  pub fits : number ≡ 0 → 25 + 33 * getD table 0 0 ≤ length lent
-  pub passes : Accepted (tableIn table) → 25 + 33 * getD table 0 0 ≤ length lent → number ≡ 0
-  pub long : number ≡ 0 → size ≡ 25 + 33 * getD table 0 0
+  pub fits : number ≡ 0 → 33 + 33 * getD table 0 0 ≤ length lent
+  pub passes : Accepted (tableIn table) → 33 + 33 * getD table 0 0 ≤ length lent → number ≡ 0
+  pub long : number ≡ 0 → size ≡ 33 + 33 * getD table 0 0
   -- the first bytes, as many as the length says, read as the table, and no other bytes do (rules 15.6, 15.7)
   pub reads : number ≡ 0 → (checkNumber (readOf (take size after) .check) ≡ 0) × (wordsOf (readOf (take size after) .table) ≡ table)
   pub only : number ≡ 0 → (bytes : List ℕ) → checkNumber (readOf bytes .check) ≡ 0 → wordsOf (readOf bytes .table) ≡ table → bytes ≡ take size after
@@ -108,7 +115,7 @@ pub record SheetBack (table lent : List ℕ) (number size : ℕ) (after : List �
   -- a refusal has the length 0 and writes no byte (rule 15.5)
   pub refused : (number ≡ 0 → ⊥) → (size ≡ 0) × (after ≡ lent)
   -- it is 10 if only the room is missing, and else what the table is refused for (rules 10.10, 11.6)
-  pub ten : number ≡ 10 → Accepted (tableIn table) × (length lent < 25 + 33 * getD table 0 0)
+  pub ten : number ≡ 10 → Accepted (tableIn table) × (length lent < 33 + 33 * getD table 0 0)
   pub own : (number ≡ 10 → ⊥) → number ≡ checkNumber (checkTable (tableIn table))
 
 -- A sheet is read and its table written back: a sheet that was taken comes out byte for byte, with the bytes after it as they were
@@ -147,7 +154,7 @@ pub record Planner (t : Table) (number : ℕ) (order : List ℕ) (left : ℕ) : 
   -- with 7 no order serves, the order is zeros, and the word is that of the rows which the choice leaves (rules 4.6, 10.7)
   pub none : number ≡ 7
       → ((o : List ℕ) → isOrder t o ≡ true → Serves t o → ⊥) × (order ≡ replicate 64 0) × (left ≡ word (choice t .left)) × (choice t .left ≡ [] → ⊥)
-  -- with any other number all is zero (rules 10.3 to 10.5)
+  -- with any other number all is zero (rules 10.3 to 10.5, 10.11)
   pub refused : (number ≡ 0 → ⊥) → (number ≡ 7 → ⊥) → (order ≡ replicate 64 0) × (left ≡ 0)
 
 -- ---- The firmware writer: the row is known before the supply (rules 2.4, 8.15), and a slot changes just what it says (rules 8.9 to 8.14).
@@ -158,31 +165,34 @@ pub record FreshRecord (table order : List ℕ) (said : Begun) : Type 0 where
   pub passed : said .number ≡ 0 → Accepted (tableIn table) × (isOrder (tableIn table) order ≡ true)
   pub passes : Accepted (tableIn table) → isOrder (tableIn table) order ≡ true → said .number ≡ 0
   pub held : said .number ≡ 0 → (said .table ≡ table) × (said .order ≡ order)
-  pub refused : (said .number ≡ 0 → ⊥) → (said .table ≡ replicate 259 0) × (said .order ≡ replicate 64 0)
+  pub refused : (said .number ≡ 0 → ⊥) → (said .table ≡ replicate 260 0) × (said .order ≡ replicate 64 0)
   pub zeros : said .state ≡ replicate 193 0
 
 -- row i is released at the clock and open (rule 2.2)
 abbrev pub ReadyIn : List ℕ → List ℕ → ℕ → Type 0
-ReadyIn table state i = (1 ≤ i) × (i ≤ getD table 0 0) × (getD table (2 + i) 0 ≤ getD state 0 0) × (getD state (128 + i) 0 ≡ 0)
+ReadyIn table state i = (1 ≤ i) × (i ≤ getD table 0 0) × (getD table (3 + i) 0 ≤ getD state 0 0) × (getD state (128 + i) 0 ≡ 0)
 
 -- row j has the same work got, the same slots used and the same closing slot in both states
 abbrev pub SameRow : List ℕ → List ℕ → ℕ → Type 0
 SameRow next state j =
     (getD next j 0 ≡ getD state j 0) × (getD next (64 + j) 0 ≡ getD state (64 + j) 0) × (getD next (128 + j) 0 ≡ getD state (128 + j) 0)
 
--- row i runs, because it is ready and no row of a higher place is (rule 2.3); its three figures follow rules 2.5 to 2.11, and no other row's change
+-- row i runs, because it is ready and no row of a higher place is (rule 2.3); its three figures follow rules 2.5 to 2.11 and
+-- 2.14, and no other row's change
 pub record RowRuns (table order state : List ℕ) (supply i : ℕ) (next : List ℕ) : Type 0 where
   pub ready : ReadyIn table state i
   pub place : ℕ
   pub stands : getD order place 0 ≡ i
   pub highest : (p : ℕ) → p < place → ReadyIn table state (getD order p 0) → ⊥
-  pub got : getD next i 0 ≡ min (getD table (66 + i) 0) (getD state i 0 + supply)
+  -- a row that has used fewer than K slots loads and gets nothing, whatever the supply; any other gets the supply, up to its work
+  pub loads : getD state (64 + i) 0 < getD table 3 0 → getD next i 0 ≡ getD state i 0
+  pub got : getD table 3 0 ≤ getD state (64 + i) 0 → getD next i 0 ≡ min (getD table (67 + i) 0) (getD state i 0 + supply)
   pub used : getD next (64 + i) 0 ≡ getD state (64 + i) 0 + 1
-  pub done : getD next i 0 ≡ getD table (66 + i) 0 → getD next (128 + i) 0 ≡ getD state 0 0 + 1
-  pub dropped : getD table (194 + i) 0 ≡ 0 → need (getD table (66 + i) 0) (getD table 1 0) ≤ getD next (64 + i) 0
+  pub done : getD next i 0 ≡ getD table (67 + i) 0 → getD next (128 + i) 0 ≡ getD state 0 0 + 1
+  pub dropped : getD table (195 + i) 0 ≡ 0 → need (getD table 3 0) (getD table (67 + i) 0) (getD table 1 0) ≤ getD next (64 + i) 0
       → getD next (128 + i) 0 ≡ getD state 0 0 + 1
-  pub still-open : (getD next i 0 ≡ getD table (66 + i) 0 → ⊥)
-      → (getD table (194 + i) 0 ≡ 0 → getD next (64 + i) 0 < need (getD table (66 + i) 0) (getD table 1 0))
+  pub still-open : (getD next i 0 ≡ getD table (67 + i) 0 → ⊥)
+      → (getD table (195 + i) 0 ≡ 0 → getD next (64 + i) 0 < need (getD table 3 0) (getD table (67 + i) 0) (getD table 1 0))
       → getD next (128 + i) 0 ≡ 0
   pub others : (j : ℕ) → 1 ≤ j → j ≤ 64 → (j ≡ i → ⊥) → SameRow next state j
 
@@ -251,13 +261,13 @@ listWords table order (c ∷ cs) state =
 
 -- each slot before row i's deadline by which some row is released supplied at least s work units (rules 9.14, 9.15)
 abbrev pub SuppliedIn : List ℕ → List Call → ℕ → ℕ → Type 0
-SuppliedIn table cs i s = (u j : ℕ) → 1 ≤ j → j ≤ getD table 0 0 → getD table (2 + j) 0 ≤ u → u < getD table (130 + i) 0 → s ≤ supplyAt cs u
+SuppliedIn table cs i s = (u j : ℕ) → 1 ≤ j → j ≤ getD table 0 0 → getD table (3 + j) 0 ≤ u → u < getD table (131 + i) 0 → s ≤ supplyAt cs u
 
 -- row i has got its work, and its closing slot is at least 1 and at most its deadline, in the words of a state (rule 3.1)
 pub record KeptWords (table state : List ℕ) (i : ℕ) : Type 0 where
-  pub got : getD state i 0 ≡ getD table (66 + i) 0
+  pub got : getD state i 0 ≡ getD table (67 + i) 0
   pub from : 1 ≤ getD state (128 + i) 0
-  pub upTo : getD state (128 + i) 0 ≤ getD table (130 + i) 0
+  pub upTo : getD state (128 + i) 0 ≤ getD table (131 + i) 0
 
 -- the words of the fresh record's state (rule 8.2)
 abbrev pub startOf : List ℕ → List ℕ → List ℕ
@@ -268,9 +278,9 @@ startOf table order = stateWords (freshRun (tableIn table) order)
 pub record PenEngineer (table order start : List ℕ) (cs : List Call) : Type 0 where
   pub said : listWords table order cs start .said ≡ tellAll (tableIn table) order cs fresh .said
   pub clock : getD (listWords table order cs start .state) 0 0 ≡ tellAll (tableIn table) order cs fresh .state .clock
-  pub high : (i : ℕ) → 1 ≤ i → i ≤ getD table 0 0 → (getD table (194 + i) 0 ≡ 0 → ⊥) → getD table (130 + i) 0 ≤ getD (listWords table order cs start .state) 0 0
+  pub high : (i : ℕ) → 1 ≤ i → i ≤ getD table 0 0 → (getD table (195 + i) 0 ≡ 0 → ⊥) → getD table (131 + i) 0 ≤ getD (listWords table order cs start .state) 0 0
       → SuppliedIn table cs i (getD table 2 0) → KeptWords table (listWords table order cs start .state) i
-  pub low : (i : ℕ) → 1 ≤ i → i ≤ getD table 0 0 → getD table (194 + i) 0 ≡ 0 → getD table (130 + i) 0 ≤ getD (listWords table order cs start .state) 0 0
+  pub low : (i : ℕ) → 1 ≤ i → i ≤ getD table 0 0 → getD table (195 + i) 0 ≡ 0 → getD table (131 + i) 0 ≤ getD (listWords table order cs start .state) 0 0
       → SuppliedIn table cs i (getD table 1 0) → KeptWords table (listWords table order cs start .state) i
 
 -- a number and a value as an answer (rules 9.7, 9.8)
@@ -317,11 +327,11 @@ abbrev pub tenAt : List ℕ → ℕ → ℕ → List ℕ
 tenAt text start j = take 10 (drop (start + 10 * (j - 1)) text)
 
 -- The line of place k, with row i at the place, whose worst run finishes it at f (rules 16.2, 16.4): the place, the row, and in slots
--- the row's work at N rounded up, that finish, and the row's deadline less it.
+-- the row's need at N, which is K and its work at N rounded up, that finish, and the row's deadline less it.
 pub record JobListed (t : Table) (text : List ℕ) (k i f : ℕ) : Type 0 where
   pub place : tenAt text (51 * (k - 1)) 1 ≡ figure (pos k)
   pub row : tenAt text (51 * (k - 1)) 2 ≡ figure (pos i)
-  pub need : tenAt text (51 * (k - 1)) 3 ≡ figure (pos (need (at (t .work) i) (t .normal)))
+  pub need : tenAt text (51 * (k - 1)) 3 ≡ figure (pos (need (t .loading) (at (t .work) i) (t .normal)))
   pub finish : tenAt text (51 * (k - 1)) 4 ≡ figure (pos f)
   pub slack : tenAt text (51 * (k - 1)) 5 ≡ figure (pos (at (t .deadline) i) -ℤ pos f)
   pub ends : getD text (51 * (k - 1) + 50) 0 ≡ 10
@@ -337,7 +347,7 @@ pub record Listing (t : Table) (o lent : List ℕ) (number size : ℕ) (after : 
   pub job : number ≡ 0 → (k : ℕ) → 1 ≤ k → k ≤ t .n → (f : ℕ) → WorstRun t o (at o k) f → JobListed t after k (at o k) f
   pub run : number ≡ 0 → (k : ℕ) → 1 ≤ k → k ≤ t .n → (f : ℕ) × WorstRun t o (at o k) f
   -- the last line has the needs of all rows and the count of those that are late, each row counted once, whatever its place (rule 16.3)
-  pub needs : number ≡ 0 → tenAt after (51 * t .n) 1 ≡ figure (pos (sum (λ i. need (at (t .work) i) (t .normal)) (rowsTo (t .n))))
+  pub needs : number ≡ 0 → tenAt after (51 * t .n) 1 ≡ figure (pos (sum (λ i. need (t .loading) (at (t .work) i) (t .normal)) (rowsTo (t .n))))
   pub late : number ≡ 0 → tenAt after (51 * t .n) 2 ≡ figure (pos (sum (λ i. cond (ltZ (slack t o i) (pos 0)) 1 0) (rowsTo (t .n))))
   pub ends : number ≡ 0 → getD after (51 * t .n + 20) 0 ≡ 10
   -- no row is late exactly if the order serves under every course of speed (rule 16.10)

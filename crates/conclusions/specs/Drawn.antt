@@ -27,8 +27,8 @@ use Rattle.guarantee.specs.Claim.{RunRight, Claim}
 use Rattle.guarantee.specs.Concluded.{Supplied, Done, Deadlines, concluded}
 use Rattle.guarantee.specs.Playing.{AllMade, make, makeAll}
 use Rattle.guarantee.specs.Proved.{demand-3}
-use Rattle.jasminebrace.specs.Inverse.{words-of-table-in}
-use Rattle.jasminebrace.specs.Words.{tableIn, wordsOf, runIn, stateWords}
+use Rattle.words.specs.Inverse.{words-of-table-in}
+use Rattle.words.specs.Words.{tableIn, wordsOf, runIn, stateWords}
 use Rattle.conclusions.specs.declared.Drawing.{Drawing}
 use Rattle.conclusions.specs.Conclusions.{CallTold, callWords, ListTold, listWords, SuppliedIn, KeptWords, startOf, PenEngineer, told, Drawn}
 use Rattle.conclusions.specs.Entries.{TableWords, table-words, StateWords, state-words}
@@ -65,7 +65,7 @@ module _ (t : Table) (o : List ℕ) where
   alike-all [] q a = a
   alike-all (c ∷ cs) q a = alike-all cs (make c q .run) (alike-made c q a)
 
-module _ (table order : List ℕ) (tables : length table ≡ 259) where
+module _ (table order : List ℕ) (tables : length table ≡ 260) where
   abbrev t : Table
   t = tableIn table
 
@@ -124,7 +124,7 @@ module _ (table order : List ℕ) (tables : length table ≡ 259) where
         let e = end-words i l (few i h) in
         record { got = e .got ∙ k .got ∙ sym (w .work); from = rw (e .closing) (k .from); upTo = rw (e .closing, w .deadline) (k .upTo) }
 
-    reached : (i : ℕ) → 1 ≤ i → i ≤ t .n → getD table (130 + i) 0 ≤ getD (listWords table order cs start .state) 0 0 → at (t .deadline) i ≤ end .clock
+    reached : (i : ℕ) → 1 ≤ i → i ≤ t .n → getD table (131 + i) 0 ≤ getD (listWords table order cs start .state) 0 0 → at (t .deadline) i ≤ end .clock
     reached i l h d = omega (arith, rw listed at d, clock-word end, table-words table i l (few i h) .deadline)
 
     pub penned : PenEngineer table order start cs
@@ -153,7 +153,7 @@ pub record Drew (table supplies runTable runOrder runState : List ℕ) (said : D
   pub worked : said .worked ≡ forwardSaid (forwardOver (runIn runTable runOrder runState) supplies .answer) .value
   pub state : said .state ≡ stateWords (forwardOver (runIn runTable runOrder runState) supplies .run)
 
-module _ (table supplies runTable runOrder runState : List ℕ) (tables : length table ≡ 259) (said : Drawing)
+module _ (table supplies runTable runOrder runState : List ℕ) (tables : length table ≡ 260) (said : Drawing)
     (d : Drew table supplies runTable runOrder runState said) where
   module _ (n : said .planned ≡ 0) where
     made : plannedNumber (planOf (tableIn table) .answer) ≡ 0

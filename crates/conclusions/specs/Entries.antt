@@ -9,32 +9,32 @@ use Rattle.rules.specs.declared.Table.{Table}
 use Rattle.rules.specs.Rows.{at}
 use Rattle.record.specs.declared.Run.{Run}
 use Rattle.rules.specs.Tables.{FullTable}
-use Rattle.jasminebrace.specs.Words.{columnAt, tableIn, runIn}
+use Rattle.words.specs.Words.{columnAt, tableIn, runIn}
 
 -- row i's entry of a column is the word that stands i - 1 places into it
 pub entry : (words : List ℕ) (from i : ℕ) → 1 ≤ i → i ≤ 64 → at (columnAt from words) i ≡ getD words (from + (i - 1)) 0
 entry words from i l h = getD-take 64 (drop from words) (i - 1) 0 (omega arith) ∙ getD-drop from words (i - 1) 0
 
--- 259 words hold a table with full columns
+-- 260 words hold a table with full columns
 pub column-full : (words : List ℕ) (from : ℕ) → from + 64 ≤ length words → length (columnAt from words) ≡ 64
 column-full words from h = omega (arith, length-take 64 (drop from words), length-drop from words)
 
-pub full-table : (table : List ℕ) → length table ≡ 259 → FullTable (tableIn table)
+pub full-table : (table : List ℕ) → length table ≡ 260 → FullTable (tableIn table)
 unfolding tableIn
 full-table table e =
     record {
-      release = column-full table 3 (omega arith);
-      work = column-full table 67 (omega arith);
-      deadline = column-full table 131 (omega arith);
-      level = column-full table 195 (omega arith);
+      release = column-full table 4 (omega arith);
+      work = column-full table 68 (omega arith);
+      deadline = column-full table 132 (omega arith);
+      level = column-full table 196 (omega arith);
     }
 
 -- the words of a table, row by row
 pub record TableWords (words : List ℕ) (t : Table) (i : ℕ) : Type 0 where
-  pub release : getD words (2 + i) 0 ≡ at (t .release) i
-  pub work : getD words (66 + i) 0 ≡ at (t .work) i
-  pub deadline : getD words (130 + i) 0 ≡ at (t .deadline) i
-  pub level : getD words (194 + i) 0 ≡ at (t .level) i
+  pub release : getD words (3 + i) 0 ≡ at (t .release) i
+  pub work : getD words (67 + i) 0 ≡ at (t .work) i
+  pub deadline : getD words (131 + i) 0 ≡ at (t .deadline) i
+  pub level : getD words (195 + i) 0 ≡ at (t .level) i
 
 -- the word at a place, where the place is written in two ways
 same-word : (words : List ℕ) (p q v : ℕ) → p ≡ q → v ≡ getD words q 0 → getD words p 0 ≡ v
@@ -44,10 +44,10 @@ pub table-words : (words : List ℕ) (i : ℕ) → 1 ≤ i → i ≤ 64 → Tabl
 unfolding tableIn
 table-words words i l h =
     record {
-      release = same-word words (2 + i) (3 + (i - 1)) _ (omega arith) (entry words 3 i l h);
-      work = same-word words (66 + i) (67 + (i - 1)) _ (omega arith) (entry words 67 i l h);
-      deadline = same-word words (130 + i) (131 + (i - 1)) _ (omega arith) (entry words 131 i l h);
-      level = same-word words (194 + i) (195 + (i - 1)) _ (omega arith) (entry words 195 i l h);
+      release = same-word words (3 + i) (4 + (i - 1)) _ (omega arith) (entry words 4 i l h);
+      work = same-word words (67 + i) (68 + (i - 1)) _ (omega arith) (entry words 68 i l h);
+      deadline = same-word words (131 + i) (132 + (i - 1)) _ (omega arith) (entry words 132 i l h);
+      level = same-word words (195 + i) (196 + (i - 1)) _ (omega arith) (entry words 196 i l h);
     }
 
 -- the words of a state, row by row

@@ -24,15 +24,15 @@ use Rattle.sheet.specs.SheetsDiffer.{same-eq}
 use Rattle.sheet.specs.RoundTrip.{read-back}
 use Rattle.sheet.specs.Writer.{sheet-long, passes, too-short, back-refused, back-passed}
 use Rattle.jasminebrace.specs.Finishes.{yesWord}
-use Rattle.jasminebrace.specs.Words.{tableIn, wordsOf}
-use Rattle.jasminebrace.specs.Inverse.{words-of-table-in}
+use Rattle.words.specs.Words.{tableIn, wordsOf}
+use Rattle.words.specs.Inverse.{words-of-table-in}
 use Rattle.conclusions.specs.Entries.{full-table}
 use Rattle.conclusions.specs.declared.Again.{Again}
 use Rattle.conclusions.specs.Back.{again}
 use Rattle.conclusions.specs.Conclusions.{SheetBack, SheetAgain, NumberField}
 
 -- ---- a table written back
-module _ (table lent : List ℕ) (number size : ℕ) (after : List ℕ) (words : length table ≡ 259) (s : SheetBack table lent number size after) where
+module _ (table lent : List ℕ) (number size : ℕ) (after : List ℕ) (words : length table ≡ 260) (s : SheetBack table lent number size after) where
   abbrev u : Table
   u = tableIn table
 
@@ -83,7 +83,7 @@ module _ (table lent : List ℕ) (number size : ℕ) (after : List ℕ) (words :
       (λ _ n. by-eqb number 10 (λ _ z. refused NoRoom (full z) z n) (λ _ m. own-check (checkTable u) refl (s .own m) n))
 
 -- ---- a sheet read and written back
-pub again-exact : (sheet lent : List ℕ) (said : Again) (after : List ℕ) → length lent ≡ 2137
+pub again-exact : (sheet lent : List ℕ) (said : Again) (after : List ℕ) → length lent ≡ 2145
     → said .read ≡ checkNumber (readOf sheet .check)
     → SheetAgain sheet lent said after
     → let b = writeOf (tableIn (wordsOf (readOf sheet .table))) lent in

@@ -1,5 +1,5 @@
 -- The firmware writer's conclusion, from the definition of one slot on a record and the words that hold one.
-use Prim.Native.Nat.{ℕ, zero, suc, _+_, _-_, _≤_, _<_}
+use Prim.Native.Nat.{ℕ, zero, suc, _+_, _-_, _≤_, _<_, min}
 use mathlib.Core.Bool.{Bool, true, false}
 use mathlib.Core.Logic.{inl, inr}
 use mathlib.Core.List.{List, [], _∷_, _++_}
@@ -14,13 +14,13 @@ use Rattle.rules.specs.Need.{need}
 use Rattle.rules.specs.Numbers.{refusalNumber}
 use Rattle.rules.specs.Rows.{at}
 use Rattle.rules.specs.Slots.{isReady, chosen}
-use Rattle.theory.specs.Cells.{Ready, ready-is, chosen-ready, chosen-above}
+use Rattle.theory.specs.Cells.{brought-none, brought-all, Ready, ready-is, chosen-ready, chosen-above}
 use Rattle.theory.specs.Counts.{In}
 use Rattle.theory.specs.Facts.{Row, both-order, in-rows, is-row, count-zero}
 use Rattle.theory.specs.Places.{order-rows}
 use Rattle.theory.specs.Tests.{by-bool, by-eqb, not-both}
 use Rattle.columns.specs.Entries.{put-same, put-other}
-use Rattle.columns.specs.Figures.{over}
+use Rattle.columns.specs.Figures.{over, sound-facts}
 use Rattle.record.specs.declared.Run.{Run}
 use Rattle.record.specs.Answers.{slotSaid}
 use Rattle.record.specs.Checked.{limits}
@@ -30,8 +30,8 @@ use Rattle.record.specs.Sound.{sound-so, runs}
 use Rattle.record.specs.Stepping.{gotNext, closingNext, rested, served, next-idle, next-served}
 use Rattle.forward.specs.Forwarding.{next-clock}
 use Rattle.rules.specs.Tables.{FullTable}
-use Rattle.jasminebrace.specs.Words.{tableIn, wordsOf, runIn, stateWords}
-use Rattle.jasminebrace.specs.Inverse.{words-of-table-in, state-words-of-run-in, run-in-words}
+use Rattle.words.specs.Words.{tableIn, wordsOf, runIn, stateWords}
+use Rattle.words.specs.Inverse.{words-of-table-in, state-words-of-run-in, run-in-words}
 use Rattle.conclusions.specs.declared.Slots.{Slots}
 use Rattle.conclusions.specs.Conclusions.{ReadyIn, SameRow, RowRuns, FirmwareWriter}
 use Rattle.conclusions.specs.Entries.{column-full, full-table, TableWords, table-words, StateWords, state-words}
@@ -57,24 +57,24 @@ first-at p (x ∷ xs) h =
         earlier (suc k) l = f .before k (omega arith)
 
 -- ---- when a row is over, one way after another
-module _ (work level normal got used : ℕ) where
-  over-done : got ≡ work → over work level normal got used ≡ true
+module _ (work level normal loading got used : ℕ) where
+  over-done : got ≡ work → over work level normal loading got used ≡ true
   unfolding over
   over-done e = rw (eq-eqb got work e)
 
-  over-dropped : level ≡ 0 → need work normal ≤ used → over work level normal got used ≡ true
+  over-dropped : level ≡ 0 → need loading work normal ≤ used → over work level normal loading got used ≡ true
   unfolding over
-  over-dropped z h = by-bool (eqb got work) (λ e. rw e) (λ e. rw (e, eq-eqb level 0 z, le-leb (need work normal) used h))
+  over-dropped z h = by-bool (eqb got work) (λ e. rw e) (λ e. rw (e, eq-eqb level 0 z, le-leb (need loading work normal) used h))
 
-  over-open : (got ≡ work → ⊥) → (level ≡ 0 → used < need work normal) → over work level normal got used ≡ false
+  over-open : (got ≡ work → ⊥) → (level ≡ 0 → used < need loading work normal) → over work level normal loading got used ≡ false
   unfolding over
   over-open n h =
       by-eqb level 0
-      (λ e z. rw (ne-eqb got work n, e, lt-leb (need work normal) used (h z)))
+      (λ e z. rw (ne-eqb got work n, e, lt-leb (need loading work normal) used (h z)))
       (λ e z. rw (ne-eqb got work n, e))
 
--- ---- the words lent: 259 of a table and 193 of a state
-module _ (table order : List ℕ) (tables : length table ≡ 259) where
+-- ---- the words lent: 260 of a table and 193 of a state
+module _ (table order : List ℕ) (tables : length table ≡ 260) where
   -- a record of the same table and order with full columns is the one that its words hold
   pub held : (q : Run) → q .table ≡ tableIn table → q .order ≡ order → Sized q → runIn table order (stateWords q) ≡ q
   held q t o z =
@@ -83,7 +83,7 @@ module _ (table order : List ℕ) (tables : length table ≡ 259) where
       let w : table ≡ wordsOf (q .table) = sym (words-of-table-in table tables) ∙ ap wordsOf (sym t) in
       ap (λ (x : List ℕ). runIn x order (stateWords q)) w ∙ ap (λ (x : List ℕ). runIn (wordsOf (q .table)) x (stateWords q)) (sym o) ∙ e
 
-module _ (table order state : List ℕ) (tables : length table ≡ 259) (states : length state ≡ 193) where
+module _ (table order state : List ℕ) (tables : length table ≡ 260) (states : length state ≡ 193) where
   abbrev r : Run
   r = runIn table order state
 
@@ -207,7 +207,7 @@ module _ (table order state : List ℕ) (tables : length table ≡ 259) (states 
           ∙ put-same (r .closing) i (closingNext r v i) low (omega (arith, high, sized .closing))
 
       abbrev is-over : Bool
-      is-over = over (at (r .table .work) i) (at (r .table .level) i) (r .table .normal) (gotNext r v i) (at (r .used) i + 1)
+      is-over = over (at (r .table .work) i) (at (r .table .level) i) (r .table .normal) (r .table .loading) (gotNext r v i) (at (r .used) i + 1)
 
       -- the closing slot, by whether the row is over
       closed : is-over ≡ true → getD next (128 + i) 0 ≡ r .clock + 1
@@ -234,13 +234,26 @@ module _ (table order state : List ℕ) (tables : length table ≡ 259) (states 
           let row = row-of (getD order p 0) f in
           not-both (isReady (r .table) (stateOf r) (getD order p 0)) (words-ready (getD order p 0) f (omega (arith, few, row .upTo))) (first-place .before p h)
 
-      least-need : need (getD table (66 + i) 0) (getD table 1 0) ≤ getD next (64 + i) 0 → need (at (r .table .work) i) (r .table .normal) ≤ at (r .used) i + 1
+      least-need : need (getD table 3 0) (getD table (67 + i) 0) (getD table 1 0) ≤ getD next (64 + i) 0 → need (r .table .loading) (at (r .table .work) i) (r .table .normal) ≤ at (r .used) i + 1
       unfolding runIn tableIn
       least-need h = rw (tw .work, used-is) at h
 
-      below-need : getD next (64 + i) 0 < need (getD table (66 + i) 0) (getD table 1 0) → at (r .used) i + 1 < need (at (r .table .work) i) (r .table .normal)
+      below-need : getD next (64 + i) 0 < need (getD table 3 0) (getD table (67 + i) 0) (getD table 1 0) → at (r .used) i + 1 < need (r .table .loading) (at (r .table .work) i) (r .table .normal)
       unfolding runIn tableIn
       below-need h = rw (tw .work, used-is) at h
+
+      loads : getD state (64 + i) 0 < getD table 3 0 → getD next i 0 ≡ getD state i 0
+      unfolding runIn tableIn
+      loads h =
+          let most = sound-facts _ _ _ _ _ _ _ _ (sound-so r sound .rows i low (ready .row .upTo)) .most in
+          let none = brought-none (r .table .loading) (at (r .used) i) v (omega (arith, sw .used, h)) in
+          omega (arith, got-is, sw .got, most, none)
+
+      gets : getD table 3 0 ≤ getD state (64 + i) 0 → getD next i 0 ≡ min (getD table (67 + i) 0) (getD state i 0 + v)
+      unfolding runIn tableIn
+      gets h =
+          let all = brought-all (r .table .loading) (at (r .used) i) v (omega (arith, sw .used, h)) in
+          omega (arith, got-is, sw .got, tw .work, all)
 
       row-runs : RowRuns table order state v i next
       unfolding runIn tableIn
@@ -250,11 +263,12 @@ module _ (table order state : List ℕ) (tables : length table ≡ 259) (states 
             place = first-place .place;
             stands = first-place .stands;
             highest = highest;
-            got = rw (tw .work, sw .got) got-is;
+            loads = loads;
+            got = gets;
             used = rw (sw .used) used-is;
-            done = λ q. closed (over-done _ _ _ _ _ (sym got-is ∙ q ∙ tw .work));
-            dropped = λ z h. closed (over-dropped _ _ _ _ _ (sym (tw .level) ∙ z) (least-need h));
-            still-open = λ n h. not-closed (over-open _ _ _ _ _ (λ q. n (got-is ∙ q ∙ sym (tw .work))) (λ z. below-need (h (tw .level ∙ z))));
+            done = λ q. closed (over-done _ _ _ _ _ _ (sym got-is ∙ q ∙ tw .work));
+            dropped = λ z h. closed (over-dropped _ _ _ _ _ _ (sym (tw .level) ∙ z) (least-need h));
+            still-open = λ n h. not-closed (over-open _ _ _ _ _ _ (λ q. n (got-is ∙ q ∙ sym (tw .work))) (λ z. below-need (h (tw .level ∙ z))));
             others = other;
           }
 

@@ -20,8 +20,8 @@ use Rattle.record.specs.Kept.{Sized, sized-kept, sound-kept}
 use Rattle.record.specs.Records.{isSound, nextRun, oneSlot, workOn, forwardOver}
 use Rattle.record.specs.Sound.{sound-so}
 use Rattle.forward.specs.Forwarding.{next-clock}
-use Rattle.jasminebrace.specs.Words.{runIn, stateWords}
-use Rattle.jasminebrace.specs.Inverse.{state-words-of-run-in}
+use Rattle.words.specs.Words.{runIn, stateWords}
+use Rattle.words.specs.Inverse.{state-words-of-run-in}
 use Rattle.conclusions.specs.declared.Forwards.{Forwards}
 use Rattle.conclusions.specs.Conclusions.{slotWords, slotsWords, Forwarding}
 use Rattle.conclusions.specs.Firmware.{sized, next-held}
@@ -42,7 +42,7 @@ pub clock-word : (q : Run) → getD (stateWords q) 0 0 ≡ q .clock
 unfolding stateWords
 clock-word q = refl
 
-module _ (table order : List ℕ) (tables : length table ≡ 259) where
+module _ (table order : List ℕ) (tables : length table ≡ 260) where
   -- the slot of a sound record below clock 2,000,000 is the next record, over the words
   slot-is : (v : ℕ) (state : List ℕ) → isSound (runIn table order state) ≡ true → ltb (runIn table order state .clock) lastClock ≡ true
       → slotWords table order v state ≡ stateWords (nextRun (runIn table order state) v)

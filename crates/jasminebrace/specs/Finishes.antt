@@ -13,12 +13,12 @@ use Rattle.rules.specs.Orders.{checkBoth}
 use Rattle.rules.specs.Worst.{worstFinish}
 use Rattle.rules.specs.Choice.{padded}
 
--- by what checks 3 to 6 answer (rules 7.5, 11.4)
+-- by what the checks of table and order answer (rules 7.5, 11.4)
 abbrev pub finishesChecked : Check → Table → List ℕ → List ℕ
 finishesChecked Passed t o = padded (map (worstFinish t o) (rowsOf t))
 finishesChecked (Refused r) t o = replicate 64 0
 
--- the worst finish of each row in slots, zeros after row n; all zero where checks 3 to 6 refuse the table or the order (rule 7.5)
+-- the worst finish of each row in slots, zeros after row n; all zero where a check refuses the table or the order (rule 7.5)
 unfoldable pub finishesOf : Table → List ℕ → List ℕ
 finishesOf t o = finishesChecked (checkBoth t o) t o
 

@@ -1,7 +1,4 @@
-pub mod Words
 pub mod Finishes
-pub mod Inverse
-pub mod Copies
 pub mod Zeros
 pub mod Packed
 pub mod Version

@@ -1,4 +1,4 @@
-// The C boundary: the library's calls over lent arrays of numbers. specs/Words says how they hold a table and a run record.
+// The C boundary: the library's calls over lent arrays of numbers. The crate words says how they hold a table and a run record.
 // Times are in slots, work and supplies in work units, speeds in work units per slot. What is lent as & is only read, and
 // what is lent as &mut is written whole by every call, refusals included, but for the bytes that a sheet or a report is written to: those
 // after it stay as they were, and with a refusal all of them do. A list is a pointer and its length.
@@ -19,7 +19,7 @@ ghost use Rattle.rules.specs.Reports.{reportOf};
 ghost use Rattle.rules.specs.Sheets.{readOf, writeOf};
 ghost use Rattle.record.specs.Answers.{slotSaid, forwardSaid};
 ghost use Rattle.record.specs.Records.{freshOf, comingSlot, oneSlot, forwardOver};
-ghost use Rattle.jasminebrace.specs.Words.{columnAt, tableIn, wordsOf, runIn, stateWords};
+ghost use Rattle.words.specs.Words.{tableIn, wordsOf, runIn, stateWords};
 ghost use Rattle.jasminebrace.specs.Finishes.{finishesOf, yesWord};
 ghost use Rattle.jasminebrace.specs.Packed.{packedOf};
 ghost use Rattle.jasminebrace.specs.Version.{version};
@@ -29,129 +29,12 @@ use rules::Row;
 use rules::Table;
 use rules::Verdict;
 
-// Where the columns of a table's words begin, after n and the two speeds.
-const RELEASE: usize = 3;
-
-const WORK: usize = 3 + 64;
-
-const DEADLINE: usize = 3 + 64 * 2;
-
-const LEVEL: usize = 3 + 64 * 3;
-
-// Where the columns of a state's words begin, after the clock.
-const GOT: usize = 1;
-
-const USED: usize = 1 + 64;
-
-const CLOSING: usize = 1 + 64 * 2;
-
 // The judge's number, yes as 1 or 0, the tightest row and its slack in slots (rules 7.2 to 7.4).
 struct VerdictNumbers {
     number: u32,
     yes: u32,
     row: u32,
     slack: i32,
-}
-
-// The sixty-four words from a place on.
-fn column(words: &[u32], from: usize) -> [u32; 64]
-    requires { ⌜ from + 64 ≤ length (now words) ⌝ }
-    ensures { λ r. ⌜ r ≡ columnAt from (now (words .entry)) ⌝ }
-{
-    let mut out = [0u32; 64];
-    let mut i: usize = 0;
-    while i < 64 {
-        out[i] = words[from + i];
-        i += 1;
-    }
-    out
-}
-
-// Writes a column over the words from a place on.
-fn put_column(words: &mut [u32], from: usize, entries: [u32; 64])
-    requires { ⌜ from + 64 ≤ length (now words) ⌝ }
-    ensures { λ r. ⌜ now (words .exit) ≡ paste (now (words .entry)) from entries 64 ⌝ }
-{
-    let mut i: usize = 0;
-    while i < 64 {
-        words[from + i] = entries[i];
-        i += 1;
-    }
-}
-
-// The table that the words hold, as specs/Words lays it out.
-fn table_in(words: &[u32; 259]) -> Table
-    ensures { λ t. ⌜ t ≡ tableIn (now (words .entry)) ⌝ }
-{
-    let n = words[0];
-    let normal = words[1];
-    let degraded = words[2];
-    let release = column(words, RELEASE);
-    let work = column(words, WORK);
-    let deadline = column(words, DEADLINE);
-    let level = column(words, LEVEL);
-    Table {
-        n,
-        normal,
-        degraded,
-        release,
-        work,
-        deadline,
-        level,
-    }
-}
-
-// The words of a table.
-fn words_of(t: Table) -> [u32; 259]
-    ensures { λ r. ⌜ r ≡ wordsOf t ⌝ }
-{
-    let mut words = [0u32; 259];
-    words[0] = t.n;
-    words[1] = t.normal;
-    words[2] = t.degraded;
-    let release = t.release;
-    let work = t.work;
-    let deadline = t.deadline;
-    let level = t.level;
-    put_column(&mut words, RELEASE, release);
-    put_column(&mut words, WORK, work);
-    put_column(&mut words, DEADLINE, deadline);
-    put_column(&mut words, LEVEL, level);
-    words
-}
-
-// The run record that the words of a table, an order and the words of a state hold.
-fn run_in(table: &[u32; 259], order: [u8; 64], state: [u32; 193]) -> Run
-    ensures { λ r. ⌜ r ≡ runIn (now (table .entry)) order state ⌝ }
-{
-    let t = table_in(table);
-    let clock = state[0];
-    let got = column(&state, GOT);
-    let used = column(&state, USED);
-    let closing = column(&state, CLOSING);
-    Run {
-        table: t,
-        order,
-        clock,
-        got,
-        used,
-        closing,
-    }
-}
-
-// The words of a run record's state.
-fn state_words(run: Run) -> [u32; 193]
-    ensures { λ r. ⌜ r ≡ stateWords run ⌝ }
-{
-    let mut words = [0u32; 193];
-    words[0] = run.clock;
-    let got = run.got;
-    let used = run.used;
-    let closing = run.closing;
-    put_column(&mut words, GOT, got);
-    put_column(&mut words, USED, used);
-    put_column(&mut words, CLOSING, closing);
-    words
 }
 
 // A verdict as numbers (rules 7.2 to 7.4, 10.0).
@@ -213,26 +96,26 @@ fn packed(verdict: Verdict) -> u64
 
 // Reads a sheet into the words of a table, all zero on a refusal (rule 6.8). Gives the number of the sheet's checks (rule 11.2).
 #[no_mangle]
-pub extern "C" fn jb_read(sheet: &[u8], table: &mut [u32; 259]) -> u32
+pub extern "C" fn jb_read(sheet: &[u8], table: &mut [u32; 260]) -> u32
     ensures { λ r. ⌜ (let reading = readOf (now (sheet .entry)) in (r ≡ checkNumber (reading .check)) × (now (table .exit) ≡ wordsOf (reading .table))) ⌝ }
 {
     let reading = sheet::read(sheet);
     let t = reading.table;
     let check = reading.check;
-    *table = words_of(t);
+    *table = words::words_of(t);
     numbers::check_number(check)
 }
 
 // Writes the sheet of a table to the start of lent bytes and gives its length in bytes (rule 15.2); no byte and 0 on a refusal
 // (rule 15.5). Gives the number of the writer's checks (rule 11.6).
 #[no_mangle]
-pub extern "C" fn jb_write(table: &[u32; 259], sheet: &mut [u8], size: &mut u32) -> u32
+pub extern "C" fn jb_write(table: &[u32; 260], sheet: &mut [u8], size: &mut u32) -> u32
     ensures { λ r. ⌜ (let back = writeOf (tableIn (now (table .entry))) (now (sheet .entry)) in
         (r ≡ checkNumber (back .said .check))
         × (now (size .exit) ≡ back .said .size)
         × (now (sheet .exit) ≡ back .bytes)) ⌝ }
 {
-    let t = table_in(table);
+    let t = words::table_in(table);
     let writing = sheet::write(t, sheet);
     let check = writing.check;
     *size = writing.size;
@@ -251,13 +134,13 @@ pub extern "C" fn jb_field(figure: u32, field: &mut [u8; 8]) -> u32
 // Plans an order for a table, all zero where none is made. Gives 0, 7 with the word of the rows left, or a refusal's number (rules 4.6,
 // 4.8, 4.10, 11.3).
 #[no_mangle]
-pub extern "C" fn jb_plan(table: &[u32; 259], order: &mut [u8; 64], left: &mut u64) -> u32
+pub extern "C" fn jb_plan(table: &[u32; 260], order: &mut [u8; 64], left: &mut u64) -> u32
     ensures { λ r. ⌜ (let planning = planOf (tableIn (now (table .entry))) in
         (r ≡ plannedNumber (planning .answer))
         × (now (order .exit) ≡ planning .order)
         × (now (left .exit) ≡ rowsLeft (planning .answer))) ⌝ }
 {
-    let t = table_in(table);
+    let t = words::table_in(table);
     let planning = planner::plan(t);
     let made = planning.order;
     let answer = planning.answer;
@@ -270,7 +153,7 @@ pub extern "C" fn jb_plan(table: &[u32; 259], order: &mut [u8; 64], left: &mut u
 // Judges an order of a table: yes as 1 or 0, the tightest row, and its slack in slots. All zero on a refusal (rules 7.2 to 7.4).
 #[no_mangle]
 pub extern "C" fn jb_judge(
-    table: &[u32; 259],
+    table: &[u32; 260],
     order: &[u8; 64],
     yes: &mut u32,
     row: &mut u32,
@@ -282,7 +165,7 @@ pub extern "C" fn jb_judge(
         × (now (row .exit) ≡ verdictRow verdict)
         × (now (slack .exit) ≡ verdictSlack verdict)) ⌝ }
 {
-    let t = table_in(table);
+    let t = words::table_in(table);
     let placed = *order;
     let verdict = judge::judge_table(t, placed);
     let numbers = verdict_numbers(verdict);
@@ -293,24 +176,31 @@ pub extern "C" fn jb_judge(
     numbers.number
 }
 
-// Judges an order of lent rows and two speeds, in work units per slot (rule 7.1). Gives the verdict in one word, as specs/Packed says.
+// Judges an order of lent rows, two speeds in work units per slot, and a loading in slots (rule 7.1). Gives the verdict in one word, as
+// specs/Packed says.
 #[no_mangle]
-pub extern "C" fn jb_judge_rows(rows: &[Row], normal: u32, degraded: u32, order: &[u8; 64]) -> u64
-    ensures { λ r. ⌜ r ≡ packedOf (judgeOf (tableOf (now (rows .entry)) normal degraded) (now (order .entry))) ⌝ }
+pub extern "C" fn jb_judge_rows(
+    rows: &[Row],
+    normal: u32,
+    degraded: u32,
+    loading: u32,
+    order: &[u8; 64],
+) -> u64
+    ensures { λ r. ⌜ r ≡ packedOf (judgeOf (tableOf (now (rows .entry)) normal degraded loading) (now (order .entry))) ⌝ }
 {
     let placed = *order;
-    let verdict = judge::judge(rows, normal, degraded, placed);
+    let verdict = judge::judge(rows, normal, degraded, loading, placed);
     packed(verdict)
 }
 
-// The worst finish of each row under an order, in slots, zeros after row n (rule 3.6). All zero on a refusal of checks 3 to 6.
+// The worst finish of each row under an order, in slots, zeros after row n (rule 3.6). All zero on a refusal.
 #[no_mangle]
-pub extern "C" fn jb_finishes(table: &[u32; 259], order: &[u8; 64], finishes: &mut [u32; 64]) -> u32
+pub extern "C" fn jb_finishes(table: &[u32; 260], order: &[u8; 64], finishes: &mut [u32; 64]) -> u32
     ensures { λ r. ⌜ (let t = tableIn (now (table .entry)) in
         (r ≡ checkNumber (checkBoth t (now (order .entry))))
         × (now (finishes .exit) ≡ finishesOf t (now (order .entry)))) ⌝ }
 {
-    let t = table_in(table);
+    let t = words::table_in(table);
     let placed = *order;
     let check = checks::check_both(t, placed);
     match check {
@@ -330,7 +220,7 @@ pub extern "C" fn jb_finishes(table: &[u32; 259], order: &[u8; 64], finishes: &m
 // refusal (rule 16.8). Gives the number of the report's checks (rule 11.7).
 #[no_mangle]
 pub extern "C" fn jb_report(
-    table: &[u32; 259],
+    table: &[u32; 260],
     order: &[u8; 64],
     report: &mut [u8],
     size: &mut u32,
@@ -340,7 +230,7 @@ pub extern "C" fn jb_report(
         × (now (size .exit) ≡ back .said .size)
         × (now (report .exit) ≡ back .bytes)) ⌝ }
 {
-    let t = table_in(table);
+    let t = words::table_in(table);
     let placed = *order;
     let writing = report::report(t, placed, report);
     let check = writing.check;
@@ -348,12 +238,12 @@ pub extern "C" fn jb_report(
     numbers::check_number(check)
 }
 
-// Starts a run record of a table and an order, at clock 0. All zero on a refusal of checks 3 to 6 (rule 8.2).
+// Starts a run record of a table and an order, at clock 0. All zero on a refusal (rule 8.2).
 #[no_mangle]
 pub extern "C" fn jb_fresh(
-    table: &[u32; 259],
+    table: &[u32; 260],
     order: &[u8; 64],
-    run_table: &mut [u32; 259],
+    run_table: &mut [u32; 260],
     run_order: &mut [u8; 64],
     run_state: &mut [u32; 193],
 ) -> u32
@@ -363,23 +253,23 @@ pub extern "C" fn jb_fresh(
         × (now («run_order» .exit) ≡ made .run .order)
         × (now («run_state» .exit) ≡ stateWords (made .run))) ⌝ }
 {
-    let t = table_in(table);
+    let t = words::table_in(table);
     let placed = *order;
     let made = record::fresh(t, placed);
     let run = made.run;
     let check = made.check;
     let run_t = run.table;
     let run_o = run.order;
-    *run_table = words_of(run_t);
+    *run_table = words::words_of(run_t);
     *run_order = run_o;
-    *run_state = state_words(run);
+    *run_state = words::state_words(run);
     numbers::check_number(check)
 }
 
 // The row that the coming slot runs, before its supply is known; 0 for an idle slot and with 8 or 9 (rule 8.15).
 #[no_mangle]
 pub extern "C" fn jb_coming(
-    table: &[u32; 259],
+    table: &[u32; 260],
     order: &[u8; 64],
     state: &[u32; 193],
     row: &mut u32,
@@ -390,7 +280,7 @@ pub extern "C" fn jb_coming(
 {
     let placed = *order;
     let held = *state;
-    let run = run_in(table, placed, held);
+    let run = words::run_in(table, placed, held);
     let answer = run.coming();
     let numbers = numbers::slot_numbers(answer);
     *row = numbers.value;
@@ -401,7 +291,7 @@ pub extern "C" fn jb_coming(
 // (rules 8.9, 8.13, 8.14).
 #[no_mangle]
 pub extern "C" fn jb_slot(
-    table: &[u32; 259],
+    table: &[u32; 260],
     order: &[u8; 64],
     state: &mut [u32; 193],
     supply: u32,
@@ -414,12 +304,12 @@ pub extern "C" fn jb_slot(
 {
     let placed = *order;
     let held = *state;
-    let run = run_in(table, placed, held);
+    let run = words::run_in(table, placed, held);
     let stepped = run.slot(supply);
     let after = stepped.run;
     let answer = stepped.answer;
     let numbers = numbers::slot_numbers(answer);
-    *state = state_words(after);
+    *state = words::state_words(after);
     *row = numbers.value;
     numbers.number
 }
@@ -428,7 +318,7 @@ pub extern "C" fn jb_slot(
 // record goes through `forward::forward`.
 #[no_mangle]
 pub extern "C" fn jb_forward(
-    table: &[u32; 259],
+    table: &[u32; 260],
     order: &[u8; 64],
     state: &mut [u32; 193],
     supplies: &[u32],
@@ -441,12 +331,12 @@ pub extern "C" fn jb_forward(
 {
     let placed = *order;
     let held = *state;
-    let run = run_in(table, placed, held);
+    let run = words::run_in(table, placed, held);
     let forwarded = forward::forwarded(run, supplies);
     let reached = forwarded.run;
     let answer = forwarded.answer;
     let numbers = numbers::forward_numbers(answer);
-    *state = state_words(reached);
+    *state = words::state_words(reached);
     *worked = numbers.value;
     numbers.number
 }
@@ -468,5 +358,5 @@ pub extern "C" fn jb_program(input: &[u8], text: &mut [u8; 1617]) -> u32
 pub extern "C" fn jb_version() -> u32
     ensures { λ r. ⌜ r ≡ version ⌝ }
 {
-    1
+    2
 }

@@ -1,4 +1,4 @@
--- What checks 3 to 6 say where they pass.
+-- What the checks of table and order say where they pass.
 use Prim.Native.Nat.{ℕ}
 use mathlib.Core.Bool.{true}
 use mathlib.Core.Path.{_≡_}

@@ -22,13 +22,14 @@ use Rattle.theory.specs.Tests.{by-ltb}
 use Rattle.sweep.specs.Padded.{padded-more}
 use Rattle.judge.specs.Promise.{Judged, judge-refused, promised}
 
--- a table of no rows; speeds in work units per slot
-unfoldable pub noRows : ℕ → ℕ → Table
-noRows normal degraded =
+-- a table of no rows; speeds in work units per slot, loading in slots
+unfoldable pub noRows : ℕ → ℕ → ℕ → Table
+noRows normal degraded loading =
     record {
       n = 0;
       normal = normal;
       degraded = degraded;
+      loading = loading;
       release = replicate 64 0;
       work = replicate 64 0;
       deadline = replicate 64 0;
@@ -43,6 +44,7 @@ withRow t r =
       n = t .n + 1;
       normal = t .normal;
       degraded = t .degraded;
+      loading = t .loading;
       release = set (t .release) (t .n) (r .release);
       work = set (t .work) (t .n) (r .work);
       deadline = set (t .deadline) (t .n) (r .deadline);
@@ -52,6 +54,7 @@ withRow t r =
       n = 65;
       normal = t .normal;
       degraded = t .degraded;
+      loading = t .loading;
       release = t .release;
       work = t .work;
       deadline = t .deadline;
@@ -85,29 +88,30 @@ module _ (f : Row → ℕ) where
       let e = length-map rs f in
       ap (λ (k : ℕ). set (padded (map f rs)) k (f r)) (sym e) ∙ padded-more (map f rs) (f r) (omega arith) ∙ ap padded (sym (map-snoc rs r))
 
-module _ (normal degraded : ℕ) where
-  put-one : (rs : List Row) (r : Row) → length rs < 64 → withRow (tableOf rs normal degraded) r ≡ tableOf (rs ++ (r ∷ [])) normal degraded
+module _ (normal degraded loading : ℕ) where
+  put-one : (rs : List Row) (r : Row) → length rs < 64 → withRow (tableOf rs normal degraded loading) r ≡ tableOf (rs ++ (r ∷ [])) normal degraded loading
   unfolding withRow tableOf
   put-one rs r h =
       rw (lt-ltb (length rs) 64 h) (λ i. record {
         n = sym (length-append rs (r ∷ [])) i;
         normal = normal;
         degraded = degraded;
+        loading = loading;
         release = column-put (λ r. r .release) rs r h i;
         work = column-put (λ r. r .work) rs r h i;
         deadline = column-put (λ r. r .deadline) rs r h i;
         level = column-put (λ r. r .level) rs r h i;
       })
 
-  gathered-from : (rs ss : List Row) → length rs + length ss ≤ 64 → gathered (tableOf rs normal degraded) ss ≡ tableOf (rs ++ ss) normal degraded
+  gathered-from : (rs ss : List Row) → length rs + length ss ≤ 64 → gathered (tableOf rs normal degraded loading) ss ≡ tableOf (rs ++ ss) normal degraded loading
   unfolding gathered
-  gathered-from rs [] h = ap (λ (l : List Row). tableOf l normal degraded) (sym (append-nil rs))
+  gathered-from rs [] h = ap (λ (l : List Row). tableOf l normal degraded loading) (sym (append-nil rs))
   gathered-from rs (s ∷ ss) h =
       ap (λ (t : Table). gathered t ss) (put-one rs s (omega arith))
       ∙ gathered-from (rs ++ (s ∷ [])) ss (rw length-append (omega arith))
-      ∙ ap (λ (l : List Row). tableOf l normal degraded) (append-snoc rs s ss)
+      ∙ ap (λ (l : List Row). tableOf l normal degraded loading) (append-snoc rs s ss)
 
-  no-rows : noRows normal degraded ≡ tableOf [] normal degraded
+  no-rows : noRows normal degraded loading ≡ tableOf [] normal degraded loading
   unfolding noRows tableOf
   no-rows = refl
 
@@ -138,25 +142,25 @@ count-refused : (t : Table) (o : List ℕ) → 64 < t .n → checkBoth t o ≡ R
 unfolding checkBoth checkTable
 count-refused t o h = rw (le-leb 1 (t .n) (omega arith), lt-leb (t .n) 64 h)
 
-module _ (rs : List Row) (normal degraded : ℕ) (o : List ℕ) where
+module _ (rs : List Row) (normal degraded loading : ℕ) (o : List ℕ) where
   abbrev table : Table
-  table = gathered (noRows normal degraded) rs
+  table = gathered (noRows normal degraded loading) rs
 
   over : 64 < length rs → 64 < table .n
   unfolding noRows
-  over h = too-many rs (noRows normal degraded) (omega arith) (omega arith)
+  over h = too-many rs (noRows normal degraded loading) (omega arith) (omega arith)
 
-  over-too : 64 < length rs → 64 < tableOf rs normal degraded .n
+  over-too : 64 < length rs → 64 < tableOf rs normal degraded loading .n
   unfolding tableOf
   over-too h = h
 
-  gathered-judged : judgeOf table o ≡ judgeOf (tableOf rs normal degraded) o
+  gathered-judged : judgeOf table o ≡ judgeOf (tableOf rs normal degraded loading) o
   gathered-judged =
       by-ltb 64 (length rs)
       (λ _ h. judge-refused table o RowCount (count-refused table o (over h))
-      ∙ sym (judge-refused (tableOf rs normal degraded) o RowCount (count-refused (tableOf rs normal degraded) o (over-too h))))
-      (λ _ h. ap (λ (t : Table). judgeOf t o) (ap (λ (t : Table). gathered t rs) (no-rows normal degraded) ∙ gathered-from normal degraded [] rs (omega arith)))
+      ∙ sym (judge-refused (tableOf rs normal degraded loading) o RowCount (count-refused (tableOf rs normal degraded loading) o (over-too h))))
+      (λ _ h. ap (λ (t : Table). judgeOf t o) (ap (λ (t : Table). gathered t rs) (no-rows normal degraded loading) ∙ gathered-from normal degraded loading [] rs (omega arith)))
 
   -- what is promised of the table gathered is promised of the rows
-  pub rows-judged : (t : Table) (v : Verdict) → t ≡ gathered (noRows normal degraded) rs → Judged t o v → Judged (tableOf rs normal degraded) o v
-  rows-judged t v e j = promised (tableOf rs normal degraded) o v (j .answer ∙ ap (λ (u : Table). judgeOf u o) e ∙ gathered-judged)
+  pub rows-judged : (t : Table) (v : Verdict) → t ≡ gathered (noRows normal degraded loading) rs → Judged t o v → Judged (tableOf rs normal degraded loading) o v
+  rows-judged t v e j = promised (tableOf rs normal degraded loading) o v (j .answer ∙ ap (λ (u : Table). judgeOf u o) e ∙ gathered-judged)

@@ -6,8 +6,7 @@ use mathlib.Core.List.{List, [], _∷_, map}
 use lib.Dec.{eqb}
 use Rattle.rules.specs.declared.Table.{Table}
 use Rattle.rules.specs.Lists.{rowsTo}
-use Rattle.rules.specs.Need.{need}
-use Rattle.rules.specs.Rows.{at, workOf, needOf}
+use Rattle.rules.specs.Rows.{at, needOf}
 use Rattle.rules.specs.Choice.{padded}
 use Rattle.sweep.specs.CapColumn.{needAt}
 
@@ -17,7 +16,7 @@ either false x = refl
 
 need-at : (t : Table) (i : ℕ) → needAt t (t .normal) (t .normal) i ≡ needOf t i
 unfolding needAt
-need-at t i = either (eqb (at (t .level) i) 0) (need (workOf t i) (t .normal))
+need-at t i = either (eqb (at (t .level) i) 0) (needOf t i)
 
 map-agree : (f g : ℕ → ℕ) → ((x : ℕ) → f x ≡ g x) → (l : List ℕ) → map f l ≡ map g l
 map-agree f g h [] = refl

@@ -144,7 +144,7 @@ fn verdict(t: Table, order: [u8; 64]) -> Verdict
     }
 }
 
-// The verdict on any table and any sixty-four numbers, after checks 3 to 6.
+// The verdict on any table and any sixty-four numbers, after the checks of both.
 pub fn judge_table(t: Table, order: [u8; 64]) -> Verdict
     ensures { λ v. ⌜ Judged t order v ⌝ }
 {
@@ -155,9 +155,9 @@ pub fn judge_table(t: Table, order: [u8; 64]) -> Verdict
     }
 }
 
-// A table of no rows; speeds in work units per slot.
-fn no_rows(normal: u32, degraded: u32) -> Table
-    ensures { λ r. ⌜ r ≡ noRows normal degraded ⌝ }
+// A table of no rows; speeds in work units per slot, loading in slots.
+fn no_rows(normal: u32, degraded: u32, loading: u32) -> Table
+    ensures { λ r. ⌜ r ≡ noRows normal degraded loading ⌝ }
 {
     let release = [0u32; 64];
     let work = [0u32; 64];
@@ -167,6 +167,7 @@ fn no_rows(normal: u32, degraded: u32) -> Table
         n: 0,
         normal: normal,
         degraded: degraded,
+        loading: loading,
         release: release,
         work: work,
         deadline: deadline,
@@ -193,6 +194,7 @@ fn with_row(t: Table, row: Row) -> Table
             n: n + 1,
             normal: t.normal,
             degraded: t.degraded,
+            loading: t.loading,
             release: release,
             work: work,
             deadline: deadline,
@@ -203,6 +205,7 @@ fn with_row(t: Table, row: Row) -> Table
         n: 65,
         normal: t.normal,
         degraded: t.degraded,
+        loading: t.loading,
         release: release,
         work: work,
         deadline: deadline,
@@ -210,11 +213,11 @@ fn with_row(t: Table, row: Row) -> Table
     }
 }
 
-// The verdict on lent rows and any sixty-four numbers; n is how many rows are lent, and speeds are in work units per slot.
-pub fn judge(rows: &[Row], normal: u32, degraded: u32, order: [u8; 64]) -> Verdict
-    ensures { λ v. ⌜ Judged (tableOf (now (rows .entry)) normal degraded) order v ⌝ }
+// The verdict on lent rows and any sixty-four numbers; n is how many rows are lent, speeds are in work units per slot, loading is in slots.
+pub fn judge(rows: &[Row], normal: u32, degraded: u32, loading: u32, order: [u8; 64]) -> Verdict
+    ensures { λ v. ⌜ Judged (tableOf (now (rows .entry)) normal degraded loading) order v ⌝ }
 {
-    let mut t = no_rows(normal, degraded);
+    let mut t = no_rows(normal, degraded, loading);
     let mut i = 0;
     while i < rows.len() {
         t = with_row(t, rows[i]);

@@ -34,6 +34,7 @@ pub fn refusal_number(why: Refusal) -> u32
         Refusal::ClockOver => 8,
         Refusal::Unsound => 9,
         Refusal::NoRoom => 10,
+        Refusal::Loading => 11,
     }
 }
 

@@ -21,6 +21,8 @@ fn main() {
     show(b"p1");
     show(b"p2");
     show(b"no_order");
+    show(b"loading");
+    show(b"loading_most");
     show(b"rows64");
     show(b"one_more");
     show(b"two_more");
@@ -31,8 +33,10 @@ fn main() {
     show(b"trailing");
     show(b"leading_zero");
     show(b"malformed_row");
+    show(b"loading_missing");
     show(b"count");
     show(b"speeds");
+    show(b"loading_above");
     show(b"release");
     show(b"level");
     show(b"deadline");

@@ -8,7 +8,7 @@ use native.Mathlib.Omega.{arith}
 use lib.ListN.{length}
 use Rattle.rules.specs.declared.Table.{Table}
 use Rattle.rules.specs.declared.Refusal.{Refusal}
-use Rattle.rules.specs.declared.Refusal.the-variants.{Length, Malformed, RowCount, Speeds, RowLimits, NotAnOrder, ClockOver, Unsound, NoRoom}
+use Rattle.rules.specs.declared.Refusal.the-variants.{Length, Malformed, RowCount, Speeds, RowLimits, NotAnOrder, ClockOver, Unsound, NoRoom, Loading}
 use Rattle.rules.specs.declared.Check.{Check}
 use Rattle.rules.specs.declared.Check.the-variants.{Passed, Refused}
 use Rattle.rules.specs.declared.Planning.{Planning}
@@ -22,7 +22,7 @@ use Rattle.theory.specs.Counts.{In, in-head}
 use Rattle.theory.specs.Results.{choice-order, choice-correct, choice-none}
 
 pub record Promise (t : Table) (r : Planning) : Type 0 where
-  -- the answer is the planner's of checks 3 to 5 and the choice
+  -- the answer is the planner's, of the checks of the table and the choice
   pub answer : r ≡ planOf t
   -- of an accepted table the number is 0 exactly if some order is correct
   pub exists : Accepted t → (plannedNumber (r .answer) ≡ 0) ↔ CorrectOrder t
@@ -44,6 +44,7 @@ refusal-number NotAnOrder = (λ e. omega arith, λ e. omega arith)
 refusal-number ClockOver = (λ e. omega arith, λ e. omega arith)
 refusal-number Unsound = (λ e. omega arith, λ e. omega arith)
 refusal-number NoRoom = (λ e. omega arith, λ e. omega arith)
+refusal-number Loading = (λ e. omega arith, λ e. omega arith)
 
 empty : (l : List ℕ) → length l ≡ 0 → l ≡ []
 empty [] e = refl

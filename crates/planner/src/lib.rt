@@ -149,7 +149,7 @@ fn choose(t: Table) -> Planning
     }
 }
 
-// The answer for any table: checks 3, 4 and 5, then the choice (rule 11.3).
+// The answer for any table: checks 3, 4, 11 and 5, then the choice (rule 11.3).
 pub fn plan(t: Table) -> Planning
     ensures { λ r. ⌜ Promise t r ⌝ }
 {

@@ -1,4 +1,4 @@
--- What is known of a table and an order that passed checks 3 to 6 (rules 5.5, 5.7).
+-- What is known of a table and an order that passed their checks (rules 5.5, 5.7).
 use Prim.Native.Nat.{ℕ, _≤_}
 use mathlib.Core.Bool.{true}
 use mathlib.Core.List.{List}

@@ -14,7 +14,7 @@ use Rattle.rules.specs.Rows.{at, workOf}
 use Rattle.rules.specs.Orders.{checkBoth}
 use Rattle.rules.specs.Slots.{fresh}
 use Rattle.record.specs.Records.{tailSound, isSound, freshRun}
-use Rattle.theory.specs.Caps.{need-above}
+use Rattle.theory.specs.Caps.{slots-above}
 use Rattle.theory.specs.Tests.{by-bool}
 use Rattle.columns.specs.AllRows.{zeros-of}
 use Rattle.columns.specs.Figures.{over, sound-test}
@@ -27,22 +27,22 @@ zero-at zero i = refl
 zero-at (suc m) zero = refl
 zero-at (suc m) (suc i) = zero-at m i
 
-not-over : (c level s : ℕ) → 1 ≤ c → 1 ≤ s → over c level s 0 0 ≡ false
+not-over : (c level s k : ℕ) → 1 ≤ c → 1 ≤ s → over c level s k 0 0 ≡ false
 unfolding over
-not-over c level s h l =
-    rw (ne-eqb 0 c (λ q. omega arith), lt-leb (need c s) 0 (need-above 0 c s l (omega arith))) (by-bool (eqb level 0) (λ e. rw e) (λ e. rw e))
+not-over c level s k h l =
+    rw (ne-eqb 0 c (λ q. omega arith), lt-leb (need k c s) 0 (omega (arith, slots-above 0 c s l (omega arith)))) (by-bool (eqb level 0) (λ e. rw e) (λ e. rw e))
 
 module _ (t : Table) (o : List ℕ) (e : checkBoth t o ≡ Passed) where
   row-fresh : (i : ℕ) → 1 ≤ i → i ≤ t .n → soundRow (freshRun t o) i ≡ true
   unfolding fresh
   row-fresh i l h =
       rw (zero-at 64 (i - 1))
-      (sound-test (workOf t i) (at (t .level) i) (t .normal) 0 0 0 0
+      (sound-test (workOf t i) (at (t .level) i) (t .normal) (t .loading) 0 0 0 0
       (record {
         most = omega arith;
         used-by = omega arith;
         closed-by = omega arith;
-        open-or-over = rw (not-over (workOf t i) (at (t .level) i) (t .normal) (works t o e i l h) (limits t o e .runs));
+        open-or-over = rw (not-over (workOf t i) (at (t .level) i) (t .normal) (t .loading) (works t o e i l h) (limits t o e .runs));
       }))
 
   pub fresh-sound : isSound (freshRun t o) ≡ true

@@ -11,6 +11,7 @@ use borrow.Author.Tests.{ltb-true}
 use Rattle.rules.specs.declared.Refusal.the-variants.{ClockOver, Unsound}
 use Rattle.rules.specs.Calls.{lastClock}
 use Rattle.rules.specs.Rows.{at, workOf}
+use Rattle.rules.specs.Slots.{brought}
 use Rattle.record.specs.declared.Run.{Run}
 use Rattle.record.specs.declared.SlotAnswer.the-variants as Slots
 use Rattle.record.specs.declared.ForwardAnswer.the-variants as Forwards
@@ -30,7 +31,7 @@ pub record Sized (r : Run) : Type 0 where
 
 module _ (r : Run) (z : Sized r) (f : IsSound r) (early : r .clock < lastClock) where
   later : (i : ℕ) → 1 ≤ i → i ≤ r .table .n → soundRow (rested r) i ≡ true
-  later i l h = sound-test _ _ _ _ _ _ _ (sound-later _ _ _ _ _ _ _ (f .rows i l h))
+  later i l h = sound-test _ _ _ _ _ _ _ _ (sound-later _ _ _ _ _ _ _ _ (f .rows i l h))
 
   rested-sound : IsSound (rested r)
   unfolding tailSound
@@ -43,11 +44,12 @@ module _ (r : Run) (z : Sized r) (f : IsSound r) (early : r .clock < lastClock) 
     in-column : i ≤ 64
     in-column = omega (arith, limits (r .table) (r .order) (f .checked) .few, c .high)
 
-    run-here : soundAt (workOf (r .table) i) (at (r .table .level) i) (r .table .normal) (r .clock + 1) (gotNext r v i) (at (r .used) i + 1)
+    run-here : soundAt (workOf (r .table) i) (at (r .table .level) i) (r .table .normal) (r .table .loading) (r .clock + 1) (gotNext r v i) (at (r .used) i + 1)
         (closingNext r v i) ≡ true
     run-here =
-        let u = sound-facts _ _ _ _ _ _ _ (f .rows i (c .low) (c .high)) .used-by in
-        sound-test _ _ _ _ _ _ _ (sound-run _ _ _ _ _ _ (min-le-left (workOf (r .table) i) (at (r .got) i + v)) u)
+        let u = sound-facts _ _ _ _ _ _ _ _ (f .rows i (c .low) (c .high)) .used-by in
+        sound-test _ _ _ _ _ _ _ _
+        (sound-run _ _ _ _ _ _ _ (min-le-left (workOf (r .table) i) (at (r .got) i + brought (r .table .loading) (at (r .used) i) v)) u)
 
     row-served : (j : ℕ) → 1 ≤ j → j ≤ r .table .n → soundRow s j ≡ true
     row-served j l h =

@@ -11,10 +11,10 @@ use Rattle.rules.specs.Calls.{Said}
 use Rattle.rules.specs.Choice.{padded}
 use Rattle.rules.specs.Judge.{tableOf}
 use Rattle.rules.specs.Lists.{same}
-use Rattle.rules.specs.Need.{need}
+use Rattle.rules.specs.Need.{workSlots}
 use Rattle.rules.specs.Numbers.{refusalNumber, checkNumber}
 use Rattle.rules.specs.Orders.{isOrder, checkOrder, checkBoth}
-use Rattle.rules.specs.Slots.{fresh, isReady, chosen, isOver, serve, slot}
+use Rattle.rules.specs.Slots.{fresh, isReady, chosen, isOver, brought, serve, slot}
 use Rattle.rules.specs.Tables.{rowOk, tailOk, checkTable}
 use Rattle.rules.specs.declared.Table.{Table}
 
@@ -46,6 +46,7 @@ holds (begun t o number) =
     eqb (checkNumber (freshOf t (padded o) .check)) number
     && eqb (freshOf t (padded o) .run .table .n) (cond (eqb number 0) (t .n) 0)
     && eqb (freshOf t (padded o) .run .table .normal) (cond (eqb number 0) (t .normal) 0)
+    && eqb (freshOf t (padded o) .run .table .loading) (cond (eqb number 0) (t .loading) 0)
     && same (freshOf t (padded o) .run .table .work) (cond (eqb number 0) (t .work) (padded []))
     && same (freshOf t (padded o) .run .order) (cond (eqb number 0) (padded o) (padded []))
     && shows (freshOf t (padded o) .run) 0 [] [] []
@@ -58,19 +59,32 @@ two =
     (record { release = 0; work = 2; deadline = 2; level = 0 } ∷ record { release = 0; work = 4; deadline = 4; level = 1 } ∷ [])
     2
     1
+    0
 
--- a record of that table: order, clock, work units got, slots used, closing slots
+-- that table with 3 slots of loading: the LO row's allowance is 4 slots
+abbrev loaded : Table
+loaded =
+    tableOf
+    (record { release = 0; work = 2; deadline = 2; level = 0 } ∷ record { release = 0; work = 4; deadline = 4; level = 1 } ∷ [])
+    2
+    1
+    3
+
+-- a record of a table: order, clock, work units got, slots used, closing slots
+abbrev of : Table → List ℕ → ℕ → List ℕ → List ℕ → List ℕ → Run
+of t o clock got used closing = recordOf t (padded o) (record { clock = clock; got = padded got; used = padded used; closing = padded closing })
+
+-- a record of P3's table: order, clock, work units got, slots used, closing slots
 abbrev at : List ℕ → ℕ → List ℕ → List ℕ → List ℕ → Run
-at o clock got used closing = recordOf two (padded o) (record { clock = clock; got = padded got; used = padded used; closing = padded closing })
+at = of two
 
 abbrev order : List ℕ
 order = 1 ∷ 2 ∷ []
 
--- a fresh record of one row and these speeds, in work units per slot
-abbrev one : ℕ → ℕ → ℕ → ℕ → Run
-one work deadline normal degraded =
-    recordOf (tableOf (record { release = 0; work = work; deadline = deadline; level = 1 } ∷ []) normal degraded) (padded (1 ∷ []))
-    (record { clock = 0; got = padded []; used = padded []; closing = padded [] })
+-- a fresh record of one row, these speeds (work units per slot) and this loading (slots)
+abbrev one : ℕ → ℕ → ℕ → ℕ → ℕ → Run
+one work deadline normal degraded loading =
+    of (tableOf (record { release = 0; work = work; deadline = deadline; level = 1 } ∷ []) normal degraded loading) (1 ∷ []) 0 [] [] []
 
 abbrev cases : List Case
 cases =
@@ -100,26 +114,41 @@ cases =
     ∷ stepped (at order 9 (0 ∷ 0 ∷ 1 ∷ []) [] []) 5 9 0
     ∷ stepped (at order 9 [] (0 ∷ 0 ∷ 1 ∷ []) []) 5 9 0
     ∷ stepped (at order 9 [] [] (0 ∷ 0 ∷ 1 ∷ [])) 5 9 0
-    -- each limit of a table (rule 8.4): the row count, N, G, a row
-    ∷ stepped (one 1 1 2 1) 5 0 1
-    ∷ stepped (recordOf (tableOf [] 2 1) (padded []) (record { clock = 0; got = padded []; used = padded []; closing = padded [] })) 5 9 0
-    ∷ stepped (one 1 1 1001 1) 5 9 0
-    ∷ stepped (one 1 1 2 0) 5 9 0
-    ∷ stepped (one 1 1 2 3) 5 9 0
-    ∷ stepped (one 0 1 2 1) 5 9 0
-    ∷ stepped (one 1 1000001 2 1) 5 9 0
+    -- each limit of a table (rule 8.4): the row count, N, G, K, a row
+    ∷ stepped (one 1 1 2 1 0) 5 0 1
+    ∷ stepped (of (tableOf [] 2 1 0) [] 0 [] [] []) 5 9 0
+    ∷ stepped (one 1 1 1001 1 0) 5 9 0
+    ∷ stepped (one 1 1 2 0 0) 5 9 0
+    ∷ stepped (one 1 1 2 3 0) 5 9 0
+    ∷ stepped (one 1 1 2 1 16) 5 0 1
+    ∷ stepped (one 1 1 2 1 17) 5 9 0
+    ∷ stepped (one 0 1 2 1 0) 5 9 0
+    ∷ stepped (one 1 1000001 2 1 0) 5 9 0
     -- what a slot leaves: the row that runs, an idle slot, a refusal
     ∷ leaves (at order 0 [] [] []) 1 1 (1 ∷ []) (1 ∷ []) (1 ∷ [])
     ∷ leaves (at order 1 (1 ∷ []) (1 ∷ []) (1 ∷ [])) 3 2 (1 ∷ 3 ∷ []) (1 ∷ 1 ∷ []) (1 ∷ [])
     ∷ leaves (at order 9 (2 ∷ 4 ∷ []) (1 ∷ 2 ∷ []) (1 ∷ 3 ∷ [])) 5 10 (2 ∷ 4 ∷ []) (1 ∷ 2 ∷ []) (1 ∷ 3 ∷ [])
     ∷ leaves (at order 2000000 [] [] []) 5 2000000 [] [] []
     ∷ leaves (at order 2000001 [] [] []) 5 2000001 [] [] []
+    -- with loading (rules 2.14, 8.7): a loading slot counts as used and brings nothing; the LO row with 3 of its 4 slots used is open, and
+    -- closes with the fourth; open with 4 it is refused, closed with 3 too; so is a HI row that is closed with work missing
+    ∷ leaves (of loaded order 2 [] (2 ∷ []) []) 9 3 [] (3 ∷ []) []
+    ∷ leaves (of loaded order 3 [] (3 ∷ []) []) 1 4 (1 ∷ []) (4 ∷ []) (4 ∷ [])
+    ∷ leaves (of loaded order 3 [] (3 ∷ []) []) 9 4 (2 ∷ []) (4 ∷ []) (4 ∷ [])
+    ∷ stepped (of loaded order 9 [] (4 ∷ []) []) 5 9 0
+    ∷ stepped (of loaded order 9 [] (3 ∷ []) (3 ∷ [])) 5 9 0
+    ∷ stepped (of loaded order 9 [] (4 ∷ []) (4 ∷ [])) 5 0 2
+    ∷ stepped (of loaded order 9 [] (4 ∷ 9 ∷ []) (4 ∷ 9 ∷ [])) 5 9 0
+    -- sound, and reached by no run: the HI row has work of a slot in which it still loaded; it goes on loading
+    ∷ leaves (of loaded order 9 (2 ∷ 3 ∷ []) (4 ∷ 1 ∷ []) (4 ∷ [])) 5 10 (2 ∷ 3 ∷ []) (4 ∷ 2 ∷ []) (4 ∷ [])
     -- fresh records (rule 8.2)
     ∷ begun two order 0
     ∷ begun two (1 ∷ 1 ∷ []) 6
-    ∷ begun (tableOf [] 2 1) [] 3
-    ∷ begun (tableOf (record { release = 0; work = 1; deadline = 1; level = 0 } ∷ []) 2 3) (1 ∷ []) 4
-    ∷ begun (tableOf (record { release = 1; work = 1; deadline = 1; level = 0 } ∷ []) 2 1) (1 ∷ []) 5
+    ∷ begun (tableOf [] 2 1 17) [] 3
+    ∷ begun (tableOf (record { release = 0; work = 1; deadline = 1; level = 0 } ∷ []) 2 3 17) (1 ∷ []) 4
+    ∷ begun (tableOf (record { release = 1; work = 1; deadline = 1; level = 0 } ∷ []) 2 1 16) (1 ∷ []) 5
+    ∷ begun (tableOf (record { release = 1; work = 1; deadline = 1; level = 0 } ∷ []) 2 1 17) (1 ∷ []) 11
+    ∷ begun loaded order 0
     -- the coming slot (rule 8.15)
     ∷ coming (at order 0 [] [] []) 0 1
     ∷ coming (at order 9 (2 ∷ 4 ∷ []) (1 ∷ 2 ∷ []) (1 ∷ 3 ∷ [])) 0 0
@@ -134,5 +163,5 @@ allHold (c ∷ cs) = holds c && allHold cs
 
 pub cases-hold : T (allHold cases)
 unfolding slotSaid forwardSaid rowSound tailSound isSound nextRun chosenRow comingSlot oneSlot workOn forwardOver freshOf checkNumber fresh
-    padded tableOf need refusalNumber isOrder checkOrder checkBoth isReady chosen isOver serve slot rowOk tailOk checkTable
+    padded tableOf workSlots refusalNumber isOrder checkOrder checkBoth isReady chosen isOver brought serve slot rowOk tailOk checkTable
 cases-hold = tt

@@ -46,7 +46,7 @@ rowSound r i =
 unfoldable pub tailSound : Run → Bool
 tailSound r = allZero (drop (r .table .n) (r .got)) && allZero (drop (r .table .n) (r .used)) && allZero (drop (r .table .n) (r .closing))
 
--- Check 9 lets the record through (rule 8.3): its table and order pass checks 3 to 6 (rule 8.4), its clock is at most 2,000,000 slots
+-- Check 9 lets the record through (rule 8.3): its table and order pass 3, 4, 11, 5 and 6 (rule 8.4), its clock is at most 2,000,000 slots
 -- (rule 8.5), the figures of each row are sound (rules 8.6, 8.7), and zeros stand behind them (rule 8.8).
 unfoldable pub isSound : Run → Bool
 isSound r =
@@ -59,12 +59,12 @@ isSound r =
 abbrev pub freshRun : Table → List ℕ → Run
 freshRun t o = recordOf t o fresh
 
--- by what checks 3 to 6 answer: that record, or on a refusal the record of zeros (rule 8.2)
+-- by what the checks of table and order answer: that record, or on a refusal the record of zeros (rule 8.2)
 abbrev pub freshChecked : Check → Table → List ℕ → FreshRun
 freshChecked Checks.Passed t o = record { check = Checks.Passed; run = freshRun t o }
 freshChecked (Checks.Refused r) t o = record { check = Checks.Refused r; run = freshRun zeroTable (replicate 64 0) }
 
--- the fresh record of any table and any sixty-four numbers, with the answer of checks 3 to 6 (rules 8.2, 11.4)
+-- the fresh record of any table and any sixty-four numbers, with the answer of their checks (rules 8.2, 11.4)
 unfoldable pub freshOf : Table → List ℕ → FreshRun
 freshOf t o = freshChecked (checkBoth t o) t o
 

@@ -17,13 +17,14 @@ use Rattle.record.specs.Records.{stateOf, rowSound, tailSound, isSound, 
 use Rattle.theory.specs.Tests.{and-left, and-right}
 use Rattle.columns.specs.AllRows.{all-each, all-of}
 use Rattle.theory.specs.Counts.{first-passes}
+use Rattle.theory.specs.Facts.{TableFacts}
 use Rattle.columns.specs.Figures.{over, soundAt, rowSoundAt, sound-facts}
 use Rattle.columns.specs.Places.{Placed}
 use Rattle.record.specs.Checked.{passed-true, limits, places}
 
 -- row i's soundness over the record's columns
 abbrev pub soundRow : Run → ℕ → Bool
-soundRow r i = rowSoundAt (r .table .normal) (r .clock) (r .table .work) (r .table .level) (r .got) (r .used) (r .closing) i
+soundRow r i = rowSoundAt (r .table .normal) (r .table .loading) (r .clock) (r .table .work) (r .table .level) (r .got) (r .used) (r .closing) i
 
 row-figures : (r : Run) (i : ℕ) → rowSound r i ≡ soundRow r i
 unfolding rowSound soundAt isOver over
@@ -63,6 +64,10 @@ module _ (r : Run) where
   is-sound f =
       rw (f .checked, le-leb (r .clock) lastClock (f .clock), all-of (rowSound r) (r .table .n) (λ i l m. row-figures r i ∙ f .rows i l m)) (f .tail)
 
+-- the limits of a sound record's table
+pub speeds : (r : Run) → isSound r ≡ true → TableFacts (r .table)
+speeds r e = limits (r .table) (r .order) (sound-so r e .checked)
+
 -- the order of a sound record holds rows in its first n places
 pub order-placed : (r : Run) → isSound r ≡ true → Placed (r .table .n) (r .order)
 order-placed r e = places (r .table) (r .order) (sound-so r e .checked)
@@ -95,7 +100,7 @@ pub serving : (r : Run) (i : ℕ) → isSound r ≡ true → i ≡ chosenRow r �
 serving r i e q h =
     let f = sound-so r e in
     let c : Runs r i = rw q (runs r (rw q at h)) in
-    let s = sound-facts _ _ _ _ _ _ _ (f .rows i (c .low) (c .high)) in
+    let s = sound-facts _ _ _ _ _ _ _ _ (f .rows i (c .low) (c .high)) in
     record {
       low = c .low;
       high = omega (arith, limits (r .table) (r .order) (f .checked) .few, c .high);

@@ -25,7 +25,7 @@ pub struct Run {
     pub closing: [u32; 64],
 }
 
-// The answer of checks 3 to 6 and the fresh record, which is all zero on a refusal (rule 8.2).
+// The answer of the checks of table and order and the fresh record, which is all zero on a refusal (rule 8.2).
 pub struct FreshRun {
     pub check: Check,
     pub run: Run,
@@ -71,7 +71,7 @@ fn tail_sound(r: Run) -> bool
     checks::zero_after(n, &r.closing)
 }
 
-// Whether the table and the order pass checks 3 to 6 (rule 8.4).
+// Whether the table and the order pass their checks (rule 8.4).
 fn passes(t: Table, order: [u8; 64]) -> bool
     ensures { λ b. ⌜ b ≡ passed (checkBoth t order) ⌝ }
 {
@@ -82,7 +82,7 @@ fn passes(t: Table, order: [u8; 64]) -> bool
     }
 }
 
-// Check 9 (rule 8.3): whether the record is sound. Its table and order pass checks 3 to 6 (rule 8.4), its clock is at most 2,000,000 slots
+// Check 9 (rule 8.3): whether the record is sound. Its table and order pass their checks (rule 8.4), its clock is at most 2,000,000 slots
 // (rule 8.5), its rows are sound (rules 8.6, 8.7), and only zeros stand after row n (rule 8.8).
 pub fn is_sound(r: Run) -> bool
     ensures { λ b. ⌜ b ≡ isSound r ⌝ }
@@ -98,9 +98,11 @@ pub fn is_sound(r: Run) -> bool
     }
     let n = table.n;
     let normal = table.normal;
+    let loading = table.loading;
     if !columns::rows_sound(
         n,
         normal,
+        loading,
         clock,
         &r.table.work,
         &r.table.level,
@@ -137,6 +139,7 @@ fn zero_table() -> Table
         n: 0,
         normal: 0,
         degraded: 0,
+        loading: 0,
         release: zeros,
         work: zeros,
         deadline: zeros,
@@ -144,7 +147,7 @@ fn zero_table() -> Table
     }
 }
 
-// The fresh run record of any table and any sixty-four numbers; a record of zeros where checks 3 to 6 refuse them (rules 8.2, 11.4).
+// The fresh run record of any table and any sixty-four numbers; a record of zeros where their checks refuse them (rules 8.2, 11.4).
 pub fn fresh(t: Table, order: [u8; 64]) -> FreshRun
     ensures { λ r. ⌜ r ≡ freshOf t order ⌝ }
 {
@@ -188,9 +191,11 @@ impl Run {
         let work = columns::entry(&self.table.work, i);
         let level = columns::entry(&self.table.level, i);
         let normal = self.table.normal;
-        let got = columns::grown(self.got[i], supply, work);
-        let used = self.used[i] + 1;
-        let closing = columns::closing_slot(work, level, normal, got, used, after);
+        let loading = self.table.loading;
+        let before = self.used[i];
+        let got = columns::grown(self.got[i], before, loading, supply, work);
+        let used = before + 1;
+        let closing = columns::closing_slot(work, level, normal, loading, got, used, after);
         self.got[i] = got;
         self.used[i] = used;
         self.closing[i] = closing;

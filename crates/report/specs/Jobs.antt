@@ -16,7 +16,7 @@ use Rattle.rules.specs.Orders.{checkBoth}
 use Rattle.rules.specs.Worst.{worstFinish, slack}
 use Rattle.rules.specs.Choice.{padded}
 use Rattle.rules.specs.Reports.{figures, isLate, jobLine}
-use Rattle.theory.specs.Caps.{need-most}
+use Rattle.theory.specs.Caps.{slots-most}
 use Rattle.theory.specs.Facts.{Row, is-row, facts, both-accepted, both-order}
 use Rattle.theory.specs.Places.{place-row}
 use Rattle.theory.specs.Results.{order-bound}
@@ -28,7 +28,7 @@ use Rattle.report.specs.declared.Job.{Job}
 pub late-one : (z : ℤ) → isLate z ≤ 1
 late-one z = by-bool (ltZ z (pos 0)) (λ e. rw e (omega arith)) (λ e. rw e (omega arith))
 
--- checks 3 to 6 pass, and the columns have each row's need at N and worst finish, in slots
+-- the checks of table and order pass, and the columns have each row's need at N and worst finish, in slots
 pub record Timed (t : Table) (o : List ℕ) (times : Times) : Type 0 where
   pub checked : checkBoth t o ≡ Passed
   pub needs : times .need ≡ padded (map (needOf t) (rowsOf t))
@@ -55,11 +55,11 @@ module _ (t : Table) (o : List ℕ) (c : checkBoth t o ≡ Passed) where
   pub few : t .n ≤ 64
   few = facts t (both-accepted t o c) .few
 
-  -- a need is at most 1,000,000 slots
-  pub need-small : (i : ℕ) → Row t i → needOf t i ≤ 1000000
-  need-small i r = let f = facts t (both-accepted t o c) in omega (arith, need-most (workOf t i) (t .normal) (f .runs), f .row i r .light)
+  -- a need is at most 1,000,016 slots
+  pub need-small : (i : ℕ) → Row t i → needOf t i ≤ 1000016
+  need-small i r = let f = facts t (both-accepted t o c) in omega (arith, slots-most (workOf t i) (t .normal) (f .runs), f .loads, f .row i r .light)
 
-  pub finish-small : (i : ℕ) → Row t i → worstFinish t o i ≤ 65000000
+  pub finish-small : (i : ℕ) → Row t i → worstFinish t o i ≤ 65001024
   finish-small i r = order-bound t (both-accepted t o c) o (both-order t o c) i (is-row t i r)
 
   pub due-small : (i : ℕ) → Row t i → deadlineOf t i ≤ 1000000
@@ -99,7 +99,7 @@ module _ (t : Table) (o : List ℕ) (times : Times) (timed : Timed t o times) (k
   pub place-fits : job .place < 100000000
   place-fits = omega (arith, j .place, few t o (timed .checked))
 
-  pub need-fits : job .need ≤ 1000000
+  pub need-fits : job .need ≤ 1000016
   need-fits = omega (arith, j .need, need-small t o (timed .checked) (at o k) row)
 
   pub finish-fits : job .finish < 100000000

@@ -58,12 +58,12 @@ module _ (t : Table) (o : List ℕ) (order : isOrder t o ≡ true) where
   late-of-lines = sum-lines t o order (λ i. isLate (slack t o i))
 
 -- ---- how large they are
--- at most 64 rows of at most 1,000,000 slots each
+-- at most 64 rows of at most 1,000,016 slots each
 module _ (t : Table) (o : List ℕ) (c : checkBoth t o ≡ Passed) where
-  pub needs-most : needsOf t ≤ 64000000
+  pub needs-most : needsOf t ≤ 64001024
   unfolding needsOf
   needs-most =
-      omega (arith, sum-most (needOf t) 1000000 (rowsOf t) (λ x i. need-small t o c x (rows-in t x i)), length-rows (t .n), few t o c)
+      omega (arith, sum-most (needOf t) 1000016 (rowsOf t) (λ x i. need-small t o c x (rows-in t x i)), length-rows (t .n), few t o c)
 
   pub late-most : lateRows t o ≤ 64
   unfolding lateRows

@@ -130,7 +130,7 @@ fn put_report(out: &mut [u8], t: Table, order: [u8; 64]) -> usize
     put_totals(out, jobs.next, jobs.needs, jobs.late)
 }
 
-// The report's checks: 3, 4, 5, 6, then 10.
+// The report's checks: those of the table and 6, then 10.
 fn check_report(t: Table, order: [u8; 64], room: usize) -> Check
     ensures { λ r. ⌜ r ≡ checkReport t order room ⌝ }
 {

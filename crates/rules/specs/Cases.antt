@@ -1,6 +1,6 @@
 -- The starred cases P1 to P8 (rules 13.1 to 13.8) and tables at the limits (rule 13.9) as one table, computed from the definitions and
 -- checked by one theorem, with cases of our own beside them: on the planner's choice, the judge, checks 3 to 6, calls on paper, and parts of
--- definitions. Each fault of section 14 of the rules meets one; not every change of a definition does.
+-- definitions. Here no job loads; LoadingCases has tables in which jobs do. Each fault of section 14 of the rules meets one; not every change of a definition does.
 use Prim.Native.Nat.{ℕ, suc, _+_, _-_, _≤_, _<_}
 use mathlib.Core.Bool.{Bool, true, false, cond, not, _&&_}
 use mathlib.Core.List.{List, [], _∷_, _++_, map}
@@ -12,24 +12,28 @@ use lib.ListN.{length, replicate}
 use Rattle.rules.specs.declared.Row.{Row}
 use Rattle.rules.specs.declared.Table.{Table}
 use Rattle.rules.specs.declared.Verdict.{Verdict}
-use Rattle.rules.specs.declared.Refusal.the-variants.{ClockOver, Unsound, NoRoom}
+use Rattle.rules.specs.declared.Refusal.the-variants.{ClockOver, Unsound, NoRoom, Loading}
 use Rattle.rules.specs.declared.Check.the-variants.{Passed}
 use Rattle.rules.specs.Calls.{Call, one, forward, Said, tellOne, tellForward, tellAll, allSupplies, supplyAt}
 use Rattle.rules.specs.Correct.{earliest, Window}
 use Rattle.rules.specs.Choice.{planOf, padded, lowest, passes, sequence, choice, fill, taker, word}
 use Rattle.rules.specs.Judge.{column, tableOf, judgeOf, tightest}
 use Rattle.rules.specs.Lists.{rowsTo, all, allZero, same, first, count, erase, keep}
-use Rattle.rules.specs.Need.{need}
+use Rattle.rules.specs.Need.{workSlots, need}
 use Rattle.rules.specs.Numbers.{refusalNumber, checkNumber, plannedNumber, rowsLeft, verdictNumber, verdictYes, verdictRow, verdictSlack}
 use Rattle.rules.specs.Orders.{isOrder, checkOrder, checkBoth}
 use Rattle.rules.specs.Rows.{at, isRow, rowsOf, workOf, deadlineOf, isLow, isHigh}
-use Rattle.rules.specs.Slots.{State, fresh, isReady, chosen, isOver, serve, slot, after}
+use Rattle.rules.specs.Slots.{State, fresh, isReady, chosen, isOver, brought, serve, slot, after}
 use Rattle.rules.specs.Tables.{rowOk, tailOk, checkTable, Accepted, passed}
 use Rattle.rules.specs.Worst.{horizon, worstFinish, slack, meets}
 
 -- a row: release and deadline in slots, work in work units, level
-abbrev job : ℕ → ℕ → ℕ → ℕ → Row
+abbrev pub job : ℕ → ℕ → ℕ → ℕ → Row
 job a c d level = record { release = a; work = c; deadline = d; level = level }
+
+-- a table of these rows and speeds in which a job loads in no slot
+abbrev plain : List Row → ℕ → ℕ → Table
+plain rows normal degraded = tableOf rows normal degraded 0
 
 -- how a row ended: its closing slot, whether it is done (it was dropped if not), whether it closed after its deadline
 pub record End : Type 0 where
@@ -37,7 +41,7 @@ pub record End : Type 0 where
   pub done : Bool
   pub late : Bool
 
-abbrev end : ℕ → Bool → Bool → End
+abbrev pub end : ℕ → Bool → Bool → End
 end closing done late = record { closing = closing; done = done; late = late }
 
 pub data Case : Type 0 where
@@ -51,11 +55,11 @@ pub data Case : Type 0 where
   ran : Table → List ℕ → List ℕ → List End → Case
   -- the judge says yes or no, this row and this slack in slots
   judged : Table → List ℕ → Bool → ℕ → ℤ → Case
-  -- checks 3 to 5 pass the table
+  -- the checks of the table pass
   accepted : Table → Case
-  -- checks 3 to 5 give this number, and so do planner and judge, with nothing but zeros
+  -- the checks of the table give this number, and so do planner and judge, with nothing but zeros
   refused : Table → ℕ → Case
-  -- checks 3 to 6 pass table and order
+  -- the checks of the table and 6 pass
   ordered : Table → List ℕ → Case
   -- check 6 alone refuses the order, and the judge answers so, with nothing but zeros
   disordered : Table → List ℕ → Case
@@ -116,7 +120,7 @@ valueOf said = said .value
 abbrev verdictRefused : Verdict → ℕ → Bool
 verdictRefused v number = eqb (verdictNumber v) number && not (verdictYes v) && eqb (verdictRow v) 0 && sameInt (verdictSlack v) (pos 0)
 
-abbrev holds : Case → Bool
+abbrev pub holds : Case → Bool
 holds (planned t o slacks) =
     eqb (plannedNumber (planOf t .answer)) 0
     && eqb (rowsLeft (planOf t .answer)) 0
@@ -152,26 +156,26 @@ holds (lists xs ys) = same xs ys
 holds (yes b) = b
 
 abbrev p1 : Table
-p1 = tableOf (job 0 20 10 1 ∷ job 5 15 10 0 ∷ job 5 11 19 1 ∷ job 0 5 5 0 ∷ []) 5 2
+p1 = plain (job 0 20 10 1 ∷ job 5 15 10 0 ∷ job 5 11 19 1 ∷ job 0 5 5 0 ∷ []) 5 2
 
 abbrev p2 : Table
-p2 = tableOf (job 0 8 5 0 ∷ job 0 12 10 1 ∷ job 3 4 5 1 ∷ job 2 16 10 0 ∷ []) 4 3
+p2 = plain (job 0 8 5 0 ∷ job 0 12 10 1 ∷ job 3 4 5 1 ∷ job 2 16 10 0 ∷ []) 4 3
 
 abbrev p3 : Table
-p3 = tableOf (job 0 2 2 0 ∷ job 0 4 4 1 ∷ []) 2 1
+p3 = plain (job 0 2 2 0 ∷ job 0 4 4 1 ∷ []) 2 1
 
 abbrev p4 : Table
-p4 = tableOf (job 0 20 20 1 ∷ job 0 18 18 0 ∷ []) 2 1
+p4 = plain (job 0 20 20 1 ∷ job 0 18 18 0 ∷ []) 2 1
 
 -- G from 1 to 3 (rule 13.5)
 abbrev p5 : ℕ → ℕ → Table
-p5 work degraded = tableOf (job 0 work 1 0 ∷ []) 3 degraded
+p5 work degraded = plain (job 0 work 1 0 ∷ []) 3 degraded
 
 abbrev p6 : ℕ → Table
-p6 degraded = tableOf (job 0 2 1 1 ∷ []) 2 degraded
+p6 degraded = plain (job 0 2 1 1 ∷ []) 2 degraded
 
 -- P1 to P8 (rules 13.1 to 13.8)
-abbrev starred : List Case
+abbrev pub starred : List Case
 starred =
     planned p1 (1 ∷ 2 ∷ 3 ∷ 4 ∷ []) (pos 0 ∷ pos 2 ∷ pos 0 ∷ pos 0 ∷ [])
     ∷ fails p1 2
@@ -193,52 +197,52 @@ starred =
 
 -- a LO row that runs on past its deadline, above a row that would pass if it did not
 abbrev lateAbove : Table
-lateAbove = tableOf (job 0 5 3 0 ∷ job 0 2 6 0 ∷ []) 1 1
+lateAbove = plain (job 0 5 3 0 ∷ job 0 2 6 0 ∷ []) 1 1
 
 -- three jobs of one work unit at two a slot: three slots, not two
 abbrev threeSmall : Table
-threeSmall = tableOf (job 0 1 2 0 ∷ job 0 1 2 0 ∷ job 0 1 2 0 ∷ []) 2 2
+threeSmall = plain (job 0 1 2 0 ∷ job 0 1 2 0 ∷ job 0 1 2 0 ∷ []) 2 2
 
 -- a LO row of four work units above a HI row: two slots at N, four at G
 abbrev lowAbove : Table
-lowAbove = tableOf (job 0 4 2 0 ∷ job 0 3 5 1 ∷ []) 2 1
+lowAbove = plain (job 0 4 2 0 ∷ job 0 3 5 1 ∷ []) 2 1
 
 -- a HI row of the later deadline and a LO row, which both pass at the lowest place: LO is tried first
 abbrev lowFirst : Table
-lowFirst = tableOf (job 0 1 9 1 ∷ job 0 1 5 0 ∷ []) 1 1
+lowFirst = plain (job 0 1 9 1 ∷ job 0 1 5 0 ∷ []) 1 1
 
 -- two rows of this level and these deadlines, which both pass at the lowest place
 abbrev pair : ℕ → ℕ → ℕ → Table
-pair level d1 d2 = tableOf (job 0 1 d1 level ∷ job 0 1 d2 level ∷ []) 1 1
+pair level d1 d2 = plain (job 0 1 d1 level ∷ job 0 1 d2 level ∷ []) 1 1
 
 -- rows of both levels, with equal deadlines in each
 abbrev mixed : Table
-mixed = tableOf (job 0 1 5 1 ∷ job 0 1 3 0 ∷ job 0 1 7 0 ∷ job 0 1 5 1 ∷ job 0 1 3 0 ∷ job 0 1 9 1 ∷ []) 1 1
+mixed = plain (job 0 1 5 1 ∷ job 0 1 3 0 ∷ job 0 1 7 0 ∷ job 0 1 5 1 ∷ job 0 1 3 0 ∷ job 0 1 9 1 ∷ []) 1 1
 
 -- row 2 takes the lowest place, and neither row 1 nor row 3 can be in time
 abbrev someLeft : Table
-someLeft = tableOf (job 0 2 1 0 ∷ job 0 1 9 0 ∷ job 0 2 1 1 ∷ []) 1 1
+someLeft = plain (job 0 2 1 0 ∷ job 0 1 9 0 ∷ job 0 2 1 1 ∷ []) 1 1
 
 -- released at 2 and at 4: slots 0, 1 and 3 are idle
 abbrev gaps : Table
-gaps = tableOf (job 4 1 9 1 ∷ job 2 1 3 0 ∷ []) 1 1
+gaps = plain (job 4 1 9 1 ∷ job 2 1 3 0 ∷ []) 1 1
 
 -- slacks 2, 0 and 0 under the order 1 2 3
 abbrev tied : Table
-tied = tableOf (job 0 1 3 0 ∷ job 0 1 2 1 ∷ job 0 1 3 0 ∷ []) 1 1
+tied = plain (job 0 1 3 0 ∷ job 0 1 2 1 ∷ job 0 1 3 0 ∷ []) 1 1
 
 -- one row
 abbrev alone : Row → ℕ → ℕ → Table
-alone row normal degraded = tableOf (row ∷ []) normal degraded
+alone row normal degraded = plain (row ∷ []) normal degraded
 
 -- the first row of a list as a table of one row, with the figures of the others after it
 abbrev followed : List Row → Table
 followed others =
-    let t = tableOf (job 0 1 1 0 ∷ others) 2 1 in
-    record { n = 1; normal = t .normal; degraded = t .degraded; release = t .release; work = t .work; deadline = t .deadline; level = t .level }
+    let t = plain (job 0 1 1 0 ∷ others) 2 1 in
+    record { n = 1; normal = t .normal; degraded = t .degraded; loading = 0; release = t .release; work = t .work; deadline = t .deadline; level = t .level }
 
 abbrev many : ℕ → Table
-many n = tableOf (replicate n (job 0 1 1 0)) 2 1
+many n = plain (replicate n (job 0 1 1 0)) 2 1
 
 -- the planner's choice (rules 4.1 to 4.9)
 abbrev choices : List Case
@@ -286,7 +290,7 @@ checks =
     refused (many 0) 3
     ∷ refused (many 65) 3
     ∷ accepted (many 64)
-    ∷ refused (tableOf [] 0 0) 3
+    ∷ refused (plain [] 0 0) 3
     ∷ accepted (alone (job 0 1 1 0) 1000 1000)
     ∷ refused (alone (job 0 1 1 0) 1001 1000) 4
     ∷ refused (alone (job 0 1 1 0) 0 0) 4
@@ -302,7 +306,7 @@ checks =
     ∷ accepted (alone (job 0 1 1000000 0) 2 1)
     ∷ refused (alone (job 0 1 1000001 0) 2 1) 5
     ∷ refused (alone (job 0 1 1 2) 2 1) 5
-    ∷ refused (tableOf (job 0 1 1 0 ∷ job 4 1 4 0 ∷ []) 2 1) 5
+    ∷ refused (plain (job 0 1 1 0 ∷ job 4 1 4 0 ∷ []) 2 1) 5
     ∷ accepted (followed (job 0 0 0 0 ∷ []))
     ∷ refused (followed (job 1 0 0 0 ∷ [])) 5
     ∷ refused (followed (job 0 1 0 0 ∷ [])) 5
@@ -343,7 +347,8 @@ runs =
 -- the small definitions that the others share
 abbrev parts : List Case
 parts =
-    lists (map (need 4) (0 ∷ 1 ∷ 2 ∷ 3 ∷ 4 ∷ 5 ∷ [])) (0 ∷ 4 ∷ 2 ∷ 2 ∷ 1 ∷ 1 ∷ [])
+    lists (map (need 0 4) (0 ∷ 1 ∷ 2 ∷ 3 ∷ 4 ∷ 5 ∷ [])) (0 ∷ 4 ∷ 2 ∷ 2 ∷ 1 ∷ 1 ∷ [])
+    ∷ lists (map (need 3 4) (0 ∷ 1 ∷ 2 ∷ 3 ∷ 4 ∷ 5 ∷ [])) (3 ∷ 7 ∷ 5 ∷ 5 ∷ 4 ∷ 4 ∷ [])
     ∷ lists (rowsTo 3) (1 ∷ 2 ∷ 3 ∷ [])
     ∷ lists (erase 2 (1 ∷ 2 ∷ 3 ∷ 2 ∷ [])) (1 ∷ 3 ∷ 2 ∷ [])
     ∷ lists (keep (isLow mixed) (6 ∷ 5 ∷ 4 ∷ 3 ∷ [])) (5 ∷ 3 ∷ [])
@@ -369,18 +374,19 @@ parts =
     ∷ gives (refusalNumber ClockOver) 8
     ∷ gives (refusalNumber Unsound) 9
     ∷ gives (refusalNumber NoRoom) 10
+    ∷ gives (refusalNumber Loading) 11
     ∷ []
 
 -- every case of a list holds
-abbrev allHold : List Case → Bool
+abbrev pub allHold : List Case → Bool
 allHold [] = true
 allHold (c ∷ cs) = holds c && allHold cs
 
 pub cases-hold : T (allHold (starred ++ choices ++ judgements ++ checks ++ runs ++ parts))
-unfolding planOf padded passes sequence choice fill taker word tableOf judgeOf tightest need refusalNumber checkNumber plannedNumber rowsLeft verdictNumber verdictYes verdictRow verdictSlack isOrder checkOrder checkBoth fresh isReady chosen isOver serve slot after rowOk tailOk checkTable horizon worstFinish slack meets tellOne tellForward tellAll allSupplies supplyAt earliest
+unfolding planOf padded passes sequence choice fill taker word tableOf judgeOf tightest workSlots refusalNumber checkNumber plannedNumber rowsLeft verdictNumber verdictYes verdictRow verdictSlack isOrder checkOrder checkBoth fresh isReady chosen isOver brought serve slot after rowOk tailOk checkTable horizon worstFinish slack meets tellOne tellForward tellAll allSupplies supplyAt earliest
 cases-hold = tt
 
--- an accepted table is one that checks 3 to 5 pass, and no other (rule 5.5)
+-- an accepted table is one that the checks of a table pass, and no other (rule 5.5)
 pub accepted-passes : (t : Table) → Accepted t → checkTable t ≡ Passed
 accepted-passes t h = h
 

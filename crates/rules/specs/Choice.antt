@@ -78,11 +78,11 @@ planFrom c =
     (record { answer = Ordered; order = padded (c .placed) })
     (record { answer = NoOrder (word (c .left)); order = replicate 64 0 })
 
--- a refused table has an order of zeros (rules 10.3 to 10.5)
+-- a refused table has an order of zeros (rules 10.3 to 10.5, 10.11)
 abbrev pub planChecked : Check → Table → Planning
 planChecked Checks.Passed t = planFrom (choice t)
 planChecked (Checks.Refused r) t = record { answer = Refused r; order = replicate 64 0 }
 
--- the planner's answer for any table: checks 3, 4, 5, then the choice (rule 11.3)
+-- the planner's answer for any table: checks 3, 4, 11, 5, then the choice (rule 11.3)
 unfoldable pub planOf : Table → Planning
 planOf t = planChecked (checkTable t) t

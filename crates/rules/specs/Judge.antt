@@ -34,7 +34,7 @@ abbrev pub judgeChecked : Check → Table → List ℕ → Verdict
 judgeChecked Checks.Passed t o = verdictAt t o (tightest t o)
 judgeChecked (Checks.Refused r) t o = Refused r
 
--- the judge's answer for any table and any sixty-four numbers: checks 3, 4, 5, 6, then the verdict (rules 7.1, 11.4)
+-- the judge's answer for any table and any sixty-four numbers: checks 3, 4, 11, 5, 6, then the verdict (rules 7.1, 11.4)
 unfoldable pub judgeOf : Table → List ℕ → Verdict
 judgeOf t o = judgeChecked (checkBoth t o) t o
 
@@ -42,13 +42,14 @@ judgeOf t o = judgeChecked (checkBoth t o) t o
 abbrev pub column : (Row → ℕ) → List Row → List ℕ
 column f rows = take 64 (map f rows ++ replicate 64 0)
 
--- the table of a lent list of rows: n is the list's length, so that more than 64 rows are refused by 3 (rule 7.1)
-unfoldable pub tableOf : List Row → ℕ → ℕ → Table
-tableOf rows normal degraded =
+-- the table of a lent list of rows, two speeds and K: n is the list's length, so that more than 64 rows are refused by 3 (rule 7.1)
+unfoldable pub tableOf : List Row → ℕ → ℕ → ℕ → Table
+tableOf rows normal degraded loading =
     record {
       n = length rows;
       normal = normal;
       degraded = degraded;
+      loading = loading;
       release = column (λ r. r .release) rows;
       work = column (λ r. r .work) rows;
       deadline = column (λ r. r .deadline) rows;

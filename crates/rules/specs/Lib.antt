@@ -17,4 +17,5 @@ pub mod Sheets
 pub mod Program
 pub mod Reports
 pub mod Cases
+pub mod LoadingCases
 pub mod TextCases

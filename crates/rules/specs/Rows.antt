@@ -1,4 +1,4 @@
--- A table's rows and their figures (rules 1.1 to 1.3), with the need at N (rule 1.8).
+-- A table's rows and their figures (rules 1.1 to 1.3), with their needs (rules 1.8, 1.10).
 use Prim.Native.Nat.{ℕ, _-_}
 use mathlib.Core.Bool.{Bool, not, _&&_}
 use mathlib.Core.List.{List}
@@ -36,9 +36,13 @@ workOf t i = at (t .work) i
 abbrev pub deadlineOf : Table → ℕ → ℕ
 deadlineOf t i = at (t .deadline) i
 
+-- the need at s work units per slot, in slots, whatever the row's level (rules 1.8, 1.10)
+abbrev pub needFor : Table → ℕ → ℕ → ℕ
+needFor t s i = need (t .loading) (workOf t i) s
+
 -- the need at N, in slots, whatever the row's level (rule 1.8)
 abbrev pub needOf : Table → ℕ → ℕ
-needOf t i = need (workOf t i) (t .normal)
+needOf t i = needFor t (t .normal) i
 
 -- a LO row: level 0 (rule 1.2)
 abbrev pub isLow : Table → ℕ → Bool

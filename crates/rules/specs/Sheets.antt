@@ -1,4 +1,4 @@
--- The sheet: a first line of 25 bytes with n, N and G, a line of 33 bytes for each row, and no byte more (rules 6.4 to 6.7); what the reader
+-- The sheet: a first line of 33 bytes with n, N, G and K, a line of 33 bytes for each row, and no byte more (rules 6.4 to 6.7); what the reader
 -- makes of any bytes (rule 6.8), and what the writer makes of any table and any bytes that it is lent (section 15 of the rules).
 use Prim.Native.Nat.{ℕ, _+_, _-_, _*_}
 use mathlib.Core.Bool.{Bool, cond, _&&_}
@@ -27,7 +27,7 @@ numberAt bytes start j = valueOf (fieldAt bytes (start + 8 * (j - 1)))
 
 -- the byte at which row i's line starts (rules 6.5, 6.6)
 abbrev pub lineOf : ℕ → ℕ
-lineOf i = 25 + 33 * (i - 1)
+lineOf i = 33 + 33 * (i - 1)
 
 -- the j-th figures of the first n rows, zeros after (rules 6.6, 6.8)
 unfoldable pub columnOf : List ℕ → ℕ → ℕ → List ℕ
@@ -41,6 +41,7 @@ tableIn bytes =
       n = n;
       normal = numberAt bytes 0 2;
       degraded = numberAt bytes 0 3;
+      loading = numberAt bytes 0 4;
       release = columnOf bytes n 1;
       work = columnOf bytes n 2;
       deadline = columnOf bytes n 3;
@@ -48,14 +49,14 @@ tableIn bytes =
     }
 
 -- the reader's checks: too short (1), first line (2), row count (3), length (1), row lines (2), then those of the table, of which
--- 4 and 5 are left (rules 6.7, 11.2)
+-- 4, 11 and 5 are left (rules 6.7, 11.2)
 unfoldable pub checkSheet : List ℕ → Check
 checkSheet bytes =
-    cond (ltb (length bytes) 25)
+    cond (ltb (length bytes) 33)
     (Refused Length)
-    (cond (isLine bytes 0 3)
+    (cond (isLine bytes 0 4)
     (cond (countOk (numberAt bytes 0 1))
-    (cond (eqb (length bytes) (25 + 33 * numberAt bytes 0 1))
+    (cond (eqb (length bytes) (33 + 33 * numberAt bytes 0 1))
     (cond (all (λ i. isLine bytes (lineOf i) 4) (rowsTo (numberAt bytes 0 1))) (checkTable (tableIn bytes)) (Refused Malformed))
     (Refused Length))
     (Refused RowCount))
@@ -74,9 +75,9 @@ readOf bytes = readChecked (checkSheet bytes) (tableIn bytes)
 unfoldable pub rowLine : Table → ℕ → List ℕ
 rowLine t i = line (releaseOf t i ∷ workOf t i ∷ deadlineOf t i ∷ at (t .level) i ∷ [])
 
--- the sheet of a table: the line of n, N and G, then the lines of its rows (rules 6.5, 6.6, 15.1)
+-- the sheet of a table: the line of n, N, G and K, then the lines of its rows (rules 6.5, 6.6, 15.1)
 unfoldable pub sheetOf : Table → List ℕ
-sheetOf t = line (t .n ∷ t .normal ∷ t .degraded ∷ []) ++ joined (rowLine t) (rowsOf t)
+sheetOf t = line (t .n ∷ t .normal ∷ t .degraded ∷ t .loading ∷ []) ++ joined (rowLine t) (rowsOf t)
 
 -- the writer's checks: those of the table first, 10 last (rules 11.6, 15.4)
 unfoldable pub checkWrite : Table → ℕ → Check

@@ -2,7 +2,7 @@
 use Prim.Native.Nat.{ℕ, zero, suc, _+_, min}
 use mathlib.Core.Bool.{Bool, cond, _&&_, _||_}
 use mathlib.Core.List.{List}
-use lib.Dec.{eqb, leb}
+use lib.Dec.{eqb, ltb, leb}
 use lib.ListN.{replicate}
 use Rattle.rules.specs.declared.Table.{Table}
 use Rattle.rules.specs.Lists.{first}
@@ -28,7 +28,7 @@ isReady t s i = isRow t i && leb (releaseOf t i) (s .clock) && eqb (at (s .closi
 unfoldable pub chosen : Table → List ℕ → State → ℕ
 chosen t o s = first (isReady t s) o
 
--- the slots that a LO row may use, at whatever speed: its need at N (rule 1.9; at G it would be the fault of rule 14.2)
+-- the slots that a LO row may use, loading among them, at whatever speed: its need at N (rule 1.9; at G it would be the fault of rule 14.2)
 abbrev pub allowance : Table → ℕ → ℕ
 allowance t i = needOf t i
 
@@ -38,15 +38,20 @@ allowance t i = needOf t i
 unfoldable pub isOver : Table → ℕ → ℕ → ℕ → Bool
 isOver t i g u = eqb g (workOf t i) || (isLow t i && leb (allowance t i) u)
 
+-- What a slot that supplies v brings a row that has used u slots before it, where k slots load a row, in work units: nothing while the row
+-- still loads (rule 2.14), and then all of it (rule 2.5). Slots used are never given back, so that a row loads once, preempted or not.
+unfoldable pub brought : ℕ → ℕ → ℕ → ℕ
+brought k u v = cond (ltb u k) 0 v
+
 -- an idle slot: only the clock moves (rules 2.3, 2.12)
 abbrev pub idle : State → State
 idle s = record { clock = s .clock + 1; got = s .got; used = s .used; closing = s .closing }
 
--- Row i runs with supply v, in work units. It has used one slot more and got v more, but never above c; the rest of v is lost
--- (rules 2.1, 2.5). If that closes it, its closing slot is the clock after this slot (rule 2.10).
+-- Row i runs with supply v, in work units. It has used one slot more and got more by what the slot brings, but never above c; the rest of v
+-- is lost (rules 2.1, 2.5, 2.14). If that closes it, its closing slot is the clock after this slot (rule 2.10).
 unfoldable pub serve : Table → ℕ → ℕ → State → State
 serve t v i s =
-    let g = min (workOf t i) (at (s .got) i + v) in
+    let g = min (workOf t i) (at (s .got) i + brought (t .loading) (at (s .used) i) v) in
     let u = at (s .used) i + 1 in
     record {
       clock = s .clock + 1;

@@ -1,11 +1,11 @@
--- Which tables are accepted: checks 3, 4 and 5, in this order (rules 5.1 to 5.5).
+-- Which tables are accepted: checks 3, 4, 11 and 5, in this order (rules 5.1 to 5.5, 5.8).
 use Prim.Native.Nat.{ℕ}
 use mathlib.Core.Bool.{Bool, true, false, cond, _&&_}
 use mathlib.Core.Path.{_≡_}
 use lib.Dec.{ltb, leb}
 use lib.ListN.{length, drop, replicate}
 use Rattle.rules.specs.declared.Table.{Table}
-use Rattle.rules.specs.declared.Refusal.the-variants.{RowCount, Speeds, RowLimits}
+use Rattle.rules.specs.declared.Refusal.the-variants.{RowCount, Speeds, Loading, RowLimits}
 use Rattle.rules.specs.declared.Check.{Check}
 use Rattle.rules.specs.declared.Check.the-variants.{Passed, Refused}
 use Rattle.rules.specs.Lists.{all, allZero}
@@ -18,6 +18,10 @@ countOk n = leb 1 n && leb n 64
 -- N is from 1 to 1,000 and G from 1 to N, in work units per slot (rule 5.2)
 abbrev pub speedsOk : ℕ → ℕ → Bool
 speedsOk normal degraded = leb 1 normal && leb normal 1000 && leb 1 degraded && leb degraded normal
+
+-- K is at most 16 slots (rule 5.8)
+abbrev pub loadingOk : ℕ → Bool
+loadingOk loading = leb loading 16
 
 -- row i is within its limits: work in work units, release and deadline in slots, level (rule 5.3)
 unfoldable pub rowOk : Table → ℕ → Bool
@@ -39,16 +43,18 @@ pub record FullTable (t : Table) : Type 0 where
   pub deadline : length (t .deadline) ≡ 64
   pub level : length (t .level) ≡ 64
 
--- checks 3, 4, 5 (rule 11.3)
+-- checks 3, 4, 11, 5 (rule 11.3)
 unfoldable pub checkTable : Table → Check
 checkTable t =
     cond (countOk (t .n))
     (cond (speedsOk (t .normal) (t .degraded))
+    (cond (loadingOk (t .loading))
     (cond (all (rowOk t) (rowsOf t) && tailOk t) Passed (Refused RowLimits))
+    (Refused Loading))
     (Refused Speeds))
     (Refused RowCount)
 
--- the table passes all three (rule 5.5)
+-- the table passes all four (rule 5.5)
 abbrev pub Accepted : Table → Type 0
 Accepted t = checkTable t ≡ Passed
 
@@ -64,6 +70,7 @@ zeroTable =
       n = 0;
       normal = 0;
       degraded = 0;
+      loading = 0;
       release = replicate 64 0;
       work = replicate 64 0;
       deadline = replicate 64 0;

@@ -6,8 +6,7 @@ use lib.Dec.{leb}
 use lib.IntN.{ℤ, pos, _-ℤ_}
 use Rattle.rules.specs.declared.Table.{Table}
 use Rattle.rules.specs.Lists.{sum, greatest}
-use Rattle.rules.specs.Need.{need}
-use Rattle.rules.specs.Rows.{at, rowsOf, releaseOf, workOf, deadlineOf, isLow}
+use Rattle.rules.specs.Rows.{at, rowsOf, releaseOf, deadlineOf, needFor, isLow}
 use Rattle.rules.specs.Slots.{after}
 
 -- what each slot of row i's worst run supplies, in work units per slot: N for a LO row, G for a HI row (rule 3.5)
@@ -16,9 +15,9 @@ worstSpeed t i = cond (isLow t i) (t .normal) (t .degraded)
 
 -- slots after which every row is closed at this speed, so that the run is long enough: the latest release and all needs (rule 3.5)
 unfoldable pub horizon : Table → ℕ → ℕ
-horizon t s = greatest (releaseOf t) (rowsOf t) + sum (λ i. need (workOf t i) s) (rowsOf t)
+horizon t s = greatest (releaseOf t) (rowsOf t) + sum (needFor t s) (rowsOf t)
 
--- row i's closing slot in its worst run (rule 3.6); it is found slot by slot, so that each need is rounded by itself (rule 14.5)
+-- row i's closing slot in its worst run (rule 3.6); it is found slot by slot, so that each row loads, and its need is rounded, by itself (rules 2.14, 14.5)
 unfoldable pub worstFinish : Table → List ℕ → ℕ → ℕ
 worstFinish t o i = at (after t o (λ _. worstSpeed t i) (horizon t (worstSpeed t i)) .closing) i
 

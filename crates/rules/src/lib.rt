@@ -11,18 +11,19 @@ pub struct Row {
 }
 
 // A table of n jobs, one column for each figure; row i is at index i - 1, and no figure stands after row n (rules 1.1, 5.4).
-// normal and degraded are speeds in work units per slot (rule 1.7).
+// normal and degraded are speeds in work units per slot (rule 1.7); loading is K, the slots that load a job (rule 1.10).
 pub struct Table {
     pub n: u32,
     pub normal: u32,
     pub degraded: u32,
+    pub loading: u32,
     pub release: [u32; 64],
     pub work: [u32; 64],
     pub deadline: [u32; 64],
     pub level: [u32; 64],
 }
 
-// Why a call was refused (rules 10.1 to 10.6, 10.8 to 10.10). The number of each is given by specs/Numbers.
+// Why a call was refused (rules 10.1 to 10.6, 10.8 to 10.11). The number of each is given by specs/Numbers.
 pub enum Refusal {
     Length,
     Malformed,
@@ -33,6 +34,7 @@ pub enum Refusal {
     ClockOver,
     Unsound,
     NoRoom,
+    Loading,
 }
 
 // A check passed, or what it was refused for (rule 11.1).

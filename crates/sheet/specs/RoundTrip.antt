@@ -90,9 +90,18 @@ around f k (suc m) h =
     })
 
 -- ---- the sheet of an accepted table
+-- four numbers that a field holds, by their index
+four-small : (a b c d : ℕ) → a < 100000000 → b < 100000000 → c < 100000000 → d < 100000000
+    → (j : ℕ) → j < 4 → getD (a ∷ b ∷ c ∷ d ∷ []) j 0 < 100000000
+four-small a b c d ha hb hc hd zero h = ha
+four-small a b c d ha hb hc hd (suc zero) h = hb
+four-small a b c d ha hb hc hd (suc (suc zero)) h = hc
+four-small a b c d ha hb hc hd (suc (suc (suc zero))) h = hd
+four-small a b c d ha hb hc hd (suc (suc (suc (suc j)))) h = absurd (omega arith)
+
 module _ (t : Table) (accepted : Accepted t) where
   abbrev head : List ℕ
-  head = t .n ∷ t .normal ∷ t .degraded ∷ []
+  head = t .n ∷ t .normal ∷ t .degraded ∷ t .loading ∷ []
 
   abbrev row : ℕ → List ℕ
   row i = releaseOf t i ∷ workOf t i ∷ deadlineOf t i ∷ at (t .level) i ∷ []
@@ -103,25 +112,29 @@ module _ (t : Table) (accepted : Accepted t) where
   known : TableFacts t
   known = facts t accepted
 
-  head-small : (j : ℕ) → j < 3 → getD head j 0 < 100000000
-  head-small zero h = omega (arith, known .few)
-  head-small (suc zero) h = omega (arith, known .fast)
-  head-small (suc (suc zero)) h = omega (arith, known .fast, known .slower)
-  head-small (suc (suc (suc j))) h = absurd (omega arith)
+  head-small : (j : ℕ) → j < 4 → getD head j 0 < 100000000
+  head-small =
+      four-small (t .n) (t .normal) (t .degraded) (t .loading)
+      (omega (arith, known .few))
+      (omega (arith, known .fast))
+      (omega (arith, known .fast, known .slower))
+      (omega (arith, known .loads))
 
   row-small : (i : ℕ) → Row t i → (j : ℕ) → j < 4 → getD (row i) j 0 < 100000000
-  row-small i r zero h = let f = known .row i r in omega (arith, f .before, f .soon)
-  row-small i r (suc zero) h = omega (arith, known .row i r .light)
-  row-small i r (suc (suc zero)) h = omega (arith, known .row i r .soon)
-  row-small i r (suc (suc (suc zero))) h = omega (arith, known .row i r .level)
-  row-small i r (suc (suc (suc (suc j)))) h = absurd (omega arith)
+  row-small i r =
+      let f = known .row i r in
+      four-small (releaseOf t i) (workOf t i) (deadlineOf t i) (at (t .level) i)
+      (omega (arith, f .before, f .soon))
+      (omega (arith, f .light))
+      (omega (arith, f .soon))
+      (omega (arith, f .level))
 
   -- the first line
-  head-line : isLine (sheetOf t) 0 3 ≡ true
+  head-line : isLine (sheetOf t) 0 4 ≡ true
   unfolding sheetOf
   head-line = line-there [] head lines 0 refl head-small
 
-  head-number : (j : ℕ) → j < 3 → numberAt (sheetOf t) 0 (j + 1) ≡ getD head j 0
+  head-number : (j : ℕ) → j < 4 → numberAt (sheetOf t) 0 (j + 1) ≡ getD head j 0
   unfolding sheetOf
   head-number = number-there [] head lines 0 refl head-small
 
@@ -133,7 +146,7 @@ module _ (t : Table) (accepted : Accepted t) where
     abbrev front : List ℕ
     front = line head ++ joined (rowLine t) (rowsTo k)
 
-    front-long : length front ≡ 25 + 33 * k
+    front-long : length front ≡ 33 + 33 * k
     front-long = omega (arith, length-append (line head) (joined (rowLine t) (rowsTo k)), head-long t, rows-long t k)
 
     whole : sheetOf t ≡ front ++ (line (row (k + 1)) ++ apart .rest)
@@ -143,11 +156,11 @@ module _ (t : Table) (accepted : Accepted t) where
     small : (j : ℕ) → j < 4 → getD (row (k + 1)) j 0 < 100000000
     small = row-small (k + 1) (record { from = omega arith; upTo = omega arith })
 
-    row-there : isLine (sheetOf t) (25 + 33 * k) 4 ≡ true
-    row-there = rw whole (line-there front (row (k + 1)) (apart .rest) (25 + 33 * k) front-long small)
+    row-there : isLine (sheetOf t) (33 + 33 * k) 4 ≡ true
+    row-there = rw whole (line-there front (row (k + 1)) (apart .rest) (33 + 33 * k) front-long small)
 
-    row-number : (j : ℕ) → j < 4 → numberAt (sheetOf t) (25 + 33 * k) (j + 1) ≡ getD (row (k + 1)) j 0
-    row-number j l = rw whole (number-there front (row (k + 1)) (apart .rest) (25 + 33 * k) front-long small j l)
+    row-number : (j : ℕ) → j < 4 → numberAt (sheetOf t) (33 + 33 * k) (j + 1) ≡ getD (row (k + 1)) j 0
+    row-number j l = rw whole (number-there front (row (k + 1)) (apart .rest) (33 + 33 * k) front-long small j l)
 
   lines-there : (n : ℕ) → n ≤ t .n → linesOk (sheetOf t) n ≡ true
   lines-there zero h = refl
@@ -189,6 +202,7 @@ module _ (t : Table) (accepted : Accepted t) where
         head-number 0 (omega arith),
         head-number 1 (omega arith),
         head-number 2 (omega arith),
+        head-number 3 (omega arith),
         column-back 0 (t .release) (omega arith) (λ i. refl) (f .release) (tails .0),
         column-back 1 (t .work) (omega arith) (λ i. refl) (f .work) (tails .1),
         column-back 2 (t .deadline) (omega arith) (λ i. refl) (f .deadline) (tails .2),
@@ -200,12 +214,12 @@ module _ (t : Table) (accepted : Accepted t) where
   unfolding checkSheet
   check-back f =
       rw (
-        le-ltb (length (sheetOf t)) 25 (omega (arith, sheet-long t)),
+        le-ltb (length (sheetOf t)) 33 (omega (arith, sheet-long t)),
         head-line,
         head-number 0 (omega arith),
         le-leb 1 (t .n) (known .some),
         le-leb (t .n) 64 (known .few),
-        eq-eqb (length (sheetOf t)) (25 + 33 * t .n) (sheet-long t),
+        eq-eqb (length (sheetOf t)) (33 + 33 * t .n) (sheet-long t),
         lines-there (t .n) (omega arith),
         table-back f,
       )

@@ -34,33 +34,33 @@ row-long t i = line-long (releaseOf t i ∷ workOf t i ∷ deadlineOf t i ∷ at
 pub rows-long : (t : Table) (n : ℕ) → length (joined (rowLine t) (rowsTo n)) ≡ 33 * n
 rows-long t n = joined-long (rowLine t) 33 (row-long t) n
 
-pub head-long : (t : Table) → length (line (t .n ∷ t .normal ∷ t .degraded ∷ [])) ≡ 25
-head-long t = line-long (t .n ∷ t .normal ∷ t .degraded ∷ [])
+pub head-long : (t : Table) → length (line (t .n ∷ t .normal ∷ t .degraded ∷ t .loading ∷ [])) ≡ 33
+head-long t = line-long (t .n ∷ t .normal ∷ t .degraded ∷ t .loading ∷ [])
 
--- a first line of 25 bytes, and 33 for each row
-pub sheet-long : (t : Table) → length (sheetOf t) ≡ 25 + 33 * t .n
+-- 33 for the first line and 33 for each row: 2,145 with 64 rows (rules 6.5 to 6.7)
+pub sheet-long : (t : Table) → length (sheetOf t) ≡ 33 + 33 * t .n
 unfolding sheetOf
 sheet-long t =
-    omega (arith, length-append (line (t .n ∷ t .normal ∷ t .degraded ∷ [])) (joined (rowLine t) (rowsTo (t .n))), head-long t, rows-long t (t .n))
+    omega (arith, length-append (line (t .n ∷ t .normal ∷ t .degraded ∷ t .loading ∷ [])) (joined (rowLine t) (rowsTo (t .n))), head-long t, rows-long t (t .n))
 
 -- ---- the checks
 module _ (t : Table) (room : ℕ) where
   abbrev roomFor : Check
   roomFor = checkRoom (length (sheetOf t)) room
 
-  pub too-short : room < 25 + 33 * t .n → roomFor ≡ Refused NoRoom
+  pub too-short : room < 33 + 33 * t .n → roomFor ≡ Refused NoRoom
   too-short h = Room.too-short (length (sheetOf t)) room (omega (arith, sheet-long t))
 
-  pub long-enough : 25 + 33 * t .n ≤ room → roomFor ≡ Passed
+  pub long-enough : 33 + 33 * t .n ≤ room → roomFor ≡ Passed
   long-enough h = Room.long-enough (length (sheetOf t)) room (omega (arith, sheet-long t))
 
   -- an accepted table whose sheet fits is not refused
-  pub passes : Accepted t → 25 + 33 * t .n ≤ room → checkWrite t room ≡ Passed
+  pub passes : Accepted t → 33 + 33 * t .n ≤ room → checkWrite t room ≡ Passed
   unfolding checkWrite
   passes a h = rw (a, long-enough h)
 
   -- where nothing is refused the table is accepted and its sheet fits
-  pub fits : checkWrite t room ≡ Passed → Accepted t × (25 + 33 * t .n ≤ room)
+  pub fits : checkWrite t room ≡ Passed → Accepted t × (33 + 33 * t .n ≤ room)
   unfolding checkWrite
   fits e = let p = both-passed (checkTable t) roomFor e in (p .0, omega (arith, room-passed (length (sheetOf t)) room (p .1), sheet-long t))
 

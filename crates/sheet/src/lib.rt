@@ -2,8 +2,10 @@
 // in, its sheet out into lent bytes (section 15 of the rules).
 ghost use mathlib.Core.Path.{_≡_};
 ghost use mathlib.Core.Bool.{true};
+ghost use mathlib.Core.List.{[], _∷_};
 ghost use Prim.Native.Nat.{_+_, _*_, _≤_, _<_};
 ghost use lib.ListN.{length};
+ghost use Rattle.rules.specs.Fields.{line};
 ghost use Rattle.rules.specs.Lists.{joined};
 ghost use Rattle.rules.specs.Rows.{rowsOf};
 ghost use Rattle.rules.specs.Sheets.{isLine, numberAt, columnOf, tableIn, readChecked, readOf, rowLine, sheetOf, checkWrite, writeOf};
@@ -31,14 +33,14 @@ fn line_ok(bytes: &[u8], start: usize, k: usize) -> bool
     bytes[start + 8 * k] == 10
 }
 
-// The lines of all n rows are well formed.
+// The lines of all n rows are well formed; row 1's starts at byte 33, after the first line (rules 6.5, 6.6).
 fn lines_ok(bytes: &[u8], n: usize) -> bool
-    requires { ⌜ (n ≤ 64) × (length (now bytes) ≡ 25 + 33 * n) ⌝ }
+    requires { ⌜ (n ≤ 64) × (length (now bytes) ≡ 33 + 33 * n) ⌝ }
     ensures { λ r. ⌜ r ≡ linesOk (now (bytes .entry)) n ⌝ }
 {
     let mut i: usize = 0;
     while i < n {
-        if !line_ok(bytes, 25 + 33 * i, 4) {
+        if !line_ok(bytes, 33 + 33 * i, 4) {
             return false;
         }
         i += 1;
@@ -54,20 +56,21 @@ fn column(bytes: &[u8], n: usize, j: usize) -> [u32; 64]
     let mut figures = [0u32; 64];
     let mut i: usize = 0;
     while i < n {
-        figures[i] = fields::number(bytes, 25 + 33 * i + 8 * (j - 1));
+        figures[i] = fields::number(bytes, 33 + 33 * i + 8 * (j - 1));
         i += 1;
     }
     figures
 }
 
-// The table that well-formed lines state.
+// The table that well-formed lines state: n, N, G and K on the first, then the rows (rules 6.5, 6.6).
 fn table_in(bytes: &[u8], n: u32) -> Table
-    requires { ⌜ Lined (now bytes) n × (isLine (now bytes) 0 3 ≡ true) × (n ≡ numberAt (now bytes) 0 1) ⌝ }
+    requires { ⌜ Lined (now bytes) n × (isLine (now bytes) 0 4 ≡ true) × (n ≡ numberAt (now bytes) 0 1) ⌝ }
     ensures { λ r. ⌜ r ≡ tableIn (now (bytes .entry)) ⌝ }
 {
     let rows = n as usize;
     let normal = fields::number(bytes, 8);
     let degraded = fields::number(bytes, 16);
+    let loading = fields::number(bytes, 24);
     let release = column(bytes, rows, 1);
     let work = column(bytes, rows, 2);
     let deadline = column(bytes, rows, 3);
@@ -76,6 +79,7 @@ fn table_in(bytes: &[u8], n: u32) -> Table
         n,
         normal,
         degraded,
+        loading,
         release,
         work,
         deadline,
@@ -92,6 +96,7 @@ fn refused(why: Refusal) -> Reading
         n: 0,
         normal: 0,
         degraded: 0,
+        loading: 0,
         release: zeros,
         work: zeros,
         deadline: zeros,
@@ -117,14 +122,14 @@ fn answer(check: Check, table: Table) -> Reading
 }
 
 // The reader's answer for any bytes: the first check that fails, with the table of zeros, or the table (rules 6.8, 11.2).
-// Checks 4 and 5 come last.
+// Checks 4, 11 and 5 come last.
 pub fn read(bytes: &[u8]) -> Reading
     ensures { λ r. ⌜ r ≡ readOf (now (bytes .entry)) ⌝ }
 {
-    if bytes.len() < 25 {
-        return refused(Refusal::Length); // 1, under 25 bytes
+    if bytes.len() < 33 {
+        return refused(Refusal::Length); // 1, under the 33 bytes of a first line
     }
-    if !line_ok(bytes, 0, 3) {
+    if !line_ok(bytes, 0, 4) {
         return refused(Refusal::Malformed); // 2, in the first line
     }
     let n = fields::number(bytes, 0);
@@ -132,8 +137,8 @@ pub fn read(bytes: &[u8]) -> Reading
         return refused(Refusal::RowCount); // 3
     }
     let rows = n as usize;
-    if bytes.len() != 25 + 33 * rows {
-        return refused(Refusal::Length); // 1, for length
+    if bytes.len() != 33 + 33 * rows {
+        return refused(Refusal::Length); // 1, for other than 33 + 33 n bytes (rule 6.7)
     }
     if !lines_ok(bytes, rows) {
         return refused(Refusal::Malformed); // 2, in a row
@@ -142,13 +147,21 @@ pub fn read(bytes: &[u8]) -> Reading
     answer(checks::check_table(table), table)
 }
 
+// A line of four fields, as the first line and every row's line are (rules 6.5, 6.6).
+fn put_four(out: &mut [u8], at: usize, first: u32, second: u32, third: u32, fourth: u32) -> usize
+    requires { ⌜ at + 33 ≤ length (now out) ⌝ }
+    ensures { λ r. ⌜ Wrote (now (out .entry)) at (now (out .exit)) r (line (first ∷ second ∷ third ∷ fourth ∷ [])) ⌝ }
+{
+    let after_first = fields::put_field(out, at, first);
+    fields::put_triple(out, after_first, second, third, fourth)
+}
+
 // The line of the row at index k: release, work, deadline, level.
 fn put_row(out: &mut [u8], at: usize, t: Table, k: usize) -> usize
     requires { ⌜ (k < 64) × (at + 33 ≤ length (now out)) ⌝ }
     ensures { λ r. ⌜ Wrote (now (out .entry)) at (now (out .exit)) r (rowLine t (k + 1)) ⌝ }
 {
-    let after_release = fields::put_field(out, at, t.release[k]);
-    fields::put_triple(out, after_release, t.work[k], t.deadline[k], t.level[k])
+    put_four(out, at, t.release[k], t.work[k], t.deadline[k], t.level[k])
 }
 
 // The lines of all rows, row 1 first.
@@ -166,20 +179,20 @@ fn put_rows(out: &mut [u8], at: usize, t: Table) -> usize
     next
 }
 
-// The sheet of a table, from byte 0 on.
+// The sheet of a table, from byte 0 on: the line of n, N, G and K, then the lines of the rows.
 fn put_sheet(out: &mut [u8], t: Table) -> usize
-    requires { ⌜ (t .n ≤ 64) × (25 + 33 * t .n ≤ length (now out)) ⌝ }
+    requires { ⌜ (t .n ≤ 64) × (33 + 33 * t .n ≤ length (now out)) ⌝ }
     ensures { λ r. ⌜ Wrote (now (out .entry)) 0 (now (out .exit)) r (sheetOf t) ⌝ }
 {
-    let next = fields::put_triple(out, 0, t.n, t.normal, t.degraded);
+    let next = put_four(out, 0, t.n, t.normal, t.degraded, t.loading);
     put_rows(out, next, t)
 }
 
-// The writer's checks: 3, 4, 5, then 10.
+// The writer's checks: 3, 4, 11, 5, then 10 for a sheet of 33 + 33 n bytes (rules 6.7, 11.6).
 fn check_write(t: Table, room: usize) -> Check
     ensures { λ r. ⌜ r ≡ checkWrite t room ⌝ }
 {
-    let size = 25 + 33 * (t.n as usize);
+    let size = 33 + 33 * (t.n as usize);
     let table = checks::check_table(t);
     let enough = checks::check_room(size, room);
     checks::and_then(table, enough)

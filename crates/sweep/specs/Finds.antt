@@ -101,9 +101,9 @@ module _ (t : Table) (accepted : Accepted t) where
         few = f .few;
         rows = subst (λ (l : List ℕ). Rows l (t .n)) (sym p) (sorted-rows (releaseOf t) (t .n) (f .few));
         early = early;
-        light = subst (λ (l : List ℕ). (j : ℕ) → getD l j 0 ≤ 1000000) (sym q)
-            (padded-most (cap t s) (t .n) 1000000 (f .few)
-            (λ i h k. omega (arith, cap-most t s i (f .runs) s1, f .row i (record { from = h; upTo = k }) .light)));
+        light = subst (λ (l : List ℕ). (j : ℕ) → getD l j 0 ≤ 1000016) (sym q)
+            (padded-most (cap t s) (t .n) 1000016 (f .few)
+            (λ i h k. omega (arith, cap-most t s i (f .runs) s1, f .loads, f .row i (record { from = h; upTo = k }) .light)));
       }
 
   -- what `finish` returns with those columns, where m is the word of the rows left

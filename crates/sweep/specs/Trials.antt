@@ -11,12 +11,12 @@ use Rattle.theory.specs.Sweep.{sweep}
 use Rattle.sweep.specs.Masks.{isLeft}
 use Rattle.sweep.specs.Padded.{Rows, rest, rest-step}
 
--- the first n entries of an order are row numbers, and no release or cap is over 1,000,000 slots
+-- the first n entries of an order are row numbers, no release is over 1,000,000 slots and no cap over 1,000,016
 pub record Columns (order : List ℕ) (n : ℕ) (release cap : List ℕ) : Type 0 where
   pub few : n ≤ 64
   pub rows : Rows order n
   pub early : (j : ℕ) → getD release j 0 ≤ 1000000
-  pub light : (j : ℕ) → getD cap j 0 ≤ 1000000
+  pub light : (j : ℕ) → getD cap j 0 ≤ 1000016
 
 -- the sweep over the rows left of a list, from busy time b on
 abbrev pub trial : List ℕ → List ℕ → ℕ → ℕ → ℕ → List ℕ → ℕ

@@ -35,7 +35,7 @@ pub record Timed (t : Table) (o finishes : List ℕ) : Type 0 where
   pub right : Right t o
   pub worst : finishes ≡ padded (map (worstFinish t o) (rowsOf t))
 
--- checks 3 to 6 pass
+-- the checks of table and order pass
 pub both-pass : (t : Table) (o : List ℕ) → Right t o → checkBoth t o ≡ Passed
 unfolding checkBoth checkOrder
 both-pass t o r = rw (r .accepted, r .order)

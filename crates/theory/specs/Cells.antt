@@ -7,11 +7,11 @@ use native.Mathlib.Omega.{arith}
 use lib.Dec.{leb, eqb}
 use lib.ListN.{length, length-set, getD-replicate}
 use lib.Seq.{getD-set-same, getD-set-other}
-use borrow.Author.Tests.{leb-true, eqb-true, ne-eqb}
+use borrow.Author.Tests.{lt-ltb, le-ltb, leb-true, eqb-true, ne-eqb}
 use Rattle.rules.specs.declared.Table.{Table}
 use Rattle.rules.specs.Lists.{first}
 use Rattle.rules.specs.Rows.{at, put, isRow, releaseOf, workOf}
-use Rattle.rules.specs.Slots.{State, fresh, isReady, chosen, isOver, serve, slot, after}
+use Rattle.rules.specs.Slots.{State, fresh, isReady, chosen, isOver, brought, serve, slot, after}
 use Rattle.theory.specs.Tests.{by-bool, by-eqb, by-leb, and-left, and-right}
 use Rattle.theory.specs.Counts.{In, first-in, first-passes, first-above}
 use Rattle.theory.specs.Facts.{Row, row-is}
@@ -25,14 +25,22 @@ pub record Cell : Type 0 where
 abbrev pub cellAt : State → ℕ → Cell
 cellAt s i = record { got = at (s .got) i; used = at (s .used) i; closing = at (s .closing) i }
 
+-- a slot of a row that still loads brings nothing, and one of a row that has loaded brings its supply (rules 2.5, 2.14)
+pub brought-none : (k u v : ℕ) → u < k → brought k u v ≡ 0
+unfolding brought
+brought-none k u v h = rw (lt-ltb u k h)
+
+pub brought-all : (k u v : ℕ) → k ≤ u → brought k u v ≡ v
+unfolding brought
+brought-all k u v h = rw (le-ltb u k h)
+
+-- the work units that row i has after a slot of its own with supply v (rules 2.5, 2.14)
+abbrev pub grown : Table → ℕ → ℕ → Cell → ℕ
+grown t v i x = min (workOf t i) (x .got + brought (t .loading) (x .used) v)
+
 -- the row's part after a slot of its own at clock u with supply v
 unfoldable pub served : Table → ℕ → ℕ → ℕ → Cell → Cell
-served t v u i x =
-    record {
-      got = min (workOf t i) (x .got + v);
-      used = x .used + 1;
-      closing = cond (isOver t i (min (workOf t i) (x .got + v)) (x .used + 1)) (u + 1) 0;
-    }
+served t v u i x = record { got = grown t v i x; used = x .used + 1; closing = cond (isOver t i (grown t v i x) (x .used + 1)) (u + 1) 0 }
 
 -- the columns have sixty-four entries
 pub record Sized (s : State) : Type 0 where
@@ -74,10 +82,10 @@ module _ (t : Table) (o : List ℕ) (v : ℕ) (s : State) where
       rw (
         e,
         ne-eqb i 0 (λ w. omega arith),
-        at-put-same (s .got) i (min (workOf t i) (at (s .got) i + v)) (z .gots) p q,
+        at-put-same (s .got) i (grown t v i (cellAt s i)) (z .gots) p q,
         at-put-same (s .used) i (at (s .used) i + 1) (z .useds) p q,
         at-put-same (s .closing) i
-            (cond (isOver t i (min (workOf t i) (at (s .got) i + v)) (at (s .used) i + 1)) (s .clock + 1) 0) (z .closings) p q,
+            (cond (isOver t i (grown t v i (cellAt s i)) (at (s .used) i + 1)) (s .clock + 1) 0) (z .closings) p q,
       )
 
   -- every other row
@@ -88,11 +96,10 @@ module _ (t : Table) (o : List ℕ) (v : ℕ) (s : State) where
       (λ e q. rw e)
       (λ e q. rw (
         e,
-        at-put-other (s .got) (chosen t o s) j (min (workOf t (chosen t o s)) (at (s .got) (chosen t o s) + v)) (omega arith) p
-            (λ w. h (sym w)),
+        at-put-other (s .got) (chosen t o s) j (grown t v (chosen t o s) (cellAt s (chosen t o s))) (omega arith) p (λ w. h (sym w)),
         at-put-other (s .used) (chosen t o s) j (at (s .used) (chosen t o s) + 1) (omega arith) p (λ w. h (sym w)),
         at-put-other (s .closing) (chosen t o s) j
-            (cond (isOver t (chosen t o s) (min (workOf t (chosen t o s)) (at (s .got) (chosen t o s) + v)) (at (s .used) (chosen t o s) + 1)) (s .clock + 1) 0)
+            (cond (isOver t (chosen t o s) (grown t v (chosen t o s) (cellAt s (chosen t o s))) (at (s .used) (chosen t o s) + 1)) (s .clock + 1) 0)
             (omega arith) p (λ w. h (sym w)),
       ))
 

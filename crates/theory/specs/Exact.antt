@@ -13,27 +13,30 @@ use Rattle.theory.specs.Counts.{In, Once, count-append, count-same, coun
 use Rattle.theory.specs.Backlog.{backlog, arrivals, Finish, finish-only}
 use Rattle.theory.specs.Caps.{cap, cap-done, cap-dropped}
 use Rattle.theory.specs.Facts.{Row, TableFacts}
-use Rattle.theory.specs.Cells.{Cell, cellAt, served, fresh-cell}
+use Rattle.theory.specs.Cells.{Cell, cellAt, grown, served, fresh-cell}
 use Rattle.theory.specs.Demand.{sum-both}
-use Rattle.theory.specs.Invariant.{Held, Over, cell-served, cell-other, ran, held, under}
+use Rattle.theory.specs.Invariant.{Held, Over, by-brought, none-beyond, cell-served, cell-other, ran, held, under}
 use Rattle.theory.specs.Left.{left, bring, left-open, left-late, left-closed, left-waits, left-served-one}
 use Rattle.theory.specs.Sustain.{none-left}
 
--- work got is what the slots used have brought
+-- work got is what the slots used beyond the loading have brought
 abbrev Brought : Table → ℕ → ℕ → Cell → Type 0
-Brought t s i x = x .got ≡ min (workOf t i) (x .used * s)
+Brought t s i x = x .got ≡ min (workOf t i) ((x .used - t .loading) * s)
 
-brought : (t : Table) (s k i : ℕ) (x : Cell) → Brought t s i x → Brought t s i (served t s k i x)
+brought-more : (t : Table) (s k i : ℕ) (x : Cell) → Brought t s i x → Brought t s i (served t s k i x)
 unfolding served
-brought t s k i x e = let more : (x .used + 1) * s ≡ x .used * s + s = omega arith in omega arith
+brought-more t s k i x e =
+    by-brought (t .loading) (x .used) s s
+    (λ b y z. omega (arith, b, y, z))
+    (λ b q z. omega (arith, b, z))
 
 got-exact : (t : Table) (f : TableFacts t) (o : List ℕ) (s k i : ℕ) → Row t i → Brought t s i (cellAt (after t o (λ _. s) k) i)
 unfolding after
-got-exact t f o s zero i r = subst (Brought t s i) (sym (fresh-cell i (r .from) (omega (arith, f .few, r .upTo)))) (omega arith)
+got-exact t f o s zero i r = subst (Brought t s i) (sym (fresh-cell i (r .from) (omega (arith, f .few, r .upTo)))) (omega (arith, none-beyond (t .loading) s))
 got-exact t f o s (suc k) i r =
     let h = got-exact t f o s k i r in
     by-eqb (chosen t o (after t o (λ _. s) k)) i
-    (λ _ q. subst (Brought t s i) (sym (cell-served t f o (λ _. s) k i r q)) (brought t s k i (cellAt (after t o (λ _. s) k) i) h))
+    (λ _ q. subst (Brought t s i) (sym (cell-served t f o (λ _. s) k i r q)) (brought-more t s k i (cellAt (after t o (λ _. s) k) i) h))
     (λ _ q. subst (Brought t s i) (sym (cell-other t f o (λ _. s) k i r q)) h)
 
 module _ (t : Table) (f : TableFacts t) (a b : List ℕ) (rows : (x : ℕ) → In x a → Row t x) (once : Once a) (s : ℕ) (s1 : 1 ≤ s) (sn : s ≤ t .normal) where
@@ -57,8 +60,13 @@ module _ (t : Table) (f : TableFacts t) (a b : List ℕ) (rows : (x : ℕ) → I
       (left-served-one t s u x y (hold u x r) s (z .still) (z .released) (under t s u x y (f .runs) s1 (hold u x r) (z .still))
       (spent y (got-exact t f (a ++ b) s u x r)))
     where
-      spent : (y : Cell) → Brought t s x y → Over t x (min (workOf t x) (y .got + s)) (suc (y .used)) → cap t s x ≤ suc (y .used)
-      spent y e (inl p) = cap-done t s x (f .runs) s1 sn (suc (y .used)) (let more : suc (y .used) * s ≡ y .used * s + s = omega arith in omega arith)
+      spent : (y : Cell) → Brought t s x y → Over t x (grown t s x y) (suc (y .used)) → cap t s x ≤ suc (y .used)
+      spent y e (inl p) =
+          let one : suc (y .used) ≡ y .used + 1 = omega arith in
+          let works = f .row x r .works in
+          by-brought (t .loading) (y .used) s s
+          (λ b w z. absurd (omega (arith, b, e, p, works, w)))
+          (λ b q z. cap-done t s x (f .runs) s1 sn (suc (y .used)) (omega arith) (rw one (omega (arith, b, z, e, p))))
       spent y e (inr p) = cap-dropped t s x (suc (y .used)) (p .0) (p .1)
 
   left-slot : (u : ℕ) → sum (leftAt (suc u)) a ≡ sum (leftAt u) a + sum (bring t s u) a - 1
@@ -158,7 +166,7 @@ module _ (t : Table) (f : TableFacts t) (a b : List ℕ) (i : ℕ) (rows : (x : 
       (λ _ q. let z = ran t f (a ++ (i ∷ []) ++ b) (λ _. s) u i own-row q in
       let y = cellAt (after t (a ++ (i ∷ []) ++ b) (λ _. s) u) i in
       let e : closingAt (suc u) ≡ served t s u i y .closing = ap (λ (x : Cell). x .closing) (cell-served t f (a ++ (i ∷ []) ++ b) (λ _. s) u i own-row q) in
-      by-bool (isOver t i (min (workOf t i) (y .got + s)) (y .used + 1))
+      by-bool (isOver t i (grown t s i y) (y .used + 1))
       (λ d. let c : closingAt (suc u) ≡ suc u = e ∙ rw d (omega arith) in
       inr (record {
         finish = rw c (record {

@@ -13,7 +13,7 @@ use Rattle.rules.specs.declared.Check.the-variants.{Passed, Refused}
 use Rattle.rules.specs.Lists.{all, rowsTo, count}
 use Rattle.rules.specs.Rows.{at, isRow, rowsOf, releaseOf, workOf, deadlineOf}
 use Rattle.rules.specs.Orders.{isOrder, checkOrder, andThen, checkBoth}
-use Rattle.rules.specs.Tables.{countOk, speedsOk, rowOk, tailOk, checkTable, Accepted}
+use Rattle.rules.specs.Tables.{countOk, speedsOk, loadingOk, rowOk, tailOk, checkTable, Accepted}
 use Rattle.theory.specs.Tests.{by-bool, by-eqb, by-leb, and-left, and-right, and-both}
 use Rattle.theory.specs.Counts.{In, count-append, count-other, in-head, in-tail}
 
@@ -100,7 +100,7 @@ row-facts t i e =
     d3 : a && b && c ≡ true
     d3 = and-left (a && b && c) d d4
 
--- speeds in work units per slot
+-- speeds in work units per slot, loading in slots
 pub record TableFacts (t : Table) : Type 0 where
   pub some : 1 ≤ t .n
   pub few : t .n ≤ 64
@@ -108,6 +108,7 @@ pub record TableFacts (t : Table) : Type 0 where
   pub fast : t .normal ≤ 1000
   pub crawls : 1 ≤ t .degraded
   pub slower : t .degraded ≤ t .normal
+  pub loads : t .loading ≤ 16
   pub row : (i : ℕ) → Row t i → RowFacts t i
   pub tail : tailOk t ≡ true
 
@@ -120,7 +121,8 @@ unfolding checkTable
 facts t h =
     by-bool (countOk (t .n))
     (λ e1. by-bool (speedsOk (t .normal) (t .degraded))
-    (λ e2. by-bool (all (rowOk t) (rowsOf t) && tailOk t)
+    (λ e2. by-bool (loadingOk (t .loading))
+    (λ e4. by-bool (all (rowOk t) (rowsOf t) && tailOk t)
     (λ e3. record {
       some = leb-true 1 (t .n) (and-left (leb 1 (t .n)) (leb (t .n) 64) e1);
       few = leb-true (t .n) 64 (and-right (leb 1 (t .n)) (leb (t .n) 64) e1);
@@ -128,10 +130,12 @@ facts t h =
       fast = leb-true (t .normal) 1000 (and-right p q (and-left (p && q) r (and-left (p && q && r) s e2)));
       crawls = leb-true 1 (t .degraded) (and-right (p && q) r (and-left (p && q && r) s e2));
       slower = leb-true (t .degraded) (t .normal) (and-right (p && q && r) s e2);
+      loads = leb-true (t .loading) 16 e4;
       row = λ i k. row-facts t i (all-in (rowOk t) (rowsOf t) (and-left (all (rowOk t) (rowsOf t)) (tailOk t) e3) i (in-rows t i k));
       tail = and-right (all (rowOk t) (rowsOf t)) (tailOk t) e3;
     })
-    (λ e3. clash (rw (e1, e2, e3) at h)))
+    (λ e3. clash (rw (e1, e2, e4, e3) at h)))
+    (λ e4. clash (rw (e1, e2, e4) at h)))
     (λ e2. clash (rw (e1, e2) at h)))
     (λ e1. clash (rw e1 at h))
   where
@@ -147,7 +151,7 @@ facts t h =
     s : Bool
     s = leb (t .degraded) (t .normal)
 
--- a table and an order that pass checks 3 to 6
+-- a table and an order that pass the checks of the table and 6
 pub both-accepted : (t : Table) (o : List ℕ) → checkBoth t o ≡ Passed → Accepted t
 unfolding checkBoth
 both-accepted t o e = go (checkTable t) e

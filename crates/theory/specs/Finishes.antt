@@ -7,8 +7,7 @@ use native.Mathlib.Omega.{arith}
 use borrow.Author.Tests.{leb-true, le-leb}
 use Rattle.rules.specs.declared.Table.{Table}
 use Rattle.rules.specs.Lists.{count, sum, greatest, least}
-use Rattle.rules.specs.Need.{need}
-use Rattle.rules.specs.Rows.{at, rowsOf, releaseOf, workOf, deadlineOf, isLow}
+use Rattle.rules.specs.Rows.{at, rowsOf, releaseOf, deadlineOf, needFor, isLow}
 use Rattle.rules.specs.Slots.{after}
 use Rattle.rules.specs.Correct.{earliest}
 use Rattle.rules.specs.Worst.{worstSpeed, horizon, worstFinish, meets}
@@ -72,7 +71,7 @@ module _ (t : Table) (f : TableFacts t) where
       omega (
         arith,
         sum-within (cap t s) l (rowsOf t) (within-rows l rows once),
-        sum-le (cap t s) (λ i. need (workOf t i) s) (rowsOf t) (λ x i. cap-need t s x (f .runs) s1 sn),
+        sum-le (cap t s) (needFor t s) (rowsOf t) (λ x i. cap-need t s x (f .runs) s1 sn),
       )
 
   module _ (a b : List ℕ) (i : ℕ) (rows : (x : ℕ) → In x (a ++ (i ∷ [])) → Row t x) (once : Once (a ++ (i ∷ []))) where

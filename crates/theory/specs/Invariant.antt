@@ -1,5 +1,5 @@
 -- What holds of a row at every clock of a run whose slots supply at least s.
-use Prim.Native.Nat.{ℕ, zero, suc, _+_, _*_, _≤_, _<_, min}
+use Prim.Native.Nat.{ℕ, zero, suc, _+_, _-_, _*_, _≤_, _<_, min}
 use mathlib.Core.Bool.{true, false}
 use mathlib.Core.Path.{_≡_, refl, sym, subst, ap, _∙_}
 use mathlib.Core.List.{List}
@@ -7,12 +7,13 @@ use mathlib.Core.Logic.{_⊎_, inl, inr}
 use native.Mathlib.Omega.{arith}
 use native.Mathlib.Nat.{mul-le-mul-right}
 use Rattle.rules.specs.declared.Table.{Table}
+use Rattle.rules.specs.Need.{workSlots}
 use Rattle.rules.specs.Rows.{at, releaseOf, workOf, isLow}
-use Rattle.rules.specs.Slots.{chosen, allowance, isOver, after}
-use Rattle.theory.specs.Tests.{by-bool, by-eqb, by-leb, not-both}
-use Rattle.theory.specs.Caps.{cap, cap-above, need-enough, need-above}
+use Rattle.rules.specs.Slots.{chosen, allowance, isOver, brought, after}
+use Rattle.theory.specs.Tests.{by-bool, by-eqb, by-leb, by-ltb, not-both}
+use Rattle.theory.specs.Caps.{cap, cap-above, slots-enough, slots-above}
 use Rattle.theory.specs.Facts.{Row, TableFacts}
-use Rattle.theory.specs.Cells.{Cell, cellAt, served, fresh-cell, slot-served, slot-other, chosen-ready, sized-after, clock-after}
+use Rattle.theory.specs.Cells.{Cell, cellAt, brought-none, brought-all, grown, served, fresh-cell, slot-served, slot-other, chosen-ready, sized-after, clock-after}
 
 -- done, or LO with its allowance used up
 abbrev pub Over : Table → ℕ → ℕ → ℕ → Type 0
@@ -31,9 +32,9 @@ by-over t i g u f k =
     (λ c q. k (rw (e, d, c)) p (λ _. q)))
     (λ d. k (rw (e, d)) p (λ z. absurd (not-both (isLow t i) z d))))
 
--- row i with cell x at clock u; its slots supplied at least s work units each
+-- row i with cell x at clock u; its slots supplied at least s work units each, which those beyond its loading brought
 pub record Held (t : Table) (s u i : ℕ) (x : Cell) : Type 0 where
-  pub supplied : min (workOf t i) (x .used * s) ≤ x .got
+  pub supplied : min (workOf t i) ((x .used - t .loading) * s) ≤ x .got
   pub most : x .got ≤ workOf t i
   pub short : x .closing ≡ 0 → x .got < workOf t i
   pub slots : x .closing ≡ 0 → isLow t i ≡ true → x .used < allowance t i
@@ -55,12 +56,21 @@ held-wait t s u i x h =
       unclosed = λ q. h .unclosed (omega arith);
     }
 
+-- A slot of a row that has used u slots: one of the k that load it, which brings nothing, so that neither before nor after it is there a slot
+-- beyond the loading; or one that brings its supply and is the next beyond the loading, each counted with s work units.
+pub by-brought {ℓ} : {P : Type ℓ} (k u v s : ℕ) → (brought k u v ≡ 0 → (u - k) * s ≡ 0 → (u + 1 - k) * s ≡ 0 → P)
+    → (brought k u v ≡ v → k ≤ u → (u + 1 - k) * s ≡ (u - k) * s + s → P) → P
+by-brought k u v s f g =
+    by-ltb u k
+    (λ e h. let y : u - k ≡ 0 = omega arith in let z : u + 1 - k ≡ 0 = omega arith in f (brought-none k u v h) (rw y (omega arith)) (rw z (omega arith)))
+    (λ e h. let z : u + 1 - k ≡ suc (u - k) = omega arith in g (brought-all k u v h) h (rw z (omega arith)))
+
 held-served : (t : Table) (s u i v : ℕ) (x : Cell) → s ≤ v → Held t s u i x → x .closing ≡ 0 → releaseOf t i ≤ u → Held t s (suc u) i (served t v u i x)
 unfolding served
 held-served t s u i v x p h z r =
-    by-over t i (min (workOf t i) (x .got + v)) (x .used + 1)
+    by-over t i (grown t v i x) (x .used + 1)
     (λ e o. record {
-      supplied = omega (arith, more);
+      supplied = more;
       most = omega arith;
       short = λ y. let y' : u + 1 ≡ 0 = rw e at y in absurd (omega arith);
       slots = λ y w. let y' : u + 1 ≡ 0 = rw e at y in absurd (omega arith);
@@ -70,9 +80,9 @@ held-served t s u i v x p h z r =
       unclosed = λ q. absurd (omega arith);
     })
     (λ e a b. record {
-      supplied = omega (arith, more);
+      supplied = more;
       most = omega arith;
-      short = λ y. omega (arith, lt-of-ne (min (workOf t i) (x .got + v)) (workOf t i) (omega arith) a);
+      short = λ y. omega (arith, lt-of-ne (grown t v i x) (workOf t i) (omega arith) a);
       slots = λ y w. b w;
       past = rw e (omega arith);
       ended = λ y. let y' : 0 < 0 = rw e at y in absurd (omega arith);
@@ -80,20 +90,24 @@ held-served t s u i v x p h z r =
       unclosed = λ q. absurd (omega arith);
     })
   where
-    more : (x .used + 1) * s ≡ x .used * s + s
-    more = omega arith
+    more : min (workOf t i) ((x .used + 1 - t .loading) * s) ≤ grown t v i x
+    more = by-brought (t .loading) (x .used) v s (λ e y z. omega (arith, e, z)) (λ e k z. omega (arith, e, z, p, h .supplied))
 
     lt-of-ne : (a b : ℕ) → a ≤ b → (a ≡ b → ⊥) → a < b
     lt-of-ne a b q n = by-eqb a b (λ e w. absurd (n w)) (λ e w. omega arith)
+
+-- a row that has used no slot has used none beyond its loading
+pub none-beyond : (k s : ℕ) → (0 - k) * s ≡ 0
+none-beyond k s = let z : 0 - k ≡ 0 = omega arith in rw z (omega arith)
 
 -- nothing has happened to the row
 held-fresh : (t : Table) (s i : ℕ) → 1 ≤ t .normal → 1 ≤ workOf t i → Held t s 0 i (record { got = 0; used = 0; closing = 0 })
 held-fresh t s i n w =
     record {
-      supplied = omega arith;
+      supplied = omega (arith, none-beyond (t .loading) s);
       most = omega arith;
       short = λ z. omega arith;
-      slots = λ z k. need-above 0 (workOf t i) (t .normal) n (omega arith);
+      slots = λ z k. omega (arith, slots-above 0 (workOf t i) (t .normal) n (omega arith));
       past = omega arith;
       ended = λ z. absurd (omega arith);
       unused = λ q. refl;
@@ -148,10 +162,10 @@ got-normal t u i x n h p = go (h .ended p)
   where
     go : Over t i (x .got) (x .used) → x .got ≡ workOf t i
     go (inl q) = q
-    go (inr q) = omega (arith, h .supplied, h .most, need-enough (workOf t i) (t .normal) n, grown)
+    go (inr q) = omega (arith, h .supplied, h .most, slots-enough (workOf t i) (t .normal) n, beyond)
       where
-        grown : allowance t i * (t .normal) ≤ x .used * (t .normal)
-        grown = mul-le-mul-right (t .normal) (q .1)
+        beyond : workSlots (workOf t i) (t .normal) * (t .normal) ≤ (x .used - t .loading) * (t .normal)
+        beyond = mul-le-mul-right (t .normal) (let b : workSlots (workOf t i) (t .normal) ≤ x .used - t .loading = omega (arith, q .1) in b)
 
 -- an open row has a slot left of its cap
 pub under : (t : Table) (s u i : ℕ) (x : Cell) → 1 ≤ t .normal → 1 ≤ s → Held t s u i x → x .closing ≡ 0 → x .used < cap t s i

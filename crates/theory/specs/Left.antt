@@ -1,16 +1,16 @@
 -- The demand of a row under the rules: what is left of its cap while it is released and open.
-use Prim.Native.Nat.{ℕ, suc, _+_, _-_, _≤_, _<_, min}
+use Prim.Native.Nat.{ℕ, suc, _+_, _-_, _≤_, _<_}
 use mathlib.Core.Bool.{_&&_}
 use mathlib.Core.Path.{_≡_}
 use native.Mathlib.Omega.{arith}
 use lib.Dec.{ltb, eqb}
 use borrow.Author.Tests.{lt-ltb, le-ltb, eq-eqb, ne-eqb}
 use Rattle.rules.specs.declared.Table.{Table}
-use Rattle.rules.specs.Rows.{releaseOf, workOf}
+use Rattle.rules.specs.Rows.{releaseOf}
 use Rattle.theory.specs.Tests.{gate, by-bool, by-eqb, by-ltb}
 use Rattle.theory.specs.Backlog.{brings}
 use Rattle.theory.specs.Caps.{cap}
-use Rattle.theory.specs.Cells.{Cell, served}
+use Rattle.theory.specs.Cells.{Cell, grown, served}
 use Rattle.theory.specs.Invariant.{Held, Over, by-over}
 
 -- in slots, at clock u, of row i with cell x
@@ -70,11 +70,11 @@ module _ (t : Table) (s u i : ℕ) (x : Cell) (h : Held t s u i x) where
     left-served = omega (arith, left-ready p q, left-most t s (suc u) i (served t v u i x))
 
     -- by one, if a row that closes has used its cap
-    pub left-served-one : (Over t i (min (workOf t i) (x .got + v)) (suc (x .used)) → cap t s i ≤ suc (x .used))
+    pub left-served-one : (Over t i (grown t v i x) (suc (x .used)) → cap t s i ≤ suc (x .used))
         → suc (left t s (suc u) i (served t v u i x)) ≡ left t s u i x + bring t s u i
     unfolding served
     left-served-one spent =
-        by-over t i (min (workOf t i) (x .got + v)) (x .used + 1)
+        by-over t i (grown t v i x) (x .used + 1)
         (λ e o. omega (
           arith,
           left-ready p q,

@@ -121,13 +121,14 @@ module _ (t : Table) (accepted : Accepted t) where
       → isOrder t o ≡ true → Correct t o → ⊥
   stuck-none = no-order t f
 
-  -- 7. BOUNDS. What a sweep adds, the latest release and every row's cap, is at most 65,000,000 slots.
-  pub sum-bound : (s : ℕ) → 1 ≤ s → (l : List ℕ) → Within l (rowsOf t) → greatest (releaseOf t) (rowsOf t) + sum (cap t s) l ≤ 65000000
+  -- 7. BOUNDS. What a sweep adds, the latest release (1,000,000 slots) and every row's cap (64 times 1,000,016 slots), is at most
+  -- 65,001,024 slots.
+  pub sum-bound : (s : ℕ) → 1 ≤ s → (l : List ℕ) → Within l (rowsOf t) → greatest (releaseOf t) (rowsOf t) + sum (cap t s) l ≤ 65001024
   sum-bound s s1 l w =
       omega (
         arith,
         sum-within (cap t s) l (rowsOf t) w,
-        sum-most (cap t s) 1000000 (rowsOf t) (λ x i. omega (arith, cap-most t s x (f .runs) s1, f .row x (rows-in t x i) .light)),
+        sum-most (cap t s) 1000016 (rowsOf t) (λ x i. omega (arith, cap-most t s x (f .runs) s1, f .loads, f .row x (rows-in t x i) .light)),
         latest (rowsOf t) (λ x i. rows-in t x i),
         length-rows (t .n),
         f .few,
@@ -139,8 +140,8 @@ module _ (t : Table) (accepted : Accepted t) where
           let g = f .row x (r x (in-head x l)) in
           omega (arith, g .before, g .soon, latest l (λ y i. r y (in-tail y x l i)))
 
-  -- A worst finish is at most 65,000,000 slots.
-  pub finish-bound : (a b : List ℕ) (i : ℕ) → Within (a ++ (i ∷ [])) (rowsOf t) → worstFinish t (a ++ (i ∷ b)) i ≤ 65000000
+  -- A worst finish is at most 65,001,024 slots.
+  pub finish-bound : (a b : List ℕ) (i : ℕ) → Within (a ++ (i ∷ [])) (rowsOf t) → worstFinish t (a ++ (i ∷ b)) i ≤ 65001024
   finish-bound a b i w =
       omega (
         arith,
@@ -149,8 +150,8 @@ module _ (t : Table) (accepted : Accepted t) where
       )
 
   -- Under an order that passes check 6 this holds of every row.
-  pub order-bound : (o : List ℕ) → isOrder t o ≡ true → (i : ℕ) → isRow t i ≡ true → worstFinish t o i ≤ 65000000
+  pub order-bound : (o : List ℕ) → isOrder t o ≡ true → (i : ℕ) → isRow t i ≡ true → worstFinish t o i ≤ 65001024
   order-bound o e i r =
       let p = placed t o e i (row-is t i r) in
-      subst (λ (l : List ℕ). worstFinish t l i ≤ 65000000) (sym (p .whole))
+      subst (λ (l : List ℕ). worstFinish t l i ≤ 65001024) (sym (p .whole))
       (finish-bound (p .above) (p .below) i (within-rows t f (p .above ++ (i ∷ [])) (p .rows) (p .once)))

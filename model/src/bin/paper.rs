@@ -26,7 +26,7 @@ const NOT_USABLE: u8 = 2;
 fn words_for(number: u32) -> &'static str {
     match number {
         0 => "success",
-        1 => "the sheet has under 25 bytes, or not 25 + 33 for each row",
+        1 => "the sheet has under 33 bytes, or not 33 + 33 for each row",
         2 => "a field or a line end of the sheet is malformed",
         3 => "the row count is not 1 to 64",
         4 => "N is not 1 to 1,000, or G is not 1 to N (work units per slot)",
@@ -37,6 +37,7 @@ fn words_for(number: u32) -> &'static str {
         ),
         7 => "no correct order exists",
         8 => "the clock is 2,000,000 slots, and no further slot is worked",
+        11 => "K is above 16 slots",
         _ => unreachable!("no other number comes up in a run on paper"),
     }
 }

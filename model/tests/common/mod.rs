@@ -3,10 +3,30 @@
 
 use model::judge::Verdict;
 use model::order::{orders, Order};
-use model::random::{table_in, Random, Ranges};
+use model::random::{loading_table_in, table_in, Random, Ranges};
 use model::record::Record;
 use model::run::State;
-use model::table::Table;
+use model::table::{Table, MOST_LOADING};
+
+/// Loading times that are refused, in slots.
+pub const TOO_LONG: [u32; 5] = [17, 18, 64, 1 << 31, u32::MAX];
+
+/// Counts the tables of each loading time, so that a test can show that it looked
+/// at all from 0 to 16 slots.
+#[derive(Default)]
+pub struct Loadings([u32; MOST_LOADING as usize + 1]);
+
+impl Loadings {
+    pub fn saw(&mut self, table: &Table) {
+        self.0[table.loading as usize] += 1;
+    }
+
+    /// Fails unless each came up `least` times.
+    pub fn assert_all(&self, least: u32) {
+        println!("tables by loading time: {:?}", self.0);
+        assert!(self.0.iter().all(|&times| times >= least), "{:?}", self.0);
+    }
+}
 
 /// Every row of a table.
 pub fn all_rows(table: &Table) -> Vec<u8> {
@@ -50,6 +70,18 @@ pub const SMALL: Ranges = Ranges {
     need: 3,
     window: 11,
 };
+
+/// A small accepted table with a loading time of 0 slots.
+pub fn table_without_loading(random: &mut Random) -> Table {
+    let n = random.between(1, SMALL.rows);
+    loading_table_in(random, n, 0, SMALL)
+}
+
+/// Slots in which every row of a small table can be worked: some, and those in
+/// which all rows load.
+pub fn slots_with_loading(table: &Table, slots: u32) -> u32 {
+    slots + table.n * table.loading
+}
 
 /// An accepted table with one of its orders.
 pub fn table_and_order(random: &mut Random) -> (Table, Order) {

@@ -1,6 +1,6 @@
-//! The faults of section 14 of the rules, each built into a planner of its own,
-//! and the smallest tables on which that planner and the true one differ. Run with
-//! `--nocapture` to read the tables.
+//! The faults of section 14 of the rules and likely faults in loading, each built
+//! into a planner of its own, and the smallest tables on which that planner and
+//! the true one differ. Run with `--nocapture` to read the tables.
 
 mod planners;
 mod search;
@@ -10,10 +10,13 @@ use model::order::{order_of, NO_ORDER};
 use model::plan::{plan, word_of, Plan};
 use model::table::Table;
 use planners::{
-    Planner, DROPPING_LATE, DROPPING_LATE_FALLING, LO_AT_DEGRADED, LO_LEFT_OUT, ROUNDING_ONCE,
+    Planner, ALLOWANCE_WITHOUT_LOADING, DROPPING_LATE, DROPPING_LATE_FALLING, HI_WITHOUT_LOADING,
+    LOADING_AGAIN, LOADING_NOT_USED, LOADING_ONCE, LO_AT_DEGRADED, LO_LEFT_OUT, ROUNDING_ONCE,
     TRUE_PLANNER, TWO_LATEST,
 };
-use search::{every_table, print, smallest, witness, Kind, KINDS, TRIED};
+use search::{
+    every_table, every_table_without_loading, print, smallest, witness, Kind, KINDS, TRIED,
+};
 
 /// An answer 0 with this order.
 fn answers(rows: &[u8]) -> Plan {
@@ -183,6 +186,104 @@ fn works_rounded_once() {
         leaves(&[2]),
     );
     assert!(smallest(&ROUNDING_ONCE, &[Kind::RefusesWrongly]).is_none());
+}
+
+#[test]
+fn loaded_again() {
+    // Row 2 loads in slot 0, row 1 preempts it for slots 1 and 2, and slot 3 brings
+    // row 2 its work, unless it has to load again.
+    expect(
+        &LOADING_AGAIN,
+        &[Kind::RefusesWrongly],
+        table_of(1, 1, &[[1, 1, 3, 0], [0, 1, 4, 0]]).with_loading(1),
+        answers(&[1, 2]),
+        leaves(&[1, 2]),
+    );
+    expect(
+        &LOADING_AGAIN,
+        &KINDS,
+        table_of(1, 1, &[[1, 1, 2, 0], [0, 1, 4, 0]]).with_loading(1),
+        leaves(&[1]),
+        leaves(&[1, 2]),
+    );
+    assert!(smallest(&LOADING_AGAIN, &[Kind::AnswersWronglyAnOrder]).is_none());
+}
+
+#[test]
+fn loading_added_once() {
+    // Two rows of 1 + 1 slots each do not fit into 3 slots.
+    expect(
+        &LOADING_ONCE,
+        &[Kind::AnswersWronglyAnOrder],
+        table_of(1, 1, &[[0, 1, 2, 0], [0, 1, 3, 0]]).with_loading(1),
+        leaves(&[1, 2]),
+        answers(&[1, 2]),
+    );
+    expect(
+        &LOADING_ONCE,
+        &KINDS,
+        table_of(1, 1, &[[0, 1, 1, 0], [0, 1, 3, 0]]).with_loading(1),
+        leaves(&[1, 2]),
+        leaves(&[1]),
+    );
+    assert!(smallest(&LOADING_ONCE, &[Kind::RefusesWrongly]).is_none());
+}
+
+#[test]
+fn loading_missing_at_one_level() {
+    // One row of 1 + 1 slots does not fit into 1 slot.
+    let alone = |level| table_of(1, 1, &[[0, 1, 1, level]]).with_loading(1);
+    let (none, wrongly) = (leaves(&[1]), answers(&[1]));
+    expect(&ALLOWANCE_WITHOUT_LOADING, &KINDS, alone(0), none, wrongly);
+    expect(&HI_WITHOUT_LOADING, &KINDS, alone(1), none, wrongly);
+    // The HI row is tried below a LO row that is taken to be dropped too early.
+    let pair = table_of(2, 1, &[[0, 2, 2, 0], [0, 1, 3, 1]]).with_loading(1);
+    assert_eq!(plan(&pair), leaves(&[1, 2]));
+    assert_eq!(ALLOWANCE_WITHOUT_LOADING.plan(&pair), answers(&[1, 2]));
+    for planner in [&ALLOWANCE_WITHOUT_LOADING, &HI_WITHOUT_LOADING] {
+        assert!(smallest(planner, &[Kind::RefusesWrongly]).is_none());
+    }
+}
+
+#[test]
+fn loading_slots_not_used() {
+    // Row 1 is dropped at 2 with 1 of 2 work units, so row 2 has slots 2 and 3.
+    expect(
+        &LOADING_NOT_USED,
+        &[Kind::RefusesWrongly],
+        table_of(2, 1, &[[0, 2, 2, 0], [0, 1, 4, 1]]).with_loading(1),
+        answers(&[1, 2]),
+        leaves(&[1, 2]),
+    );
+    expect(
+        &LOADING_NOT_USED,
+        &KINDS,
+        table_of(2, 1, &[[0, 2, 1, 0], [0, 1, 4, 1]]).with_loading(1),
+        leaves(&[1]),
+        leaves(&[1, 2]),
+    );
+    assert!(smallest(&LOADING_NOT_USED, &[Kind::AnswersWronglyAnOrder]).is_none());
+}
+
+/// Without loading these planners are the true one.
+#[test]
+fn faults_in_loading_need_a_loading_time() {
+    let faults = [
+        &LOADING_AGAIN,
+        &LOADING_ONCE,
+        &ALLOWANCE_WITHOUT_LOADING,
+        &HI_WITHOUT_LOADING,
+        &LOADING_NOT_USED,
+    ];
+    for (n, most) in TRIED {
+        for sum in 0..=most {
+            every_table_without_loading(n, sum, &mut |table| {
+                for planner in faults {
+                    assert!(witness(planner, &table).is_none(), "{}", planner.name);
+                }
+            });
+        }
+    }
 }
 
 /// Which of the starred cases P1 to P4 tell a fault by the planner's answer. Late

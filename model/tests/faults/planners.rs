@@ -1,9 +1,9 @@
 //! Planners with one fault each, and one without.
 
 use model::order::{order_of, Order, NO_ORDER};
-use model::plan::{passes_lowest, trial_order, trial_sequence, word_of, worst_speed, Plan};
-use model::run::{kept_deadline, step, State};
-use model::table::{Table, HI, LO};
+use model::plan::{passes_lowest, slack, trial_order, trial_sequence, word_of, worst_speed, Plan};
+use model::run::{chosen, kept_deadline, step, State};
+use model::table::{allowance, Table, HI, LO, ROWS};
 
 /// The rows tried at a place, in their sequence, given the rows left.
 pub type Sequence = fn(&Table, &[u8]) -> Vec<u8>;
@@ -161,12 +161,14 @@ pub const ROUNDING_ONCE: Planner = Planner {
 pub fn passes_with_slots_shared(table: &Table, left: &[u8], placed: &[u8], row: u8) -> bool {
     let order = trial_order(left, placed, row);
     let at_normal = table.row(row).level == LO;
-    // A slot has N × G parts. A work unit takes G parts at N and N parts at G.
+    // A slot has N × G parts. A work unit takes G parts at N and N parts at G, and
+    // loading takes K whole slots.
     let slot_parts = table.normal * table.degraded;
+    let loading = table.loading * slot_parts;
     let mut demand: Vec<u32> = (table.rows().iter())
         .map(|job| match (at_normal, job.level) {
-            (false, HI) => job.work * table.normal,
-            _ => job.work * table.degraded,
+            (false, HI) => loading + job.work * table.normal,
+            _ => loading + job.work * table.degraded,
         })
         .collect();
     for clock in 0..table.row(row).deadline {
@@ -180,4 +182,123 @@ pub fn passes_with_slots_shared(table: &Table, left: &[u8], placed: &[u8], row: 
         }
     }
     demand[row as usize - 1] == 0
+}
+
+/// A preempted row loads again when it comes back (against rule 2.14).
+pub const LOADING_AGAIN: Planner = Planner {
+    name: "loaded again after a preemption",
+    sequence: trial_sequence,
+    trial: passes_with_loading_again,
+};
+
+pub fn passes_with_loading_again(table: &Table, left: &[u8], placed: &[u8], row: u8) -> bool {
+    let order = trial_order(left, placed, row);
+    // Slots that each row has run since it last began or came back.
+    let mut since = [0; ROWS];
+    let mut last = 0;
+    let mut state = State::FRESH;
+    while state.clock < table.row(row).deadline {
+        let next = chosen(table, &order, &state);
+        let mut supply = worst_speed(table, row);
+        if next != 0 {
+            let slots = &mut since[next as usize - 1];
+            *slots = if next == last { *slots + 1 } else { 1 };
+            if *slots <= table.loading {
+                supply = 0;
+            }
+        }
+        step(table, &order, &mut state, supply);
+        last = next;
+    }
+    kept_deadline(table, &state, row)
+}
+
+/// K is added to what all rows take together, and not to each need (against rule
+/// 1.8).
+pub const LOADING_ONCE: Planner = Planner {
+    name: "loading added once to the total",
+    sequence: trial_sequence,
+    trial: |table, left, placed, row| {
+        let order = trial_order(left, placed, row);
+        slack(&table.with_loading(0), &order, row) >= i64::from(table.loading)
+    },
+};
+
+/// Does the row close in time in its worst run if a fault changes the state
+/// before the first slot and after each?
+fn passes_with_changes(
+    table: &Table,
+    order: &Order,
+    row: u8,
+    change: fn(&Table, &mut State),
+) -> bool {
+    let supply = worst_speed(table, row);
+    let index = row as usize - 1;
+    let mut state = State::FRESH;
+    change(table, &mut state);
+    while state.closing[index] == 0 {
+        step(table, order, &mut state, supply);
+        change(table, &mut state);
+    }
+    state.closing[index] <= table.row(row).deadline
+}
+
+/// A LO row may use the slots that its work takes at N, and none for loading
+/// (against rule 1.9).
+pub const ALLOWANCE_WITHOUT_LOADING: Planner = Planner {
+    name: "loading missing from LO allowances",
+    sequence: trial_sequence,
+    trial: |table, left, placed, row| {
+        passes_with_changes(table, &trial_order(left, placed, row), row, drop_early)
+    },
+};
+
+/// Closes every open LO row that has used its allowance but for K slots.
+fn drop_early(table: &Table, state: &mut State) {
+    for row in (1..=table.n as u8).filter(|&row| table.row(row).level == LO) {
+        let index = row as usize - 1;
+        let early = allowance(table, row) - table.loading;
+        if state.closing[index] == 0 && state.used[index] >= early {
+            state.closing[index] = state.clock;
+        }
+    }
+}
+
+/// HI rows get work from their first slot on (against rule 1.8).
+pub const HI_WITHOUT_LOADING: Planner = Planner {
+    name: "loading missing from HI needs",
+    sequence: trial_sequence,
+    trial: |table, left, placed, row| {
+        passes_with_changes(table, &trial_order(left, placed, row), row, load_high)
+    },
+};
+
+/// Has every HI row loaded, as if it had used its loading slots before.
+fn load_high(table: &Table, state: &mut State) {
+    for row in (1..=table.n as u8).filter(|&row| table.row(row).level == HI) {
+        let used = &mut state.used[row as usize - 1];
+        *used = (*used).max(table.loading);
+    }
+}
+
+/// Loading slots do not count as used, so that a LO row has its whole allowance
+/// for the slots after them (against rules 1.10 and 2.5).
+pub const LOADING_NOT_USED: Planner = Planner {
+    name: "loading slots not counted as used",
+    sequence: trial_sequence,
+    trial: |table, left, placed, row| {
+        passes_with_changes(table, &trial_order(left, placed, row), row, keep_longer)
+    },
+};
+
+/// Opens every LO row again that was dropped with less than its allowance and K
+/// slots used.
+fn keep_longer(table: &Table, state: &mut State) {
+    for row in (1..=table.n as u8).filter(|&row| table.row(row).level == LO) {
+        let index = row as usize - 1;
+        let done = state.got[index] == table.work[index];
+        if !done && state.used[index] < allowance(table, row) + table.loading {
+            state.closing[index] = 0;
+        }
+    }
 }

@@ -1,12 +1,13 @@
 //! The search for the smallest table on which a planner differs from the true one.
 //!
 //! A table is smaller than another if it has fewer rows, or as many and a lower
-//! sum of all its figures (N, G, and every a, c, d and level). All tables up to
-//! the sums in `TRIED` are tried in this sequence.
+//! sum of all its figures (N, G, K, and every a, c, d and level). All tables up to
+//! the sums in `TRIED` are tried in this sequence, and of those with the same sum
+//! the ones with less loading first.
 
 use crate::planners::Planner;
 use model::plan::{plan, slack, Plan};
-use model::table::{Row, Table};
+use model::table::{Row, Table, MOST_LOADING};
 
 /// How a faulty answer differs from the true one.
 #[derive(Clone, Copy, Debug, PartialEq, Eq)]
@@ -49,11 +50,20 @@ pub fn difference(table: &Table, truth: &Plan, faulty: &Plan) -> Option<Kind> {
 
 /// Calls `visit` with every accepted table of n rows whose figures sum to `sum`.
 pub fn every_table(n: u32, sum: u32, visit: &mut dyn FnMut(&Table)) {
+    for loading in 0..=sum.min(MOST_LOADING) {
+        every_table_without_loading(n, sum - loading, &mut |table| {
+            visit(&table.with_loading(loading));
+        });
+    }
+}
+
+/// Calls `visit` with each that has a loading time of 0 slots.
+pub fn every_table_without_loading(n: u32, sum: u32, visit: &mut dyn FnMut(Table)) {
     for normal in 1..=sum {
         for degraded in 1..=normal.min(sum - normal) {
             let of_rows = sum - normal - degraded;
             every_list_of_rows(n, of_rows, &mut Vec::new(), &mut |rows| {
-                visit(&Table::of(normal, degraded, rows));
+                visit(Table::of(normal, degraded, 0, rows));
             });
         }
     }
@@ -138,7 +148,8 @@ pub fn witness(planner: &Planner, table: &Table) -> Option<(Kind, Witness)> {
 pub fn print(planner: &Planner, kind: Kind, witness: &Witness) {
     let table = &witness.table;
     let mut text = format!("{}\n  {kind:?}\n", planner.name);
-    text += &format!("  N {}, G {}, rows", table.normal, table.degraded);
+    let (normal, degraded, loading) = (table.normal, table.degraded, table.loading);
+    text += &format!("  N {normal}, G {degraded}, K {loading}, rows");
     for job in table.rows() {
         let (a, c, d, level) = (job.release, job.work, job.deadline, job.level);
         text += &format!(" ({a} {c} {d} {level})");

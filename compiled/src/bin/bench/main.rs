@@ -8,14 +8,14 @@
 mod pairs;
 
 use compiled::raw::{self, StateWords, TableWords};
-use compiled::sheets::{easy, hard};
+use compiled::sheets::{easy, hard, hard_loading};
 use compiled::stack;
 use model::order::{order_of, Order};
 use model::plain;
 use model::record::Record;
 use model::report::LONGEST_REPORT;
 use model::sheet::LONGEST_SHEET;
-use model::table::{Row, Table, HI};
+use model::table::{Row, Table, HI, LO, MOST_LOADING};
 use std::hint::black_box;
 
 /// Slots of a long run.
@@ -24,21 +24,30 @@ const MILLION: usize = 1_000_000;
 /// Row counts by which every cost is shown.
 const ROW_COUNTS: [u32; 4] = [8, 16, 32, 64];
 
+/// Slots after which a record that is worked slot by slot is set back.
+const SET_BACK: u32 = 900_000;
+
 fn main() {
     println!("Ratio: time of the library divided by time of plain Rust, same run and inputs.");
     println!("Buffers for results are not cleared before a call, on either side; both sides");
     println!("write them whole, but of a sheet's or a report's buffer just the text. Run");
     println!("records stay in place from slot to slot; a forward call starts from a copy of a");
-    println!("fresh record, and the copy is in the time of both.");
+    println!("fresh record, and the copy is in the time of both. K is 0 slots where it is not");
+    println!("named; the sheets planned with K of 16 slots are hard ones.");
     println!("Times are the best of several batches that take turns.\n");
     pairs::print_head();
     for_each_count(|n| measure_plan("hard", &hard(n)));
+    for_each_count(|n| measure_plan("K 16", &hard_loading(n, MOST_LOADING)));
     for_each_count(|n| measure_plan("easy", &easy(n)));
     for_each_count(|n| measure_judge(&hard(n)));
     for_each_count(|n| measure_write(&hard(n)));
     for_each_count(|n| measure_report(&hard(n)));
-    for_each_count(|n| measure_slot(&last_row_open(n)));
-    for_each_count(|n| measure_forward(&busy(n)));
+    for_each_count(|n| measure_slot("one slot", &last_row_open(n)));
+    for_each_count(|n| measure_slot("one slot, LO open", &low_rows_open(n, 0)));
+    for_each_count(|n| measure_slot("one slot, LO open, K 16", &low_rows_open(n, MOST_LOADING)));
+    for_each_count(|n| measure_forward("forward, a million slots", &busy(n, HI, 0)));
+    for_each_count(|n| measure_forward("forward, LO rows", &busy(n, LO, 0)));
+    for_each_count(|n| measure_forward("forward, LO rows, K 16", &busy(n, LO, MOST_LOADING)));
     print_stack();
 }
 
@@ -145,13 +154,31 @@ fn last_row_open(n: u32) -> Record {
     fresh.forward(&vec![table.normal; n as usize - 1]).record
 }
 
-fn measure_slot(record: &Record) {
+/// A record in which every row but one is LO and open, so that check 9 asks of
+/// each whether its allowance is used up. Each row was preempted by the next one
+/// after 20 slots, `loading` of which loaded it. The row at the highest place is
+/// HI, was released last and gets nothing, so it runs on.
+fn low_rows_open(n: u32, loading: u32) -> Record {
+    let row = |index: u32| Row {
+        release: 20 * index,
+        work: 1_000_000,
+        deadline: 1_000_000,
+        level: if index + 1 == n { HI } else { LO },
+    };
+    let rows: Vec<Row> = (0..n).map(row).collect();
+    let table = Table::of(7, 3, loading, &rows);
+    let places: Vec<u8> = (1..=n as u8).rev().collect();
+    let (_, fresh) = Record::fresh(&table, &order_of(&places));
+    fresh.forward(&vec![1; 20 * (n as usize - 1)]).record
+}
+
+fn measure_slot(what: &str, record: &Record) {
     let words = raw::table_words(&record.table);
     let start = raw::state_words(record);
     let mut state = start;
     let mut row = 0;
     let mut library = || {
-        if state[0] == model::calls::LAST_CLOCK {
+        if state[0] == SET_BACK {
             state = start;
         }
         // SAFETY: as in `measure_plan`.
@@ -160,26 +187,27 @@ fn measure_slot(record: &Record) {
     };
     let mut kept = *record;
     let mut plain = || {
-        if kept.clock == model::calls::LAST_CLOCK {
+        if kept.clock == SET_BACK {
             kept = *record;
         }
         black_box(plain::one_slot(&mut kept, black_box(0)));
     };
-    pairs::measure("one slot", record.table.n, &mut library, &mut plain);
+    pairs::measure(what, record.table.n, &mut library, &mut plain);
 }
 
-/// A table of n HI rows that fill a million slots at one work unit per slot.
-fn busy(n: u32) -> Table {
+/// A table of n rows at this level that fill a million slots, or little more with
+/// a loading time (slots), at one work unit per slot.
+fn busy(n: u32, level: u32, loading: u32) -> Table {
     let row = Row {
         release: 0,
         work: MILLION as u32 / n,
         deadline: MILLION as u32,
-        level: HI,
+        level,
     };
-    Table::of(1, 1, &vec![row; n as usize])
+    Table::of(1, 1, loading, &vec![row; n as usize])
 }
 
-fn measure_forward(table: &Table) {
+fn measure_forward(what: &str, table: &Table) {
     let input = Input::of(table);
     let supplies = vec![1; MILLION];
     let (_, fresh) = Record::fresh(table, &input.order);
@@ -194,7 +222,6 @@ fn measure_forward(table: &Table) {
         black_box(plain::forward(&mut record, black_box(&supplies)));
         black_box(&record);
     };
-    let what = "forward, a million slots";
     pairs::measure(what, table.n, &mut library, &mut plain);
 }
 
@@ -221,7 +248,7 @@ fn print_stack() {
     for (name, bytes) in stack::peaks() {
         println!("  {name:<16}{bytes:>7}");
     }
-    let (planned, run) = (hard(64), Input::of(&busy(64)));
+    let (planned, run) = (hard(64), Input::of(&busy(64, HI, 0)));
     let supplies = vec![1; 10_000];
     let (_, mut record) = Record::fresh(&run.table, &run.order);
     let plan = stack::peak(&mut || {

@@ -7,7 +7,7 @@ use lib.Dec.{leb}
 use Rattle.rules.specs.declared.Table.{Table}
 use Rattle.rules.specs.Lists.{all}
 use Rattle.rules.specs.Rows.{rowsOf}
-use Rattle.rules.specs.Tables.{countOk, speedsOk, rowOk, checkTable}
+use Rattle.rules.specs.Tables.{countOk, speedsOk, loadingOk, rowOk, checkTable}
 use Rattle.theory.specs.Tests.{and-right}
 use borrow.Author.Needs.{needs}
 use Rattle.checks.proofs.check_table.Statement.{statement}
@@ -23,6 +23,9 @@ count-passed c = c .before .before
 abbrev speeds-passed : tie.Else3 → tie.Else2
 speeds-passed c = c .before .before
 
+abbrev loading-passed : tie.Else4 → tie.Else3
+loading-passed c = c .before .before
+
 -- the table, past each check that passed
 abbrev table1 : tie.Else1 → Table
 table1 c = c .before .before .args .t
@@ -32,6 +35,9 @@ table2 c = table1 (count-passed c)
 
 abbrev table3 : tie.Else3 → Table
 table3 c = table2 (speeds-passed c)
+
+abbrev table4 : tie.Else4 → Table
+table4 c = table3 (loading-passed c)
 
 counted : (c : tie.Else1) → countOk (table1 c .n) ≡ true
 counted c = sym (c .before .count-ok .ensures) ∙ not-false _ (c .if1 .left)
@@ -44,8 +50,11 @@ few c =
 paced : (c : tie.Else2) → speedsOk (table2 c .normal) (table2 c .degraded) ≡ true
 paced c = sym (c .before .speeds-ok .ensures) ∙ not-false _ (c .if2 .left)
 
-limited : (c : tie.Else3) → all (rowOk (table3 c)) (rowsOf (table3 c)) ≡ true
-limited c = sym (c .before .rows-ok .ensures) ∙ not-false _ (c .if3 .left)
+loaded : (c : tie.Else3) → loadingOk (table3 c .loading) ≡ true
+loaded c = sym (c .before .loading-ok .ensures) ∙ not-false _ (c .if3 .left)
+
+limited : (c : tie.Else4) → all (rowOk (table4 c)) (rowsOf (table4 c)) ≡ true
+limited c = sym (c .before .rows-ok .ensures) ∙ not-false _ (c .if4 .left)
 
 returns : tie.Need-returns
 unfolding checkTable
@@ -58,8 +67,8 @@ returns-2 : tie.Need-returns-2
 unfolding checkTable
 returns-2 c = rw (counted (c .before .before), sym (c .before .speeds-ok .ensures) ∙ not-true _ (c .if2 .taken))
 
-rows-ok-requires : tie.Need-rows-ok-requires
-rows-ok-requires c κs = few (count-passed c)
+loading-ok-requires : tie.Need-loading-ok-requires
+loading-ok-requires c κs = search needs
 
 returns-3 : tie.Need-returns-3
 unfolding checkTable
@@ -67,11 +76,11 @@ returns-3 c =
     rw (
       counted (count-passed (c .before .before)),
       paced (c .before .before),
-      sym (c .before .rows-ok .ensures) ∙ not-true _ (c .if3 .taken),
+      sym (c .before .loading-ok .ensures) ∙ not-true _ (c .if3 .taken),
     )
 
-tail-ok-requires : tie.Need-tail-ok-requires
-tail-ok-requires c κs = search needs
+rows-ok-requires : tie.Need-rows-ok-requires
+rows-ok-requires c κs = few (count-passed (speeds-passed c))
 
 returns-4 : tie.Need-returns-4
 unfolding checkTable
@@ -79,18 +88,33 @@ returns-4 c =
     rw (
       counted (count-passed (speeds-passed (c .before .before))),
       paced (speeds-passed (c .before .before)),
-      limited (c .before .before),
-      sym (c .before .tail-ok .ensures) ∙ not-true _ (c .if4 .taken),
+      loaded (c .before .before),
+      sym (c .before .rows-ok .ensures) ∙ not-true _ (c .if4 .taken),
     )
+
+tail-ok-requires : tie.Need-tail-ok-requires
+tail-ok-requires c κs = search needs
 
 returns-5 : tie.Need-returns-5
 unfolding checkTable
 returns-5 c =
     rw (
-      counted (count-passed (speeds-passed (c .before .before))),
-      paced (speeds-passed (c .before .before)),
+      counted (count-passed (speeds-passed (loading-passed (c .before .before)))),
+      paced (speeds-passed (loading-passed (c .before .before))),
+      loaded (loading-passed (c .before .before)),
       limited (c .before .before),
-      sym (c .before .tail-ok .ensures) ∙ not-false _ (c .if4 .left),
+      sym (c .before .tail-ok .ensures) ∙ not-true _ (c .if5 .taken),
+    )
+
+returns-6 : tie.Need-returns-6
+unfolding checkTable
+returns-6 c =
+    rw (
+      counted (count-passed (speeds-passed (loading-passed (c .before .before)))),
+      paced (speeds-passed (loading-passed (c .before .before))),
+      loaded (loading-passed (c .before .before)),
+      limited (c .before .before),
+      sym (c .before .tail-ok .ensures) ∙ not-false _ (c .if5 .left),
     )
 
 pub check-table-spec : {M : Type 1} → statement M
@@ -101,8 +125,10 @@ check-table-spec =
     returns
     speeds-ok-requires
     returns-2
-    rows-ok-requires
+    loading-ok-requires
     returns-3
-    tail-ok-requires
+    rows-ok-requires
     returns-4
-    returns-5)
+    tail-ok-requires
+    returns-5
+    returns-6)

@@ -1,6 +1,6 @@
 -- What the exported function says and leaves is what the report answers.
 use borrow.Author.Needs.{needs}
-use Rattle.jasminebrace.specs.Words.{tableIn}
+use Rattle.words.specs.Words.{tableIn}
 use Rattle.conclusions.specs.Listed.{listing}
 use Rattle.conclusions.proofs.job_list.Statement.{statement}
 use Rattle.conclusions.proofs.job_list.Tie as tie

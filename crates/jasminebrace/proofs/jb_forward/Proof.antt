@@ -5,7 +5,7 @@ use Rattle.record.specs.declared.Run.{Run}
 use Rattle.record.specs.declared.Forwarded.{Forwarded}
 use Rattle.record.specs.Answers.{forwardSaid}
 use Rattle.record.specs.Records.{forwardOver}
-use Rattle.jasminebrace.specs.Words.{stateWords}
+use Rattle.words.specs.Words.{stateWords}
 use Rattle.jasminebrace.proofs.jb_forward.Statement.{statement}
 use Rattle.jasminebrace.proofs.jb_forward.Tie as tie
 

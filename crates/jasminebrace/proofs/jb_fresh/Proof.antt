@@ -5,7 +5,7 @@ use Rattle.rules.specs.declared.Table.{Table}
 use Rattle.record.specs.declared.FreshRun.{FreshRun}
 use Rattle.rules.specs.Numbers.{checkNumber}
 use Rattle.record.specs.Records.{freshOf}
-use Rattle.jasminebrace.specs.Words.{wordsOf, stateWords}
+use Rattle.words.specs.Words.{wordsOf, stateWords}
 use Rattle.jasminebrace.proofs.jb_fresh.Statement.{statement}
 use Rattle.jasminebrace.proofs.jb_fresh.Tie as tie
 

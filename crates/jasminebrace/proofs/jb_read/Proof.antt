@@ -3,7 +3,7 @@ use borrow.Author.Needs.{needs}
 use mathlib.Core.Path.{ap, _∙_}
 use Rattle.rules.specs.declared.Reading.{Reading}
 use Rattle.rules.specs.Numbers.{checkNumber}
-use Rattle.jasminebrace.specs.Words.{wordsOf}
+use Rattle.words.specs.Words.{wordsOf}
 use Rattle.jasminebrace.proofs.jb_read.Statement.{statement}
 use Rattle.jasminebrace.proofs.jb_read.Tie as tie
 

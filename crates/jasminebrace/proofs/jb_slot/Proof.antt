@@ -5,7 +5,7 @@ use Rattle.record.specs.declared.Run.{Run}
 use Rattle.record.specs.declared.Stepped.{Stepped}
 use Rattle.record.specs.Answers.{slotSaid}
 use Rattle.record.specs.Records.{oneSlot}
-use Rattle.jasminebrace.specs.Words.{stateWords}
+use Rattle.words.specs.Words.{stateWords}
 use Rattle.jasminebrace.proofs.jb_slot.Statement.{statement}
 use Rattle.jasminebrace.proofs.jb_slot.Tie as tie
 

@@ -86,9 +86,9 @@ use Rattle.judge.proofs.judge.Code.Mir as mir
 abbrev stayed : Stays (f.ended .signature .params) (f.ended .kept)
 stayed =
     let rows = stay-dropped (shrSliceOf (0 ∷ []) tt (plain (λ _. R.the-row))) yes in
-    let speed = stay-dropped (plain (λ _. u32)) yes in
+    let number = stay-dropped (plain (λ _. u32)) yes in
     let order = stay-dropped (arrayOf (plain (λ _. u8)) 64) yes in
-    (rows, (speed, (speed, (order, tt))))
+    (rows, (number, (number, (number, (order, tt)))))
 
 -- the machine value of a table, and that it is one
 abbrev tval : Table → Val
@@ -111,12 +111,12 @@ abbrev rows-type : Ty
 rows-type = sliceTy (tyRef (named 0) imm (pointee (R.the-row .written)))
 
 -- ---- the loop's state: i rows are gathered in t
-record State (ys : List Row) (n m : ℕ) : Type 0 where
+record State (ys : List Row) (n m k : ℕ) : Type 0 where
   i : ℕ
   t : Table
   within : i ≤ length ys
   good : Good t
-  so-far : gathered t (dropN i ys) ≡ gathered (noRows n m) ys
+  so-far : gathered t (dropN i ys) ≡ gathered (noRows n m k) ys
 
 abbrev zero-row : Row
 zero-row = record { release = 0; work = 0; deadline = 0; level = 0 }
@@ -136,13 +136,13 @@ module _ {M : Type 1} (𝓤 : URA M) (H : Heap 𝓤) (A : Atoms 𝓤) (mem : Mem
   Judges = tripleOf 𝓤 H A judge-table.signature (judge-table.spec 𝓤 H A mem run)
 
 module _ {M : Type 1} (𝓤 : URA M) (H : Heap 𝓤) (A : Atoms 𝓤) (W : Given 𝓤 H A) (at-mem : Memory → SProp 𝓤) (run : Routine → Fun 𝓤) (κ : Lft) (q : Share)
-    (b o : ℕ) (γ : GName) (ys : List Row) (n m : ℕ) (ord : List ℕ) (room : Room R.the-row (length ys)) (n-fits : n < 2 ^ 32) (m-fits : m < 2 ^ 32)
-    (is-ord : Is (Array u8 64) ord (array-vals (uint-vals w8) ord)) where
+    (b o : ℕ) (γ : GName) (ys : List Row) (n m k : ℕ) (ord : List ℕ) (room : Room R.the-row (length ys)) (n-fits : n < 2 ^ 32) (m-fits : m < 2 ^ 32)
+    (k-fits : k < 2 ^ 32) (is-ord : Is (Array u8 64) ord (array-vals (uint-vals w8) ord)) where
   abbrev Arg : Type 0
-  Arg = RefT (List Row) × (ℕ × (ℕ × (List ℕ × Unit {0})))
+  Arg = RefT (List Row) × (ℕ × (ℕ × (ℕ × (List ℕ × Unit {0}))))
 
   abbrev x : Arg
-  x = (record { ptr = (b, o); name = γ; now = ys }, (n, (m, (ord, tt))))
+  x = (record { ptr = (b, o); name = γ; now = ys }, (n, (m, (k, (ord, tt)))))
 
   abbrev v : Val
   v = sliceVal (b, o) (length ys)
@@ -151,7 +151,7 @@ module _ {M : Type 1} (𝓤 : URA M) (H : Heap 𝓤) (A : Atoms 𝓤) (W : Given
   oval = only (array-vals (uint-vals w8) ord)
 
   abbrev at : Vals f.signature (κ, tt)
-  at = (v ∷ [], (vint w32 n ∷ [], (vint w32 m ∷ [], (oval ∷ [], tt))))
+  at = (v ∷ [], (vint w32 n ∷ [], (vint w32 m ∷ [], (vint w32 k ∷ [], (oval ∷ [], tt)))))
 
   abbrev Post : Val → SProp 𝓤
   Post = walkOf 𝓤 H A f.ended stayed (f.clauses 𝓤 H A at-mem run) .post (((κ, tt), (q, tt), tt, x, at), tt)
@@ -167,7 +167,7 @@ module _ {M : Type 1} (𝓤 : URA M) (H : Heap 𝓤) (A : Atoms 𝓤) (W : Given
   Answers = Judges 𝓤 H A at-mem run
 
   abbrev no-rows-says : Table → SProp 𝓤
-  no-rows-says r = ensured 𝓤 H A no-rows.ended (no-rows.clauses 𝓤 H A at-mem run) tt (n, (m, tt)) tt r
+  no-rows-says r = ensured 𝓤 H A no-rows.ended (no-rows.clauses 𝓤 H A at-mem run) tt (n, (m, (k, tt))) tt r
 
   abbrev with-row-says : Table → Row → Table → SProp 𝓤
   with-row-says t r z = ensured 𝓤 H A with-row.ended (with-row.clauses 𝓤 H A at-mem run) tt (t, (r, tt)) tt z
@@ -177,16 +177,17 @@ module _ {M : Type 1} (𝓤 : URA M) (H : Heap 𝓤) (A : Atoms 𝓤) (W : Given
 
   -- what the callees are passed, which is had for nothing, and what they ensure
   abbrev to-no-rows : Makes .Ghost
-  to-no-rows = ((tt, tt, tt, (n, (m, tt)), (vint w32 n ∷ [], (vint w32 m ∷ [], tt))), tt)
+  to-no-rows = ((tt, tt, tt, (n, (m, (k, tt))), (vint w32 n ∷ [], (vint w32 m ∷ [], (vint w32 k ∷ [], tt)))), tt)
 
   goes-no-rows : ent 𝓤 (emp 𝓤) (Makes .pre to-no-rows)
   goes-no-rows =
-      qed W [] ∵ nothing ! $ owned ! u32 (Is u32) (uint-makes 𝓤 H A W w32) m _ (refl, m-fits) $ fjoin ! $
+      qed W [] ∵ nothing ! $ owned ! u32 (Is u32) (uint-makes 𝓤 H A W w32) k _ (refl, k-fits) $ fjoin ! $
+      owned ! u32 (Is u32) (uint-makes 𝓤 H A W w32) m _ (refl, m-fits) $ fjoin ! $
       owned ! u32 (Is u32) (uint-makes 𝓤 H A W w32) n _ (refl, n-fits) $ fjoin ! $
       nothing ! $ join ! $ frame ! $ done !
 
-  said-no-rows : (r : Table) → ent 𝓤 (no-rows-says r) (fact 𝓤 (r ≡ noRows n m))
-  said-no-rows r = exE 𝓤 _ (λ ws. snd∗ 𝓤 (sem 𝓤 H A (lasts no-rows.ended tt (n, (m, tt)) ws)) (fact 𝓤 (r ≡ noRows n m)))
+  said-no-rows : (r : Table) → ent 𝓤 (no-rows-says r) (fact 𝓤 (r ≡ noRows n m k))
+  said-no-rows r = exE 𝓤 _ (λ ws. snd∗ 𝓤 (sem 𝓤 H A (lasts no-rows.ended tt (n, (m, (k, tt))) ws)) (fact 𝓤 (r ≡ noRows n m k)))
 
   abbrev to-with-row : Table → Row → Adds .Ghost
   to-with-row t r = ((tt, tt, tt, (t, (r, tt)), (tval t ∷ [], (row-vals r, tt))), tt)
@@ -211,20 +212,20 @@ module _ {M : Type 1} (𝓤 : URA M) (H : Heap 𝓤) (A : Atoms 𝓤) (W : Given
   said-judge-table : (t : Table) (z : Verdict) → ent 𝓤 (judge-table-says t z) (fact 𝓤 (Judged t ord z))
   said-judge-table t z = exE 𝓤 _ (λ ws. snd∗ 𝓤 (sem 𝓤 H A (lasts judge-table.ended tt (t, (ord, tt)) ws)) (fact 𝓤 (Judged t ord z)))
 
-  exits : (r : Verdict) (u : Val) → Judged (tableOf ys n m) ord r → ent 𝓤 (⋆ 𝓤 H A (‵ (flft κ q) ∷ ‵ (Vd.the-row .own r (u ∷ [])) ∷ [])) (Post u)
+  exits : (r : Verdict) (u : Val) → Judged (tableOf ys n m k) ord r → ent 𝓤 (⋆ 𝓤 H A (‵ (flft κ q) ∷ ‵ (Vd.the-row .own r (u ∷ [])) ∷ [])) (Post u)
   exits r u e =
       qed W (‵ (flft κ q) ∷ ‵ (Vd.the-row .own r (u ∷ [])) ∷ []) ∵
-      suffices ! _ (ends-at 𝓤 H A f.ended stayed (f.clauses 𝓤 H A at-mem run) W (((κ, tt), (q, tt), tt, x, at), tt) u r (tt, (tt, (tt, (tt, tt))))
-      (tt, (tt, (tt, (tt, tt))))) $ says ! e $
+      suffices ! _ (ends-at 𝓤 H A f.ended stayed (f.clauses 𝓤 H A at-mem run) W (((κ, tt), (q, tt), tt, x, at), tt) u r (tt, (tt, (tt, (tt, (tt, tt)))))
+      (tt, (tt, (tt, (tt, (tt, tt)))))) $ says ! e $
       nothing ! $ move ! (1 ∷ 0 ∷ []) $ join ! $ frame ! $ nothing ! $ nothing ! $ fjoin ! $ nothing ! $ fjoin ! $ nothing ! $ fjoin ! $ nothing ! $
-      fjoin ! $ frame ! $ done !
+      fjoin ! $ nothing ! $ fjoin ! $ frame ! $ done !
 
   -- ---- the loop
-  abbrev Nearer : State ys n m → State ys n m → Type 0
+  abbrev Nearer : State ys n m k → State ys n m k → Type 0
   Nearer j i = length ys - j .i < length ys - i .i
 
   Nearer-wf : WellFounded Nearer
-  Nearer-wf = InvImage·wf (λ (i : State ys n m). length ys - i .i) (Nat·lt-wfRel .wf)
+  Nearer-wf = InvImage·wf (λ (i : State ys n m k). length ys - i .i) (Nat·lt-wfRel .wf)
 
   module _ (𝓣 : Tables 𝓤 H) (fm : FmC 𝓤 H (W .laws) (𝓣 .C)) (known-no-rows : Triple 𝓤 (𝓣 .C #no-rows) Makes)
       (known-with-row : Triple 𝓤 (𝓣 .C #with-row) Adds) (known-judge-table : Triple 𝓤 (𝓣 .C #judge-table) Answers) where
@@ -234,10 +235,10 @@ module _ {M : Type 1} (𝓤 : URA M) (H : Heap 𝓤) (A : Atoms 𝓤) (W : Given
     abbrev Λ : Loops 𝓤 H
     Λ = 𝓣 .Λ
 
-    module _ (l₀ l₁ l₂ l₃ l₄ l₅ l₆ l₇ l₈ l₉ l₁₀ : ℕ) where
+    module _ (l₀ l₁ l₂ l₃ l₄ l₅ l₆ l₇ l₈ l₉ l₁₀ l₁₁ : ℕ) where
       abbrev En : Env 𝓤 H
-      En = (Vd′.mir, l₀) ∷ (rows-type, l₁) ∷ (tyInt w32, l₂) ∷ (tyInt w32, l₃) ∷ (tyArray (tyInt w8) 64, l₄) ∷ (T′.mir, l₅)
-          ∷ (tyInt w64, l₆) ∷ (tyInt w64, l₇) ∷ (tyBool, l₈) ∷ (tyPtr, l₉) ∷ (R′.mir, l₁₀) ∷ []
+      En = (Vd′.mir, l₀) ∷ (rows-type, l₁) ∷ (tyInt w32, l₂) ∷ (tyInt w32, l₃) ∷ (tyInt w32, l₄) ∷ (tyArray (tyInt w8) 64, l₅) ∷ (T′.mir, l₆)
+          ∷ (tyInt w64, l₇) ∷ (tyInt w64, l₈) ∷ (tyBool, l₉) ∷ (tyPtr, l₁₀) ∷ (R′.mir, l₁₁) ∷ []
 
       -- a local's cell with nothing in it, and with a value; beside it, that it is freed
       abbrev empty : Ty → ℕ → List (Item 𝓤) → List (Item 𝓤)
@@ -246,38 +247,38 @@ module _ {M : Type 1} (𝓤 : URA M) (H : Heap 𝓤) (A : Atoms 𝓤) (W : Given
       abbrev filled : Ty → ℕ → Val → List (Item 𝓤) → List (Item 𝓤)
       filled τ l w rest = ‵ (fat fullShare τ l 0 w) ∷ ‵ (fdies τ l) ∷ rest
 
-      -- [the fractured borrow; the token; room for _10; …; _9; …; _8; …; _7; …; _6; …; _5; …; _4; …; _3; …; _2; …; _1; …; room for _0; …]
-      abbrev At : State ys n m → List (Item 𝓤)
+      -- [the fractured borrow; the token; room for _11; …; _10; …; _9; …; _8; …; _7; …; _6; …; _5; …; _4; …; _3; …; _2; …; _1; …; room for _0; …]
+      abbrev At : State ys n m k → List (Item 𝓤)
       At st =
           ‵ (fshr-bor κ (λ s. arr-parts (shares R.the-row) (length ys) .part s ys b o)) ∷ ‵ (flft κ q)
-          ∷ empty R′.mir l₁₀ (empty tyPtr l₉ (empty tyBool l₈ (empty (tyInt w64) l₇ (filled (tyInt w64) l₆ (vint w64 (st .i))
-          (filled T′.mir l₅ (tval (st .t)) (filled (tyArray (tyInt w8) 64) l₄ oval (filled (tyInt w32) l₃ (vint w32 m)
-          (filled (tyInt w32) l₂ (vint w32 n) (filled rows-type l₁ v (empty Vd′.mir l₀ []))))))))))
+          ∷ empty R′.mir l₁₁ (empty tyPtr l₁₀ (empty tyBool l₉ (empty (tyInt w64) l₈ (filled (tyInt w64) l₇ (vint w64 (st .i))
+          (filled T′.mir l₆ (tval (st .t)) (filled (tyArray (tyInt w8) 64) l₅ oval (filled (tyInt w32) l₄ (vint w32 k) (filled (tyInt w32) l₃ (vint w32 m)
+          (filled (tyInt w32) l₂ (vint w32 n) (filled rows-type l₁ v (empty Vd′.mir l₀ [])))))))))))
 
-      abbrev Turned : State ys n m → Out → SProp 𝓤
+      abbrev Turned : State ys n m k → Out → SProp 𝓤
       Turned st = afterTurn 𝓤 H (Below 𝓤 H A Nearer At st) (afterBlock 𝓤 H (afterSeq 𝓤 H (Wp 𝓤 H C Λ En mir.t-4 (atReturn 𝓤 H En Post)) (atReturn 𝓤 H En Post)))
 
-      turned : (st : State ys n m) (y : Bool) → ltb (st .i) (length ys) ≡ y → Sq W (At st) (runs C Λ En mir.turn-1 (anyQ (Turned st)))
+      turned : (st : State ys n m k) (y : Bool) → ltb (st .i) (length ys) ≡ y → Sq W (At st) (runs C Λ En mir.turn-1 (anyQ (Turned st)))
       unfolding afterTurn
       turned st true less =
           let l : st .i < length ys = ltb-true (st .i) (length ys) less in
           let i-fits : st .i + 1 < 2 ^ 64 = omega (arith, room .0) in
           let elem : Row = getD ys (st .i) zero-row in
           let off = times-fits (st .i) (length ys) l (room .1) in
-          assigns ! (of-opd ! (load ! (from ! (fld ! refl (stop !))) (look-in ! 20 (sub ! 1 refl (whole !))))) (from ! (stop !))
+          assigns ! (of-opd ! (load ! (from ! (fld ! refl (stop !))) (look-in ! 22 (sub ! 1 refl (whole !))))) (from ! (stop !))
           (init ! 8 refl (tt, record { fits = room .0 })) $
           assigns ! (bin ! (load ! (from ! (stop !)) (look ! 10 refl)) (load ! (from ! (stop !)) (look ! 8 refl)) tt) (from ! (stop !))
           (init ! 6 refl (tt, tt)) $
-          rewrite ! 6 (λ (y : Bool). ‵ (fat fullShare tyBool l₈ 0 (vbool y))) less refl $ stays ! (load ! (from ! (stop !)) (look ! 6 refl)) $
+          rewrite ! 6 (λ (y : Bool). ‵ (fat fullShare tyBool l₉ 0 (vbool y))) less refl $ stays ! (load ! (from ! (stop !)) (look ! 6 refl)) $
           assigns ! (bin ! (load ! (from ! (stop !)) (look ! 10 refl)) (lit ! tt) (record { fits = off })) (from ! (stop !))
           (store ! 8 refl (tt, record { fits = off })) $
-          assigns ! (bin ! (load ! (from ! (fld ! refl (stop !))) (look-in ! 20 (sub ! 0 refl (whole !)))) (load ! (from ! (stop !)) (look ! 8 refl)) tt)
+          assigns ! (bin ! (load ! (from ! (fld ! refl (stop !))) (look-in ! 22 (sub ! 0 refl (whole !)))) (load ! (from ! (stop !)) (look ! 8 refl)) tt)
           (from ! (stop !)) (init ! 4 refl (tt, tt)) $
-          rewrite ! 4 (λ (p : ℕ). ‵ (fat fullShare tyPtr l₉ 0 (vptr b p))) (sym (place-is 16 o (st .i))) refl $
+          rewrite ! 4 (λ (p : ℕ). ‵ (fat fullShare tyPtr l₁₀ 0 (vptr b p))) (sym (place-is 16 o (st .i))) refl $
           looks-slice ! tt R.the-row (Is R.the-row) (shows 𝓤 H A R.the-row) row-vals (LL.tells R.the-type R′.the-laws)
           (LL.copy R.the-type R′.the-copy 𝓤 H A W) ys b o (λ q′.
           elem-out ! R.the-row (Is R.the-row) (shows 𝓤 H A R.the-row) row-vals (LL.tells R.the-type R′.the-laws) q′ ys (st .i) zero-row b o l (λ g.
-          -- [rows[i]; what it owns; the others; what shuts; the fractured borrow; _10; …; _9; …]
+          -- [rows[i]; what it owns; the others; what shuts; the fractured borrow; _11; …; _10; …]
           assigns ! (of-opd ! (load ! (from ! (hop ! (look ! 7 refl) (stop !))) (look-raw ! 0 refl))) (from ! (stop !))
           (init ! 5 refl (LL.lawful R.the-type R′.the-laws 𝓤 H A W .typed elem _ g .0)) $
           elem-back ! R.the-row q′ ys (st .i) zero-row (row-vals elem) b o l $ shuts-slice ! tt R.the-row q′ ys b o $ move ! (1 ∷ 0 ∷ []) $
@@ -290,7 +291,7 @@ module _ {M : Type 1} (𝓤 : URA M) (H : Heap 𝓤) (A : Atoms 𝓤) (W : Given
           heard ! (r ≡ withRow (st .t) elem) (λ e. split ! $ drop ! $
           peeks ! T.the-row (Is T.the-row) (shows 𝓤 H A T.the-row) r (u ∷ []) (λ is. drop ! $
           land ! (from ! (stop !)) (store ! 12 refl (LL.lawful T.the-type T′.the-laws 𝓤 H A W .typed r _ is .0)) $
-          rewrite ! 12 (λ (w : Val). ‵ (fat fullShare T′.mir l₅ 0 w)) (told r u is) refl $
+          rewrite ! 12 (λ (w : Val). ‵ (fat fullShare T′.mir l₆ 0 w)) (told r u is) refl $
           assigns-last ! (bin ! (load ! (from ! (stop !)) (look ! 10 refl)) (lit ! tt) (record { fits = i-fits })) (from ! (stop !))
           (store ! 10 refl (tt, record { fits = i-fits })) $
           forget ! 2 refl $ forget ! 4 refl $ forget ! 6 refl $ forget ! 8 refl $
@@ -299,15 +300,15 @@ module _ {M : Type 1} (𝓤 : URA M) (H : Heap 𝓤) (A : Atoms 𝓤) (W : Given
             t = r;
             within = omega arith;
             good = told-good r u is;
-            so-far = gather-more ys (st .i) (st .t) (gathered (noRows n m) ys) (st .so-far) zero-row r l e;
+            so-far = gather-more ys (st .i) (st .t) (gathered (noRows n m k) ys) (st .so-far) zero-row r l e;
           }) (omega arith)))))))
       turned st false over =
           let l : length ys ≤ st .i = ltb-false (st .i) (length ys) over in
-          assigns ! (of-opd ! (load ! (from ! (fld ! refl (stop !))) (look-in ! 20 (sub ! 1 refl (whole !))))) (from ! (stop !))
+          assigns ! (of-opd ! (load ! (from ! (fld ! refl (stop !))) (look-in ! 22 (sub ! 1 refl (whole !))))) (from ! (stop !))
           (init ! 8 refl (tt, record { fits = room .0 })) $
           assigns ! (bin ! (load ! (from ! (stop !)) (look ! 10 refl)) (load ! (from ! (stop !)) (look ! 8 refl)) tt) (from ! (stop !))
           (init ! 6 refl (tt, tt)) $
-          rewrite ! 6 (λ (y : Bool). ‵ (fat fullShare tyBool l₈ 0 (vbool y))) over refl $ leaves-loop ! (load ! (from ! (stop !)) (look ! 6 refl)) $
+          rewrite ! 6 (λ (y : Bool). ‵ (fat fullShare tyBool l₉ 0 (vbool y))) over refl $ leaves-loop ! (load ! (from ! (stop !)) (look ! 6 refl)) $
           exec ! C Λ En mir.t-4 (atRet En Post) $
           use0 W (raw (Answers .pre (to-judge-table (st .t)))) (goes-judge-table (st .t) (st .good)) $
           calls-at ! fm Answers known-judge-table (to-judge-table (st .t))
@@ -317,51 +318,51 @@ module _ {M : Type 1} (𝓤 : URA M) (H : Heap 𝓤) (A : Atoms 𝓤) (W : Given
           split ! $ move ! (1 ∷ []) $ use1 W (raw (fact 𝓤 (Judged (st .t) ord r))) (said-judge-table (st .t) r) $
           heard ! (Judged (st .t) ord r) (λ e. split ! $ drop ! $
           peeks ! Vd.the-row (Is Vd.the-row) (shows 𝓤 H A Vd.the-row) r (u ∷ []) (λ is.
-          land ! (from ! (stop !)) (init ! 23 refl (EL.lawful Vd.the-type Vd′.the-laws 𝓤 H A W tt .typed r _ is .0)) $
-          returns ! (look ! 23 refl) $ forget ! 7 refl $ forget ! 9 refl $ forget ! 11 refl $ forget ! 13 refl $ forget ! 15 refl $ forget ! 17 refl $
-          forget ! 19 refl $ forget ! 21 refl $ forget ! 23 refl $
-          move ! (23 ∷ 24 ∷ []) $ free1 ! $ move ! (21 ∷ 22 ∷ []) $ free1 ! $ move ! (19 ∷ 20 ∷ []) $ free1 ! $ move ! (17 ∷ 18 ∷ []) $ free1 ! $
+          land ! (from ! (stop !)) (init ! 25 refl (EL.lawful Vd.the-type Vd′.the-laws 𝓤 H A W tt .typed r _ is .0)) $
+          returns ! (look ! 25 refl) $ forget ! 7 refl $ forget ! 9 refl $ forget ! 11 refl $ forget ! 13 refl $ forget ! 15 refl $ forget ! 17 refl $
+          forget ! 19 refl $ forget ! 21 refl $ forget ! 23 refl $ forget ! 25 refl $
+          move ! (25 ∷ 26 ∷ []) $ free1 ! $ move ! (23 ∷ 24 ∷ []) $ free1 ! $ move ! (21 ∷ 22 ∷ []) $ free1 ! $ move ! (19 ∷ 20 ∷ []) $ free1 ! $ move ! (17 ∷ 18 ∷ []) $ free1 ! $
           move ! (15 ∷ 16 ∷ []) $ free1 ! $ move ! (13 ∷ 14 ∷ []) $ free1 ! $
           move ! (11 ∷ 12 ∷ []) $ free1 ! $ move ! (9 ∷ 10 ∷ []) $ free1 ! $ move ! (7 ∷ 8 ∷ []) $ free1 ! $ move ! (5 ∷ 6 ∷ []) $ free1 ! $
           move ! (3 ∷ 4 ∷ []) $ free1 ! $ free0 ! $
           keep ! (2 ∷ 0 ∷ []) $
-          by ! (exits r u (rows-judged ys n m ord (st .t) r (gather-end ys (st .i) (st .t) (gathered (noRows n m) ys) (st .so-far) l) e))))))
+          by ! (exits r u (rows-judged ys n m k ord (st .t) r (gather-end ys (st .i) (st .t) (gathered (noRows n m k) ys) (st .so-far) l) e))))))
 
-      turns : (st : State ys n m) → Sq W (At st) (runs C Λ En mir.turn-1 (anyQ (Turned st)))
+      turns : (st : State ys n m k) → Sq W (At st) (runs C Λ En mir.turn-1 (anyQ (Turned st)))
       turns st = turned st (ltb (st .i) (length ys)) refl
 
       -- the loop, and what follows it
-      looped : (st : State ys n m) → Sq W (At st) (runs C Λ En mir.t-3 (atRet En Post))
+      looped : (st : State ys n m k) → Sq W (At st) (runs C Λ En mir.t-3 (atRet En Post))
       looped st = first ! $ blocks ! $ loops ! 𝓣 Nearer Nearer-wf At turns st
 
-    walk : ent 𝓤 (onEntry 𝓤 H A f.signature (κ, tt) (q, tt) x at) (WpFn 𝓤 H C Λ code.function (v ∷ vint w32 n ∷ vint w32 m ∷ oval ∷ []) Post)
+    walk : ent 𝓤 (onEntry 𝓤 H A f.signature (κ, tt) (q, tt) x at) (WpFn 𝓤 H C Λ code.function (v ∷ vint w32 n ∷ vint w32 m ∷ vint w32 k ∷ oval ∷ []) Post)
     walk =
-        qed W ((‵ (flft κ q) ⊛ ‵ ftrue) ∷ ‵ (owns (ShrSlice (named 0) κ R.the-row ∷ u32 ∷ u32 ∷ Array u8 64 ∷ []) x at) ∷ []) ∵
-        enter ! C Λ code.function (v ∷ vint w32 n ∷ vint w32 m ∷ oval ∷ []) _ $
-        alloc1 ! (λ l₀. alloc1 ! (λ l₁. alloc1 ! (λ l₂. alloc1 ! (λ l₃. alloc1 ! (λ l₄. alloc1 ! (λ l₅. alloc1 ! (λ l₆. alloc1 ! (λ l₇. alloc1 ! (λ l₈.
-        alloc1 ! (λ l₉. alloc1 ! (λ l₁₀. alloc0 ! $ params1 ! $
-        pass1 ! (init ! 18 refl (tt, (tt, (record { fits = room .0 }, tt)))) $ pass1 ! (init ! 16 refl (tt, record { fits = n-fits })) $
-        pass1 ! (init ! 14 refl (tt, record { fits = m-fits })) $
+        qed W ((‵ (flft κ q) ⊛ ‵ ftrue) ∷ ‵ (owns (ShrSlice (named 0) κ R.the-row ∷ u32 ∷ u32 ∷ u32 ∷ Array u8 64 ∷ []) x at) ∷ []) ∵
+        enter ! C Λ code.function (v ∷ vint w32 n ∷ vint w32 m ∷ vint w32 k ∷ oval ∷ []) _ $
+        alloc1 ! (λ l₀. alloc1 ! (λ l₁. alloc1 ! (λ l₂. alloc1 ! (λ l₃. alloc1 ! (λ l₄. alloc1 ! (λ l₅. alloc1 ! (λ l₆. alloc1 ! (λ l₇. alloc1 ! (λ l₈. alloc1 ! (λ l₉.
+        alloc1 ! (λ l₁₀. alloc1 ! (λ l₁₁. alloc0 ! $ params1 ! $
+        pass1 ! (init ! 20 refl (tt, (tt, (record { fits = room .0 }, tt)))) $ pass1 ! (init ! 18 refl (tt, record { fits = n-fits })) $
+        pass1 ! (init ! 16 refl (tt, record { fits = m-fits })) $ pass1 ! (init ! 14 refl (tt, record { fits = k-fits })) $
         pass1 ! (init ! 12 refl (array-lawful 𝓤 H A W u8 (uint-lawful 𝓤 H A W w8) 64 .typed ord _ is-ord .0)) $ pass0 ! $
         use0 W (raw (Makes .pre to-no-rows)) goes-no-rows $
-        calls-at ! fm Makes known-no-rows to-no-rows (and-then ! (load ! (from ! (stop !)) (look ! 17 refl))
-        (and-then ! (load ! (from ! (stop !)) (look ! 15 refl)) (no-more !))) (λ u.
+        calls-at ! fm Makes known-no-rows to-no-rows (and-then ! (load ! (from ! (stop !)) (look ! 19 refl))
+        (and-then ! (load ! (from ! (stop !)) (look ! 17 refl)) (and-then ! (load ! (from ! (stop !)) (look ! 15 refl)) (no-more !)))) (λ u.
         use1 W (later (some (λ (r : Table). (‵ ftrue ⊛ ‵ (T.the-row .own r (u ∷ []))) ⊛ raw (no-rows-says r)))) (id⊢ 𝓤 _) $ await ! tt $ pick ! (λ r.
-        split ! $ move ! (1 ∷ []) $ use1 W (raw (fact 𝓤 (r ≡ noRows n m))) (said-no-rows r) $ heard ! (r ≡ noRows n m) (λ e. split ! $ drop ! $
+        split ! $ move ! (1 ∷ []) $ use1 W (raw (fact 𝓤 (r ≡ noRows n m k))) (said-no-rows r) $ heard ! (r ≡ noRows n m k) (λ e. split ! $ drop ! $
         peeks ! T.the-row (Is T.the-row) (shows 𝓤 H A T.the-row) r (u ∷ []) (λ is. drop ! $
         land ! (from ! (stop !)) (init ! 10 refl (LL.lawful T.the-type T′.the-laws 𝓤 H A W .typed r _ is .0)) $
-        rewrite ! 10 (λ (w : Val). ‵ (fat fullShare T′.mir l₅ 0 w)) (told r u is) refl $
+        rewrite ! 10 (λ (w : Val). ‵ (fat fullShare T′.mir l₆ 0 w)) (told r u is) refl $
         assigns ! (of-opd ! (lit ! tt)) (from ! (stop !)) (init ! 8 refl (tt, record { fits = lit< tt })) $
         -- of what rows owns the fractured borrow is kept
-        move ! (23 ∷ []) $ fsplit ! $ fsplit ! $ drop ! $ fsplit ! $ drop ! $ move ! (24 ∷ []) $ split ! $
-        keep ! (2 ∷ 0 ∷ 4 ∷ 5 ∷ 6 ∷ 7 ∷ 8 ∷ 9 ∷ 10 ∷ 11 ∷ 12 ∷ 13 ∷ 14 ∷ 15 ∷ 16 ∷ 17 ∷ 18 ∷ 19 ∷ 20 ∷ 21 ∷ 22 ∷ 23 ∷ 24 ∷ 25 ∷ []) $
-        looped l₀ l₁ l₂ l₃ l₄ l₅ l₆ l₇ l₈ l₉ l₁₀ (record {
+        move ! (25 ∷ []) $ fsplit ! $ fsplit ! $ drop ! $ fsplit ! $ drop ! $ move ! (26 ∷ []) $ split ! $
+        keep ! (2 ∷ 0 ∷ 4 ∷ 5 ∷ 6 ∷ 7 ∷ 8 ∷ 9 ∷ 10 ∷ 11 ∷ 12 ∷ 13 ∷ 14 ∷ 15 ∷ 16 ∷ 17 ∷ 18 ∷ 19 ∷ 20 ∷ 21 ∷ 22 ∷ 23 ∷ 24 ∷ 25 ∷ 26 ∷ 27 ∷ []) $
+        looped l₀ l₁ l₂ l₃ l₄ l₅ l₆ l₇ l₈ l₉ l₁₀ l₁₁ (record {
           i = 0;
           t = r;
           within = zero-le;
           good = told-good r u is;
           so-far = ap (λ (z : Table). gathered z ys) e;
-        }))))))))))))))))
+        })))))))))))))))))
 
 module _ {M : Type 1} (𝓤 : URA M) (H : Heap 𝓤) (A : Atoms 𝓤) (W : Given 𝓤 H A) (mem : Memory → SProp 𝓤) (run : Routine → Fun 𝓤) (𝓣 : Tables 𝓤 H)
     (known-no-rows : Triple 𝓤 (𝓣 .C #no-rows) (Starts 𝓤 H A mem run)) (known-with-row : Triple 𝓤 (𝓣 .C #with-row) (Puts 𝓤 H A mem run))
@@ -369,18 +370,19 @@ module _ {M : Type 1} (𝓤 : URA M) (H : Heap 𝓤) (A : Atoms 𝓤) (W : Given
   judge-walks : Walks 𝓤 H A f.ended stayed (WpFn 𝓤 H (𝓣 .C) (𝓣 .Λ) code.function) (f.clauses 𝓤 H A mem run)
   judge-walks =
       walked 𝓤 H A f.ended stayed (f.clauses 𝓤 H A mem run) (WpFn 𝓤 H (𝓣 .C) (𝓣 .Λ) code.function)
-      (λ κs. (slice-vals, (uint-vals w32, (uint-vals w32, (array-vals (uint-vals w8), tt)))))
-      (λ κs. (shr-slice-tells (named 0) (κs .0) R.the-row, (uint-tells w32, (uint-tells w32, (array-tells u8 (uint-vals w8) (uint-tells w8) 64, tt)))))
+      (λ κs. (slice-vals, (uint-vals w32, (uint-vals w32, (uint-vals w32, (array-vals (uint-vals w8), tt))))))
+      (λ κs. (shr-slice-tells (named 0) (κs .0) R.the-row, (uint-tells w32, (uint-tells w32, (uint-tells w32, (array-tells u8 (uint-vals w8) (uint-tells w8) 64, tt))))))
       (λ κs qs bounds a g are. via 𝓤 _ (fst∗ 𝓤 _ (emp 𝓤)) (walk 𝓤 H A W mem run (κs .0) (qs .0) (a .0 .ptr .0) (a .0 .ptr .1) (a .0 .name) (a .0 .now)
-      (a .1 .0) (a .1 .1 .0) (a .1 .1 .1 .0) (are .0 .0 .1) (are .1 .0 .1) (are .1 .1 .0 .1) (are .1 .1 .1 .0) 𝓣
+      (a .1 .0) (a .1 .1 .0) (a .1 .1 .1 .0) (a .1 .1 .1 .1 .0) (are .0 .0 .1) (are .1 .0 .1) (are .1 .1 .0 .1) (are .1 .1 .1 .0 .1)
+      (are .1 .1 .1 .1 .0) 𝓣
       (fmOf 𝓤 H (W .laws) 𝓣) known-no-rows known-with-row known-judge-table))
 
   judge-meets : Meets 𝓤 H A f.signature (WpFn 𝓤 H (𝓣 .C) (𝓣 .Λ) code.function) (f.spec 𝓤 H A mem run)
   judge-meets =
       let rows = goes-dropped 𝓤 H A W 1 (shrSliceOf (0 ∷ []) tt (plain (λ _. R.the-row))) yes (λ κs x f. refl) in
-      let speed = goes-dropped 𝓤 H A W 1 (plain (λ _. u32)) yes (λ κs x f. refl) in
+      let number = goes-dropped 𝓤 H A W 1 (plain (λ _. u32)) yes (λ κs x f. refl) in
       let order = goes-dropped 𝓤 H A W 1 (arrayOf (plain (λ _. u8)) 64) yes (λ κs x f. refl) in
-      walk-meets 𝓤 H A f.ended stayed W (rows, (speed, (speed, (order, tt)))) (f.clauses 𝓤 H A mem run)
+      walk-meets 𝓤 H A f.ended stayed W (rows, (number, (number, (number, (order, tt))))) (f.clauses 𝓤 H A mem run)
       (WpFn 𝓤 H (𝓣 .C) (𝓣 .Λ) code.function) (WpFn-mono 𝓤 H (W .laws) 𝓣 code.function) judge-walks
 
 pub judge-spec : {M : Type 1} → stated.statement M

@@ -5,7 +5,7 @@ use borrow.Author.Needs.{needs}
 use mathlib.Core.Path.{_≡_, refl, sym, subst, _∙_}
 use lib.ListN.{length, take, getD, length-set}
 use Rattle.theory.specs.Facts.{facts}
-use Rattle.sweep.specs.CapColumn.{caps-normal}
+use Rattle.sweep.specs.CapColumn.{Limited, limited, caps-normal}
 use Rattle.sweep.specs.Holds.{Holds, holds-empty}
 use Rattle.judge.specs.Checked.{checked}
 use Rattle.judge.specs.Needs.{needs-column}
@@ -27,19 +27,22 @@ start l = l .before .before .before .before .before .before
 abbrev turn-of : tie.After-degraded Inv-loop μ-loop → tie.In-loop Inv-loop μ-loop
 turn-of c = c .before .before .before .before
 
-few : (c : tie.After-release2 Inv-loop μ-loop) → c .before .before .args .t .n ≤ 64
-few c =
+limits : (c : tie.After-release2 Inv-loop μ-loop) → Limited (c .before .before .args .t)
+limits c =
     let s = c .before .before in
-    facts (s .args .t) (checked (s .args .t) (s .args .t2) (s .pre) .accepted) .few
+    limited (s .args .t) (checked (s .args .t) (s .args .t2) (s .pre) .accepted)
+
+few : (c : tie.After-release2 Inv-loop μ-loop) → c .before .before .args .t .n ≤ 64
+few c = limits c .few
 
 sorted-requires : tie.Need-sorted-requires Inv-loop μ-loop
 sorted-requires c κs = few c
 
 caps-requires : tie.Need-caps-requires Inv-loop μ-loop
-caps-requires c κs = few (c .before)
+caps-requires c κs = limits (c .before)
 
 caps-requires-2 : tie.Need-caps-requires-2 Inv-loop μ-loop
-caps-requires-2 c κs = few (c .before .before)
+caps-requires-2 c κs = limits (c .before .before)
 
 loop-holds : tie.Need-loop-holds Inv-loop μ-loop
 loop-holds c =

@@ -1,7 +1,7 @@
 -- Each column is what its callee ensures, and the sort by trial key is the trial sequence.
 use borrow.Author.Needs.{needs}
 use mathlib.Core.Path.{_∙_}
-use Rattle.sweep.specs.CapColumn.{caps-normal}
+use Rattle.sweep.specs.CapColumn.{limited, caps-normal}
 use Rattle.theory.specs.Facts.{facts}
 use Rattle.planner.specs.Prepared.{prepared}
 use Rattle.planner.proofs.prepare.Statement.{statement}
@@ -24,10 +24,10 @@ sorted-requires-2 : tie.Need-sorted-requires-2
 sorted-requires-2 c κs = facts _ (keys-made (c .before) .before .pre) .few
 
 caps-requires : tie.Need-caps-requires
-caps-requires c κs = facts _ (keys-made (c .before .before) .before .pre) .few
+caps-requires c κs = limited _ (keys-made (c .before .before) .before .pre)
 
 caps-requires-2 : tie.Need-caps-requires-2
-caps-requires-2 c κs = facts _ (keys-made (released-sorted c) .before .pre) .few
+caps-requires-2 c κs = limited _ (keys-made (released-sorted c) .before .pre)
 
 returns : tie.Need-returns
 returns c =

@@ -31,7 +31,8 @@ rows-sound-requires : tie.Need-rows-sound-requires
 rows-sound-requires c κs =
     let b = clock-passed c .before in
     let r = b .before .before .before .before .args .t1 in
-    limits (r .table) (r .order) (passed-true (checkBoth (r .table) (r .order)) (sym (b .before .passes .ensures) ∙ not-false _ (b .if1 .left))) .few
+    let l = limits (r .table) (r .order) (passed-true (checkBoth (r .table) (r .order)) (sym (b .before .passes .ensures) ∙ not-false _ (b .if1 .left))) in
+    (l .few, l .runs, l .fast, clock-passed c .if2 .left)
 
 returns-3 : tie.Need-returns-3
 unfolding isSound rowSound soundAt isOver over

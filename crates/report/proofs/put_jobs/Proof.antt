@@ -25,7 +25,7 @@ Inv-loop out₀ t order times next₀ needs₀ lates₀ k₀ out next needs late
     × Wrote out₀ 0 out next (joined (jobLine t order) (rowsTo k))
     × (needs ≡ needsTo t order k)
     × (lates ≡ lateTo t order k)
-    × (needs ≤ 1000000 * k)
+    × (needs ≤ 1000016 * k)
     × (lates ≤ k)
 
 abbrev μ-loop : tie.MeasureT-loop
@@ -57,7 +57,7 @@ module _ (c : tie.After-job-at Inv-loop μ-loop) where
   job : JobOf (s .args .t) (s .args .order) place (c .job-at .result)
   job = c .job-at .ensures
 
-  small : c .job-at .result .need ≤ 1000000
+  small : c .job-at .result .need ≤ 1000016
   small = need-fits (s .args .t) (s .args .order) (s .args .times) (s .pre .0) place (omega arith) within (c .job-at .result) job
 
   rows : s .args .t .n ≤ 64

@@ -41,10 +41,10 @@ sheet4 c = sheet3 (c .before)
 abbrev sheet5 : tie.Else5 → List ℕ
 sheet5 c = sheet4 (c .before .before)
 
-long : (c : tie.Else1) → ltb (length (sheet1 c)) 25 ≡ false
+long : (c : tie.Else1) → ltb (length (sheet1 c)) 33 ≡ false
 long c = le-ltb _ _ (c .if1 .left)
 
-headed : (c : tie.Else2) → isLine (sheet2 c) 0 3 ≡ true
+headed : (c : tie.Else2) → isLine (sheet2 c) 0 4 ≡ true
 headed c = sym (c .before .line-ok .ensures) ∙ not-false _ (c .if2 .left)
 
 stated : (c : tie.After-number) → c .number .result ≡ numberAt (sheet2 (c .before)) 0 1
@@ -59,8 +59,8 @@ few c =
     let n = c .before .before .number .result in
     leb-true n 64 (and-right (leb 1 n) (leb n 64) (sym (c .before .count-ok .ensures) ∙ not-false _ (c .if3 .left)))
 
-sized : (c : tie.Else4) → length (sheet4 c) ≡ 25 + 33 * numberAt (sheet4 c) 0 1
-sized c = c .if4 .left ∙ ap (λ (n : ℕ). 25 + 33 * n) (stated (c .before .before .before))
+sized : (c : tie.Else4) → length (sheet4 c) ≡ 33 + 33 * numberAt (sheet4 c) 0 1
+sized c = c .if4 .left ∙ ap (λ (n : ℕ). 33 + 33 * n) (stated (c .before .before .before))
 
 lined : (c : tie.Else5) → linesOk (sheet5 c) (numberAt (sheet5 c) 0 1) ≡ true
 lined c =
@@ -84,7 +84,7 @@ unfolding readOf checkSheet
 returns-2 c = rw (long (c .before .before .before), sym (c .before .before .line-ok .ensures) ∙ not-true _ (c .before .if2 .taken)) (c .refused2 .ensures)
 
 number-requires : tie.Need-number-requires
-number-requires c κs = (omega arith, line-field (sheet2 c) 0 0 3 (headed c) (omega arith))
+number-requires c κs = (omega arith, line-field (sheet2 c) 0 0 4 (headed c) (omega arith))
 
 count-ok-requires : tie.Need-count-ok-requires
 count-ok-requires c κs = search needs
@@ -115,7 +115,7 @@ returns-4 : tie.Need-returns-4
 unfolding readOf checkSheet
 returns-4 c =
     let n = c .before .before .before .before in
-    let other = ne-eqb _ _ (λ e. c .before .if4 .taken (e ∙ ap (λ (n : ℕ). 25 + 33 * n) (sym (stated n)))) in
+    let other = ne-eqb _ _ (λ e. c .before .if4 .taken (e ∙ ap (λ (n : ℕ). 33 + 33 * n) (sym (stated n)))) in
     rw (long (after-length n), headed (n .before), counted (c .before .before), other) (c .refused4 .ensures)
 
 lines-ok-requires : tie.Need-lines-ok-requires

@@ -2,25 +2,29 @@
 -- is the record's. Row 0 leaves the slot idle, and any other row's entries become the definition's; its slots used are at most the clock.
 -- Assumes nothing.
 use Prim.Native.Nat.{_-_, _<_}
-use mathlib.Core.Path.{_≡_, sym}
+use mathlib.Core.Path.{_≡_, sym, _∙_}
 use native.Mathlib.Omega.{arith}
 use borrow.Author.Needs.{needs}
 use Rattle.rules.specs.Slots.{isReady, chosen}
 use Rattle.record.specs.Records.{chosenRow}
-use Rattle.record.specs.Sound.{Serving, serving, order-placed}
-use Rattle.record.specs.Stepping.{next-idle, next-served}
+use Rattle.record.specs.Sound.{speeds, Serving, serving, order-placed}
+use Rattle.record.specs.Stepping.{next-idle, served-from, next-served}
 use Rattle.record.proofs.Run.next.Statement.{statement}
 use Rattle.record.proofs.Run.next.Tie as tie
 
--- the places of the branch that serves a row, each from a later one: the row is known, its work is read, its level is read
+-- the places of the branch that serves a row, each from a later one: the row is known, its work is read, its level is read,
+-- its slots used are read
 abbrev row-known : tie.After-entry → tie.Else1
 row-known c = c .before .before .before
 
 abbrev work-read : tie.After-entry2 → tie.After-entry
 work-read c = c .before .before .before
 
+abbrev used-read : tie.After-before2 → tie.After-entry2
+used-read c = c .before
+
 abbrev level-read : tie.After-closing-slot → tie.After-entry2
-level-read c = c .before .before .before .before
+level-read c = used-read (c .before .before .before)
 
 chosen-row-requires : tie.Need-chosen-row-requires
 chosen-row-requires c κs = let s = c .before .before .before .before in order-placed (s .args .t1) (s .pre .0)
@@ -57,32 +61,41 @@ entry-requires c κs = let f = row-facts (c .before .before) in omega arith
 entry-requires-2 : tie.Need-entry-requires-2
 entry-requires-2 c κs = let f = row-facts (row-known (c .before .before)) in omega arith
 
+mul-before : tie.Need-mul-before
+mul-before c = search needs
+
+element-copy-out-before : tie.Need-element-copy-out-before
+element-copy-out-before c = let f = row-facts (row-known (work-read c)) in omega arith
+
 mul-grown : tie.Need-mul-grown
 mul-grown c = search needs
 
 element-copy-out-grown : tie.Need-element-copy-out-grown
-element-copy-out-grown c = let f = row-facts (row-known (work-read c)) in omega arith
+element-copy-out-grown c = let f = row-facts (row-known (work-read (used-read c))) in omega arith
 
 grown-requires : tie.Need-grown-requires
 grown-requires c κs =
-    let b = work-read (c .before) in
+    let b = work-read (used-read (c .before)) in
     let f = row-facts (row-known b) in
     omega (arith, b .entry .ensures)
 
-mul-used : tie.Need-mul-used
-mul-used c = search needs
-
-element-copy-out-used : tie.Need-element-copy-out-used
-element-copy-out-used c = let f = row-facts (row-known (work-read (c .before .before))) in omega arith
+-- what is known of a row that runs, past the place where its work is grown
+grown-facts : (c : tie.After-grown) → Serving (start (row-known (work-read (used-read (c .before .before))) .before) .args .t1)
+    (row-known (work-read (used-read (c .before .before))) .before .chosen-row .result)
+grown-facts c = row-facts (row-known (work-read (used-read (c .before .before))))
 
 add-used : tie.Need-add-used
 add-used c =
-    let a = row-known (work-read (c .before .before .before)) in
-    let f = row-facts a in
+    let a = row-known (work-read (used-read (c .before .before))) in
+    let f = grown-facts c in
     omega (arith, start (a .before) .pre .1)
 
 closing-slot-requires : tie.Need-closing-slot-requires
-closing-slot-requires c κs = search needs
+closing-slot-requires c κs =
+    let s = start (row-known (work-read (used-read (c .before .before))) .before) in
+    let l = speeds (s .args .t1) (s .pre .0) in
+    let f = grown-facts c in
+    (l .runs, l .fast, omega (arith, s .pre .1))
 
 -- the place after which the row's entries are stored, and the row's index there
 abbrev chosen-at : tie.After-closing-slot → tie.Else1
@@ -113,13 +126,11 @@ returns-2 : tie.Need-returns-2
 returns-2 c =
     let a = chosen-at c in
     let x = start (a .before) .args in
-    rw (
-      c .closing-slot .ensures,
-      c .before .before .grown .ensures,
-      c .before .before .before .before .entry2 .ensures,
-      c .before .before .before .before .before .before .before .entry .ensures,
-    )
-    (sym (next-served (x .t1) (x .supply) (a .before .chosen-row .result) (is-chosen (a .before)) (a .if1 .left)))
+    let b = level-read c in
+    let w = work-read b in
+    served-from (x .t1) (x .supply) (a .before .chosen-row .result) (w .entry .result) (b .entry2 .result) (c .before .grown .result)
+    (c .closing-slot .result) (w .entry .ensures) (b .entry2 .ensures) (c .before .grown .ensures) (c .closing-slot .ensures)
+    ∙ sym (next-served (x .t1) (x .supply) (a .before .chosen-row .result) (is-chosen (a .before)) (a .if1 .left))
 
 pub next-spec : {M : Type 1} → statement M
 next-spec =
@@ -132,11 +143,11 @@ next-spec =
     sub-i
     entry-requires
     entry-requires-2
+    mul-before
+    element-copy-out-before
     mul-grown
     element-copy-out-grown
     grown-requires
-    mul-used
-    element-copy-out-used
     add-used
     closing-slot-requires
     mul-self

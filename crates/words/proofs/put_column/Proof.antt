@@ -5,9 +5,9 @@ use mathlib.Core.Path.{_≡_}
 use native.Mathlib.Omega.{arith}
 use lib.ListN.{length, length-set}
 use lib.Seq.{paste, paste-zero}
-use Rattle.jasminebrace.specs.Copies.{put-turn}
-use Rattle.jasminebrace.proofs.put_column.Statement.{statement}
-use Rattle.jasminebrace.proofs.put_column.Tie as tie
+use Rattle.words.specs.Copies.{put-turn}
+use Rattle.words.proofs.put_column.Statement.{statement}
+use Rattle.words.proofs.put_column.Tie as tie
 
 abbrev Inv-loop : tie.InvT-loop
 Inv-loop words₀ from entries i₀ words i = (i ≤ 64) × (length words ≡ length words₀) × (words ≡ paste words₀ from entries i)

@@ -1,8 +1,8 @@
 -- The table, the clock and the three columns are the record's own.
 use borrow.Author.Needs.{needs}
-use Rattle.jasminebrace.specs.Words.{runIn}
-use Rattle.jasminebrace.proofs.run_in.Statement.{statement}
-use Rattle.jasminebrace.proofs.run_in.Tie as tie
+use Rattle.words.specs.Words.{runIn}
+use Rattle.words.proofs.run_in.Statement.{statement}
+use Rattle.words.proofs.run_in.Tie as tie
 
 table-in-requires : tie.Need-table-in-requires
 table-in-requires c κs = search needs

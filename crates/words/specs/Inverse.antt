@@ -8,7 +8,7 @@ use lib.Seq.{take-all, take-at, drop-at, drop-drop}
 use Rattle.rules.specs.declared.Table.{Table}
 use Rattle.rules.specs.Tables.{FullTable}
 use Rattle.record.specs.declared.Run.{Run}
-use Rattle.jasminebrace.specs.Words.{columnAt, tableIn, wordsOf, runIn, stateWords}
+use Rattle.words.specs.Words.{columnAt, tableIn, wordsOf, runIn, stateWords}
 
 -- ---- columns that stand one after another
 
@@ -34,13 +34,14 @@ drop-three a b d y p q r = sym (drop-drop 64 128 (a ++ (b ++ (d ++ y)))) ∙ ap 
 
 -- ---- tables
 
--- 259 words are the words of the table that they hold
-pub words-of-table-in : (words : List ℕ) → length words ≡ 259 → wordsOf (tableIn words) ≡ words
+-- 260 words are the words of the table that they hold
+pub words-of-table-in : (words : List ℕ) → length words ≡ 260 → wordsOf (tableIn words) ≡ words
 unfolding wordsOf tableIn
 words-of-table-in [] e = absurd (omega arith)
 words-of-table-in (n ∷ []) e = absurd (omega arith)
 words-of-table-in (n ∷ normal ∷ []) e = absurd (omega arith)
-words-of-table-in (n ∷ normal ∷ degraded ∷ l) e = ap (λ (k : List ℕ). n ∷ normal ∷ degraded ∷ k) (four-columns l (omega arith))
+words-of-table-in (n ∷ normal ∷ degraded ∷ []) e = absurd (omega arith)
+words-of-table-in (n ∷ normal ∷ degraded ∷ loading ∷ l) e = ap (λ (k : List ℕ). n ∷ normal ∷ degraded ∷ loading ∷ k) (four-columns l (omega arith))
 
 -- a table is the one that its words hold
 pub table-in-words-of : (t : Table) → FullTable t → tableIn (wordsOf t) ≡ t

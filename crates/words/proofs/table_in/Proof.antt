@@ -1,8 +1,8 @@
--- The three numbers and the four columns are the table's own.
+-- The four numbers and the four columns are the table's own.
 use borrow.Author.Needs.{needs}
-use Rattle.jasminebrace.specs.Words.{tableIn}
-use Rattle.jasminebrace.proofs.table_in.Statement.{statement}
-use Rattle.jasminebrace.proofs.table_in.Tie as tie
+use Rattle.words.specs.Words.{tableIn}
+use Rattle.words.proofs.table_in.Statement.{statement}
+use Rattle.words.proofs.table_in.Tie as tie
 
 element-copy-out-n : tie.Need-element-copy-out-n
 element-copy-out-n c = search needs
@@ -12,6 +12,9 @@ element-copy-out-normal c = search needs
 
 element-copy-out-degraded : tie.Need-element-copy-out-degraded
 element-copy-out-degraded c = search needs
+
+element-copy-out-loading : tie.Need-element-copy-out-loading
+element-copy-out-loading c = search needs
 
 column-requires : tie.Need-column-requires
 column-requires c κs = search needs
@@ -42,6 +45,7 @@ table-in-spec =
     element-copy-out-n
     element-copy-out-normal
     element-copy-out-degraded
+    element-copy-out-loading
     column-requires
     column-requires-2
     column-requires-3

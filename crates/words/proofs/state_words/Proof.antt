@@ -3,9 +3,9 @@ use borrow.Author.Needs.{needs}
 use mathlib.Core.List.{_∷_}
 use mathlib.Core.Path.{_≡_, refl}
 use lib.ListN.{length, replicate}
-use Rattle.jasminebrace.specs.Copies.{state-written}
-use Rattle.jasminebrace.proofs.state_words.Statement.{statement}
-use Rattle.jasminebrace.proofs.state_words.Tie as tie
+use Rattle.words.specs.Copies.{state-written}
+use Rattle.words.proofs.state_words.Statement.{statement}
+use Rattle.words.proofs.state_words.Tie as tie
 
 -- the places of the code, each from a later one: the column got is put, then used
 abbrev start : tie.After-put-column → tie.Start

@@ -4,9 +4,9 @@ use Prim.Native.Nat.{_-_, _≤_}
 use mathlib.Core.Path.{_≡_, refl}
 use native.Mathlib.Omega.{arith}
 use lib.ListN.{length, take, drop, length-set}
-use Rattle.jasminebrace.specs.Copies.{column-turn, column-done}
-use Rattle.jasminebrace.proofs.column.Statement.{statement}
-use Rattle.jasminebrace.proofs.column.Tie as tie
+use Rattle.words.specs.Copies.{column-turn, column-done}
+use Rattle.words.proofs.column.Statement.{statement}
+use Rattle.words.proofs.column.Tie as tie
 
 abbrev Inv-loop : tie.InvT-loop
 Inv-loop words from out₀ i₀ out i = (i ≤ 64) × (length out ≡ 64) × (take i out ≡ take i (drop from words))

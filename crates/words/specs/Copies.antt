@@ -8,7 +8,7 @@ use lib.ListN.{length, getD, take, drop, set, length-drop}
 use lib.Seq.{take-all, take-suc, take-suc-set, getD-drop, paste, paste-suc, take-paste, length-paste}
 use Rattle.rules.specs.declared.Table.{Table}
 use Rattle.record.specs.declared.Run.{Run}
-use Rattle.jasminebrace.specs.Words.{releaseFrom, workFrom, deadlineFrom, levelFrom, gotFrom, usedFrom, closingFrom, wordsOf, stateWords}
+use Rattle.words.specs.Words.{releaseFrom, workFrom, deadlineFrom, levelFrom, gotFrom, usedFrom, closingFrom, wordsOf, stateWords}
 
 -- one entry more is copied out of the words
 pub column-turn : (words out : List ℕ) (from i : ℕ) → i < length out → from + i < length words → take i out ≡ take i (drop from words)
@@ -34,10 +34,10 @@ module _ (words after column : List ℕ) (from : ℕ) (h : from + 64 ≤ length 
   put-length : length after ≡ length words
   put-length = rw e (length-paste words from column 64 h (omega arith))
 
--- the words of a table, written column by column over words that begin with its three numbers
+-- the words of a table, written column by column over words that begin with its four numbers
 pub table-written : (t : Table) (w a b d f : List ℕ)
-    → length w ≡ 259
-    → take releaseFrom w ≡ t .n ∷ t .normal ∷ t .degraded ∷ []
+    → length w ≡ 260
+    → take releaseFrom w ≡ t .n ∷ t .normal ∷ t .degraded ∷ t .loading ∷ []
     → length (t .release) ≡ 64
     → length (t .work) ≡ 64
     → length (t .deadline) ≡ 64
@@ -56,8 +56,8 @@ table-written t w a b d f lw head k₁ k₂ k₃ k₄ p q r s =
     let fa : take workFrom a ≡ take releaseFrom w ++ t .release = put-front w a (t .release) releaseFrom (omega arith) k₁ p in
     let fb : take deadlineFrom b ≡ take workFrom a ++ t .work = put-front a b (t .work) workFrom (omega arith) k₂ q in
     let fd : take levelFrom d ≡ take deadlineFrom b ++ t .deadline = put-front b d (t .deadline) deadlineFrom (omega arith) k₃ r in
-    let ff : take 259 f ≡ take levelFrom d ++ t .level = put-front d f (t .level) levelFrom (omega arith) k₄ s in
-    let whole : f ≡ (((t .n ∷ t .normal ∷ t .degraded ∷ []) ++ t .release) ++ t .work) ++ t .deadline ++ t .level = sym (take-all 259 f (omega arith)) ∙ cc in
+    let ff : take 260 f ≡ take levelFrom d ++ t .level = put-front d f (t .level) levelFrom (omega arith) k₄ s in
+    let whole : f ≡ (((t .n ∷ t .normal ∷ t .degraded ∷ t .loading ∷ []) ++ t .release) ++ t .work) ++ t .deadline ++ t .level = sym (take-all 260 f (omega arith)) ∙ cc in
     whole ∙ simp append-assoc
 
 -- the words of a state, written column by column over words that begin with its clock

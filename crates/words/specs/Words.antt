@@ -1,5 +1,5 @@
--- Tables (rules 1.7, 5.4) and run records (rule 8.1) as the words that a C caller lends.
--- A table is n, N, G (work units per slot), then the columns release, work, deadline, level of 64 entries each: 259 words.
+-- Tables (rules 1.7, 1.10, 5.4) and run records (rule 8.1) as the words that a C caller lends.
+-- A table is n, N, G (work units per slot), K (slots), then the columns release, work, deadline, level of 64 entries each: 260 words.
 -- A run's state is the clock in slots, then the columns got, used, closing of 64 entries each: 193 words (rule 2.13).
 use Prim.Native.Nat.{ℕ, _+_, _*_}
 use mathlib.Core.List.{List, _∷_, _++_}
@@ -7,18 +7,18 @@ use lib.ListN.{getD, take, drop}
 use Rattle.rules.specs.declared.Table.{Table}
 use Rattle.record.specs.declared.Run.{Run}
 
--- where the columns of a table's words begin, after n and the two speeds (rules 1.1, 1.7)
+-- where the columns of a table's words begin, after n, the two speeds and K (rules 1.1, 1.7, 1.10)
 abbrev pub releaseFrom : ℕ
-releaseFrom = 3
+releaseFrom = 4
 
 abbrev pub workFrom : ℕ
-workFrom = 3 + 64
+workFrom = 4 + 64
 
 abbrev pub deadlineFrom : ℕ
-deadlineFrom = 3 + 64 * 2
+deadlineFrom = 4 + 64 * 2
 
 abbrev pub levelFrom : ℕ
-levelFrom = 3 + 64 * 3
+levelFrom = 4 + 64 * 3
 
 -- where the columns of a state's words begin, after the clock (rule 2.13)
 abbrev pub gotFrom : ℕ
@@ -34,22 +34,23 @@ closingFrom = 1 + 64 * 2
 abbrev pub columnAt : ℕ → List ℕ → List ℕ
 columnAt from words = take 64 (drop from words)
 
--- the table that words hold (rules 1.1, 1.7, 5.4)
+-- the table that words hold (rules 1.1, 1.7, 1.10, 5.4)
 unfoldable pub tableIn : List ℕ → Table
 tableIn words =
     record {
       n = getD words 0 0;
       normal = getD words 1 0;
       degraded = getD words 2 0;
+      loading = getD words 3 0;
       release = columnAt releaseFrom words;
       work = columnAt workFrom words;
       deadline = columnAt deadlineFrom words;
       level = columnAt levelFrom words;
     }
 
--- the words of a table (rules 1.1, 1.7, 5.4)
+-- the words of a table (rules 1.1, 1.7, 1.10, 5.4)
 unfoldable pub wordsOf : Table → List ℕ
-wordsOf t = t .n ∷ t .normal ∷ t .degraded ∷ (t .release ++ (t .work ++ (t .deadline ++ t .level)))
+wordsOf t = t .n ∷ t .normal ∷ t .degraded ∷ t .loading ∷ (t .release ++ (t .work ++ (t .deadline ++ t .level)))
 
 -- the run record that the words of a table, an order and the words of a state hold (rule 8.1)
 unfoldable pub runIn : List ℕ → List ℕ → List ℕ → Run

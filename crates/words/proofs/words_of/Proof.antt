@@ -1,11 +1,11 @@
--- The four columns are written one after another behind the three numbers, and so fill all words.
+-- The four columns are written one after another behind the four numbers, and so fill all words.
 use borrow.Author.Needs.{needs}
 use mathlib.Core.List.{_∷_}
 use mathlib.Core.Path.{_≡_, refl}
 use lib.ListN.{length, replicate}
-use Rattle.jasminebrace.specs.Copies.{table-written}
-use Rattle.jasminebrace.proofs.words_of.Statement.{statement}
-use Rattle.jasminebrace.proofs.words_of.Tie as tie
+use Rattle.words.specs.Copies.{table-written}
+use Rattle.words.proofs.words_of.Statement.{statement}
+use Rattle.words.proofs.words_of.Tie as tie
 
 -- the places of the code, each from a later one: the release column is put, then work, then deadline
 abbrev start : tie.After-put-column → tie.Start
@@ -42,6 +42,9 @@ array-write-words-2 c = search needs
 array-write-words-3 : tie.Need-array-write-words-3
 array-write-words-3 c = search needs
 
+array-write-words-4 : tie.Need-array-write-words-4
+array-write-words-4 c = search needs
+
 slice-aggregate-put-column : tie.Need-slice-aggregate-put-column
 slice-aggregate-put-column c = search needs
 
@@ -77,7 +80,7 @@ returns c =
     let two = w .put-column2 in
     let three = d .put-column3 in
     let four = c .before .put-column4 in
-    let words = t .n ∷ t .normal ∷ t .degraded ∷ replicate 256 0 in
+    let words = t .n ∷ t .normal ∷ t .degraded ∷ t .loading ∷ replicate 256 0 in
     table-written t words (one .last .0) (two .last .0) (three .last .0) (four .last .0) refl refl
     (release-full s) (work-full s) (deadline-full s) (level-full s) (one .ensures) (two .ensures) (three .ensures) (four .ensures)
 
@@ -88,6 +91,7 @@ words-of-spec =
     array-write-words
     array-write-words-2
     array-write-words-3
+    array-write-words-4
     slice-aggregate-put-column
     put-column-requires
     slice-aggregate-put-column-2

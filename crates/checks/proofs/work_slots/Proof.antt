@@ -1,0 +1,42 @@
+-- The slots are the quotient where no rest is left, and one more where one is; they are at most the work, so they fit.
+use borrow.Author.Needs.{needs}
+use mathlib.Core.Path.{sym, ap, _∙_}
+use Prim.Native.Nat.{_≤_}
+use native.Mathlib.Omega.{arith}
+use Rattle.rules.specs.Need.{workSlots}
+use Rattle.checks.specs.NeedLaws.{slots-stopped, slots-exact, slots-rest}
+use Rattle.theory.specs.Caps.{slots-most}
+use Rattle.checks.proofs.work_slots.Statement.{statement}
+use Rattle.checks.proofs.work_slots.Tie as tie
+
+returns : tie.Need-returns
+returns c = sym (ap (workSlots (c .before .args .work)) (c .if1 .taken) ∙ slots-stopped (c .before .args .work))
+
+rem-if2 : tie.Need-rem-if2
+rem-if2 c = search needs
+
+div-result : tie.Need-div-result
+div-result c = search needs
+
+div-result-2 : tie.Need-div-result-2
+div-result-2 c = search needs
+
+add-result : tie.Need-add-result
+add-result c =
+    let a = c .before .before .args in
+    let p : 1 ≤ a .speed = omega arith in
+    omega (arith, slots-rest (a .work) (a .speed) p (c .if2 .left), slots-most (a .work) (a .speed) p)
+
+returns-2 : tie.Need-returns-2
+returns-2 c =
+    let a = c .before .before .args in
+    sym (slots-exact (a .work) (a .speed) (omega arith) (c .if2 .taken))
+
+returns-3 : tie.Need-returns-3
+returns-3 c =
+    let a = c .before .before .args in
+    sym (slots-rest (a .work) (a .speed) (omega arith) (c .if2 .left))
+
+pub work-slots-spec : {M : Type 1} → statement M
+work-slots-spec =
+    tie.close (tie.spec returns rem-if2 div-result div-result-2 add-result returns-2 returns-3)

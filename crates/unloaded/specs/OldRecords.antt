@@ -1,0 +1,67 @@
+-- What the rules said of run records before jobs could load. As in Unloaded, K is not looked at.
+use Prim.Native.Nat.{ℕ, _+_}
+use mathlib.Core.Bool.{Bool, cond, not, _&&_}
+use mathlib.Core.List.{List, [], _∷_}
+use lib.Dec.{eqb, ltb, leb}
+use Rattle.rules.specs.declared.Table.{Table}
+use Rattle.rules.specs.declared.Refusal.the-variants as Refusals
+use Rattle.rules.specs.Calls.{lastClock}
+use Rattle.rules.specs.Lists.{all}
+use Rattle.rules.specs.Rows.{at, rowsOf, workOf}
+use Rattle.rules.specs.Tables.{passed}
+use Rattle.record.specs.declared.Run.{Run}
+use Rattle.record.specs.declared.FreshRun.{FreshRun}
+use Rattle.record.specs.declared.SlotAnswer.{SlotAnswer}
+use Rattle.record.specs.declared.SlotAnswer.the-variants as Slots
+use Rattle.record.specs.declared.Stepped.{Stepped}
+use Rattle.record.specs.declared.ForwardAnswer.the-variants as Forwards
+use Rattle.record.specs.declared.Forwarded.{Forwarded}
+use Rattle.record.specs.Records.{stateOf, recordOf, tailSound, freshChecked, chosenRow}
+use Rattle.unloaded.specs.Unloaded as Then
+
+-- check 9
+unfoldable pub rowSound : Run → ℕ → Bool
+rowSound r i =
+    leb (at (r .got) i) (workOf (r .table) i)
+    && leb (at (r .used) i) (r .clock)
+    && leb (at (r .closing) i) (r .clock)
+    && cond (eqb (at (r .closing) i) 0)
+    (not (Then.isOver (r .table) i (at (r .got) i) (at (r .used) i)))
+    (Then.isOver (r .table) i (at (r .got) i) (at (r .used) i))
+
+unfoldable pub isSound : Run → Bool
+isSound r =
+    passed (Then.checkBoth (r .table) (r .order))
+    && leb (r .clock) lastClock
+    && all (rowSound r) (rowsOf (r .table))
+    && tailSound r
+
+-- the fresh record
+unfoldable pub freshOf : Table → List ℕ → FreshRun
+freshOf t o = freshChecked (Then.checkBoth t o) t o
+
+-- the record after one slot of supply v, in work units
+unfoldable pub nextRun : Run → ℕ → Run
+nextRun r v = recordOf (r .table) (r .order) (Then.slot (r .table) (r .order) v (stateOf r))
+
+-- the coming slot, one slot, and forward
+unfoldable pub comingSlot : Run → SlotAnswer
+comingSlot r =
+    cond (isSound r)
+    (cond (ltb (r .clock) lastClock) (Slots.Worked (chosenRow r)) (Slots.Refused Refusals.ClockOver))
+    (Slots.Refused Refusals.Unsound)
+
+unfoldable pub oneSlot : Run → ℕ → Stepped
+oneSlot r v =
+    cond (isSound r)
+    (cond (ltb (r .clock) lastClock)
+    (record { answer = Slots.Worked (chosenRow r); run = nextRun r v })
+    (record { answer = Slots.Refused Refusals.ClockOver; run = r }))
+    (record { answer = Slots.Refused Refusals.Unsound; run = r })
+
+unfoldable pub workOn : ℕ → List ℕ → Run → Forwarded
+workOn k [] r = record { answer = Forwards.Worked k; run = r }
+workOn k (v ∷ vs) r = cond (ltb (r .clock) lastClock) (workOn (k + 1) vs (nextRun r v)) (record { answer = Forwards.ClockOver k; run = r })
+
+unfoldable pub forwardOver : Run → List ℕ → Forwarded
+forwardOver r vs = cond (isSound r) (workOn 0 vs r) (record { answer = Forwards.Refused Refusals.Unsound; run = r })
