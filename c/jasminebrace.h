@@ -39,16 +39,16 @@
  *     jb_read          5,632
  *     jb_write         3,584
  *     jb_field           512
- *     jb_plan          8,448
- *     jb_judge         6,656
- *     jb_judge_rows    8,448
- *     jb_finishes      5,632
- *     jb_report        6,400
+ *     jb_plan          7,168
+ *     jb_judge         8,192
+ *     jb_judge_rows    9,984
+ *     jb_finishes      7,168
+ *     jb_report        7,936
  *     jb_fresh         4,096
  *     jb_coming        9,216
  *     jb_slot          9,984
  *     jb_forward      11,008
- *     jb_program      12,800
+ *     jb_program      11,520
  *     jb_version         512
  * The functions of the last part add the few words of their own frame.
  *

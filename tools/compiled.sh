@@ -38,6 +38,9 @@ declared=$(sed -n 's/^uint[0-9]*_t \(jb_[a-z_]*\)(.*/\1/p' c/jasminebrace.h | so
 [ "$exported" = "$declared" ] || { echo "the archive exports '$exported', the header declares '$declared'"; exit 1; }
 echo "header: as C, as C++ and freestanding; the archive needs $needed"
 
+# What is called every slot divides nothing.
+python3 tools/divisions.py "$archive"
+
 # The example against the model's run on paper: same text, same exit status.
 # Supplies are in work units per slot; none means that every slot supplies N.
 gcc -std=c11 "${warned[@]}" -O2 -o "$built/example" c/example.c "$archive"

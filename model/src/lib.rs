@@ -8,9 +8,9 @@
 //! exception is `plain`, which finds worst finishes by one sweep: the tests of the
 //! compiled library compare it with the other modules, and none of them uses it.
 //!
-//! Units: clocks, releases, deadlines, needs, finishes, slacks and closing
-//! slots are in slots; work is in work units; speeds and supplies are in work
-//! units per slot. Rows and places count from 1; row 0 means "no row".
+//! Units: clocks, releases, deadlines, loading times, needs, finishes, slacks and
+//! closing slots are in slots; work is in work units; speeds and supplies are in
+//! work units per slot. Rows and places count from 1; row 0 means "no row".
 //!
 //! | module    | states                                                       |
 //! |-----------|--------------------------------------------------------------|
