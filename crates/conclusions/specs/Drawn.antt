@@ -1,5 +1,5 @@
 -- A list of calls over the words is the list of calls on records that the claim speaks of, and so the pen engineer's conclusion follows from it.
-use Prim.Native.Nat.{ℕ, _+_, _≤_, _<_}
+use Prim.Native.Nat.{ℕ, _+_, _≤_}
 use mathlib.Core.Bool.{true}
 use mathlib.Core.Logic.{inl}
 use mathlib.Core.List.{List, [], _∷_}
@@ -8,7 +8,7 @@ use native.Mathlib.Omega.{arith}
 use lib.Dec.{ltb}
 use lib.ListN.{length, getD}
 use Rattle.rules.specs.declared.Table.{Table}
-use Rattle.rules.specs.Calls.{lastClock, Call, one, forward, supplyAt}
+use Rattle.rules.specs.Calls.{lastClock, Call, one, forward}
 use Rattle.rules.specs.Meaning.{Serves}
 use Rattle.rules.specs.Orders.{isOrder}
 use Rattle.rules.specs.Rows.{at}
@@ -25,13 +25,13 @@ use Rattle.record.specs.Kept.{Sized, sized-kept}
 use Rattle.record.specs.Records.{freshRun, freshOf, isSound, nextRun, oneSlot, workOn, forwardOver}
 use Rattle.guarantee.specs.Claim.{RunRight, Claim}
 use Rattle.guarantee.specs.Concluded.{Supplied, Done, Deadlines, concluded}
-use Rattle.guarantee.specs.Playing.{AllMade, make, makeAll}
+use Rattle.guarantee.specs.Playing.{make, makeAll}
 use Rattle.guarantee.specs.Proved.{demand-3}
 use Rattle.words.specs.Inverse.{words-of-table-in}
 use Rattle.words.specs.Words.{tableIn, wordsOf, runIn, stateWords}
 use Rattle.conclusions.specs.declared.Drawing.{Drawing}
-use Rattle.conclusions.specs.Conclusions.{CallTold, callWords, ListTold, listWords, SuppliedIn, KeptWords, startOf, PenEngineer, told, Drawn}
-use Rattle.conclusions.specs.Entries.{TableWords, table-words, StateWords, state-words}
+use Rattle.conclusions.specs.Conclusions.{callWords, ListTold, listWords, SuppliedIn, KeptWords, startOf, PenEngineer, told, Drawn}
+use Rattle.conclusions.specs.Entries.{table-words, StateWords, state-words}
 use Rattle.conclusions.specs.Firmware.{held}
 use Rattle.conclusions.specs.Forwarded.{clock-word}
 use Rattle.conclusions.specs.Planned.{planned}

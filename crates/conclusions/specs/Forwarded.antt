@@ -13,7 +13,6 @@ use Rattle.rules.specs.Numbers.{refusalNumber}
 use Rattle.theory.specs.Tests.{by-bool, not-both}
 use Rattle.record.specs.declared.Run.{Run}
 use Rattle.record.specs.declared.Forwarded.{Forwarded}
-use Rattle.record.specs.declared.ForwardAnswer.{ForwardAnswer}
 use Rattle.record.specs.declared.ForwardAnswer.the-variants.{Worked, ClockOver}
 use Rattle.record.specs.Answers.{forwardSaid}
 use Rattle.record.specs.Kept.{Sized, sized-kept, sound-kept}

@@ -1,7 +1,7 @@
 -- A field as the reader walks it, byte by byte.
 use Prim.Native.Nat.{ℕ, zero, suc, _+_, _-_, _*_, _≤_, _<_}
 use mathlib.Core.Bool.{true, false}
-use mathlib.Core.List.{List, [], _∷_}
+use mathlib.Core.List.{List, [], _∷_, _++_}
 use mathlib.Core.Path.{_≡_, refl, _∙_}
 use native.Mathlib.Nat.{mul-le-mul-right}
 use native.Mathlib.Numerals.{add-one}
@@ -9,7 +9,7 @@ use native.Mathlib.Omega.{arith}
 use lib.Dec.{leb}
 use lib.ListN.{length, getD, drop, length-take, length-drop}
 use borrow.Author.Tests.{leb-true}
-use lib.Seq.{drop-cons, getD-take, getD-drop}
+use lib.Seq.{drop-cons, getD-take, getD-drop, take-append-le, drop-append-le}
 use Rattle.rules.specs.Fields.{weights, digitOf, fieldAt}
 use Rattle.rules.specs.Lists.{all}
 use Rattle.theory.specs.Tests.{and-left, and-right}
@@ -19,6 +19,11 @@ use Rattle.fields.specs.Scan.{stands, scan, fieldIn, scan-field, digit-l
 
 field-long : (bytes : List ℕ) (start : ℕ) → start + 8 ≤ length bytes → length (fieldAt bytes start) ≡ 8
 field-long bytes start h = simp (length-take, length-drop) (omega arith)
+
+-- a field that lies within the first bytes does not depend on those after them
+pub field-within : (a r : List ℕ) (start : ℕ) → start + 8 ≤ length a → fieldAt (a ++ r) start ≡ fieldAt a start
+field-within a r start h =
+    rw (drop-append-le start a r (omega arith)) (take-append-le 8 (drop start a) r (omega (arith, length-drop start a)))
 
 pub field-byte : (bytes : List ℕ) (start i : ℕ) → i < 8 → getD (fieldAt bytes start) i 0 ≡ getD bytes (start + i) 0
 field-byte bytes start i h = getD-take 8 (drop start bytes) i 0 h ∙ getD-drop start bytes i 0

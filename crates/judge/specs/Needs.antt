@@ -1,13 +1,14 @@
 -- The caps at supplies of at least N are the rows' needs at N, for LO rows as for HI rows.
 use Prim.Native.Nat.{ℕ}
 use mathlib.Core.Bool.{Bool, true, false, cond}
-use mathlib.Core.Path.{_≡_, refl, ap, ap₂}
-use mathlib.Core.List.{List, [], _∷_, map}
+use mathlib.Core.Path.{_≡_, refl, ap}
+use mathlib.Core.List.{map}
 use lib.Dec.{eqb}
 use Rattle.rules.specs.declared.Table.{Table}
 use Rattle.rules.specs.Lists.{rowsTo}
 use Rattle.rules.specs.Rows.{at, needOf}
 use Rattle.rules.specs.Choice.{padded}
+use Rattle.theory.specs.Agree.{map-agree}
 use Rattle.sweep.specs.CapColumn.{needAt}
 
 either : (b : Bool) (x : ℕ) → cond b x x ≡ x
@@ -17,10 +18,6 @@ either false x = refl
 need-at : (t : Table) (i : ℕ) → needAt t (t .normal) (t .normal) i ≡ needOf t i
 unfolding needAt
 need-at t i = either (eqb (at (t .level) i) 0) (needOf t i)
-
-map-agree : (f g : ℕ → ℕ) → ((x : ℕ) → f x ≡ g x) → (l : List ℕ) → map f l ≡ map g l
-map-agree f g h [] = refl
-map-agree f g h (x ∷ l) = ap₂ (λ (y : ℕ) (m : List ℕ). y ∷ m) (h x) (map-agree f g h l)
 
 pub needs-column : (t : Table) (n : ℕ) → padded (map (needAt t (t .normal) (t .normal)) (rowsTo n)) ≡ padded (map (needOf t) (rowsTo n))
 needs-column t n = ap padded (map-agree (needAt t (t .normal) (t .normal)) (needOf t) (need-at t) (rowsTo n))

@@ -7,22 +7,17 @@ use mathlib.Core.List.{List, _++_}
 use native.Mathlib.Omega.{arith}
 use borrow.Author.Tests.{le-ltb, leb-true, ne-eqb}
 use lib.Dec.{leb}
-use lib.ListN.{length, take, drop, length-drop, take-append-drop, List·getD-append}
-use lib.Seq.{take-all, take-append-le, drop-append-le, length-take-le}
+use lib.ListN.{length, take, drop, take-append-drop, List·getD-append}
+use lib.Seq.{take-all, length-take-le}
 use Rattle.rules.specs.declared.Table.{Table}
 use Rattle.rules.specs.declared.Refusal.the-variants.{Length, Malformed, RowCount}
 use Rattle.rules.specs.declared.Check.{Check}
 use Rattle.rules.specs.declared.Check.the-variants.{Refused}
-use Rattle.rules.specs.Fields.{fieldAt}
 use Rattle.rules.specs.Tables.{countOk}
 use Rattle.rules.specs.Sheets.{isLine, numberAt, tableIn, checkSheet, readChecked, readOf}
 use Rattle.rules.specs.Program.{readText, programText}
 use Rattle.theory.specs.Tests.{by-bool, by-leb, and-right}
-
--- a field that lies within the first bytes
-field-within : (xs ys : List ℕ) (start : ℕ) → start + 8 ≤ length xs → fieldAt (xs ++ ys) start ≡ fieldAt xs start
-field-within xs ys start h =
-    rw (drop-append-le start xs ys (omega arith)) (take-append-le 8 (drop start xs) ys (omega (arith, length-drop start xs)))
+use Rattle.fields.specs.Bytes.{field-within}
 
 module _ (xs ys : List ℕ) (h : 33 ≤ length xs) where
   first-line : isLine (xs ++ ys) 0 4 ≡ isLine xs 0 4

@@ -18,3 +18,4 @@ pub mod Finishes
 pub mod Verdict
 pub mod Choosing
 pub mod Results
+pub mod Agree

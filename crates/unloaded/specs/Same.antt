@@ -1,41 +1,31 @@
 -- A table with K = 0: need, step, run, calls, correct orders, worst finish, the planner's answer and the verdict are those of the rules without
 -- loading.
-use Prim.Native.Nat.{ℕ, zero, suc, _+_, _≤_, min}
-use mathlib.Core.Bool.{Bool, true, cond}
+use Prim.Native.Nat.{ℕ, zero, suc, _+_, min}
+use mathlib.Core.Bool.{cond}
 use mathlib.Core.List.{List, [], _∷_}
-use mathlib.Core.Path.{_≡_, refl, sym, ap, ap₂, subst, _∙_}
-use mathlib.Core.Logic.{_↔_}
+use mathlib.Core.Path.{_≡_, refl, sym, ap, subst, _∙_}
 use native.Mathlib.Omega.{arith}
-use lib.Dec.{eqb, ltb, leb}
-use lib.IntN.{pos}
 use lib.Signed.{ltZ}
 use Rattle.rules.specs.declared.Table.{Table}
 use Rattle.rules.specs.declared.Check.{Check}
 use Rattle.rules.specs.declared.Check.the-variants.{Passed, Refused}
-use Rattle.rules.specs.Calls.{lastClock, Call, one, forward, AllTold, Told, tellOne, tellForward, tell, tellAll}
+use Rattle.rules.specs.Calls.{Call, one, forward, tellOne, tellForward, tell, tellAll}
 use Rattle.rules.specs.Choice as Rules
-use Rattle.rules.specs.Choice.{Choice, passes, taker, fill, choice, planOf, sequence}
+use Rattle.rules.specs.Choice.{passes, taker, fill, choice, planOf, sequence}
 use Rattle.rules.specs.Correct.{KeptIn, Correct}
 use Rattle.rules.specs.Judge.{leastSlack, tightest, judgeChecked, judgeOf}
-use Rattle.rules.specs.Lists.{all, first, erase, sum}
+use Rattle.rules.specs.Lists.{erase}
 use Rattle.rules.specs.Need.{workSlots, need}
 use Rattle.rules.specs.Orders.{checkBoth}
-use Rattle.rules.specs.Rows.{at, rowsOf, workOf, deadlineOf, needFor, isRow, isHigh}
-use Rattle.rules.specs.Slots.{State, chosen, allowance, isOver, brought, serve, slot, after}
+use Rattle.rules.specs.Rows.{at, rowsOf, workOf, deadlineOf, needFor}
+use Rattle.rules.specs.Slots.{State, chosen, isOver, brought, serve, slot, after}
 use Rattle.rules.specs.Tables.{checkTable}
 use Rattle.rules.specs.Worst.{worstSpeed, horizon, worstFinish, slack, meets}
+use Rattle.theory.specs.Agree.{first-agree}
 use Rattle.theory.specs.Cells.{brought-all}
+use Rattle.theory.specs.Counts.{sum-eq}
 use Rattle.unloaded.specs.Unloaded as Then
 use Rattle.unloaded.specs.Unloaded.{CorrectThen}
-
--- what is chosen or added up by functions that agree is the same
-first-same : (p q : ℕ → Bool) → ((x : ℕ) → p x ≡ q x) → (l : List ℕ) → first p l ≡ first q l
-first-same p q h [] = refl
-first-same p q h (x ∷ l) = rw (h x, first-same p q h l)
-
-pub sum-same : (f g : ℕ → ℕ) → ((x : ℕ) → f x ≡ g x) → (l : List ℕ) → sum f l ≡ sum g l
-sum-same f g h [] = refl
-sum-same f g h (x ∷ l) = rw (h x, sum-same f g h l)
 
 -- the need of a job that loads in no slot (rules 1.8, 1.10)
 pub need-same : (c s : ℕ) → need 0 c s ≡ Then.need c s
@@ -107,7 +97,7 @@ module _ (t : Table) (none : t .loading ≡ 0) where
   -- worst finish and slack (rules 3.6, 3.7)
   horizon-same : (s : ℕ) → horizon t s ≡ Then.horizon t s
   unfolding horizon Then.horizon
-  horizon-same s = rw (sum-same (needFor t s) (λ i. Then.need (workOf t i) s) (need-at-same s) (rowsOf t))
+  horizon-same s = rw (sum-eq (needFor t s) (λ i. Then.need (workOf t i) s) (rowsOf t) (λ i _. need-at-same s i))
 
   pub finish-same : (o : List ℕ) (i : ℕ) → worstFinish t o i ≡ Then.worstFinish t o i
   unfolding worstFinish Then.worstFinish
@@ -133,7 +123,7 @@ module _ (t : Table) (none : t .loading ≡ 0) where
 
   taker-same : (left : List ℕ) → taker t left ≡ Then.taker t left
   unfolding taker Then.taker
-  taker-same left = first-same (passes t left) (Then.passes t left) (passes-same left) left
+  taker-same left = first-agree (passes t left) (Then.passes t left) (passes-same left) left
 
   fill-same : (k : ℕ) (left placed : List ℕ) → fill t k left placed ≡ Then.fill t k left placed
   unfolding fill Then.fill

@@ -1,19 +1,14 @@
 -- A record of a table with K = 0, sound or not, is answered as by the rules without loading: check 9, fresh record, coming slot, one slot, forward.
 use Prim.Native.Nat.{ℕ, _+_}
-use mathlib.Core.Bool.{Bool}
 use mathlib.Core.List.{List, [], _∷_}
 use mathlib.Core.Path.{_≡_, refl}
 use Rattle.rules.specs.declared.Table.{Table}
-use Rattle.rules.specs.Lists.{all}
 use Rattle.rules.specs.Rows.{at, rowsOf}
 use Rattle.record.specs.declared.Run.{Run}
 use Rattle.record.specs.Records.{stateOf, rowSound, isSound, freshOf, nextRun, comingSlot, oneSlot, workOn, forwardOver}
+use Rattle.theory.specs.Agree.{all-agree}
 use Rattle.unloaded.specs.OldRecords as Then
 use Rattle.unloaded.specs.Same.{over-same, slot-same, both-same}
-
-pub all-same : (p q : ℕ → Bool) → ((x : ℕ) → p x ≡ q x) → (l : List ℕ) → all p l ≡ all q l
-all-same p q h [] = refl
-all-same p q h (x ∷ l) = rw (h x, all-same p q h l)
 
 pub fresh-same : (t : Table) → t .loading ≡ 0 → (o : List ℕ) → freshOf t o ≡ Then.freshOf t o
 unfolding freshOf Then.freshOf
@@ -26,7 +21,7 @@ module _ (r : Run) (none : r .table .loading ≡ 0) where
 
   pub sound-same : isSound r ≡ Then.isSound r
   unfolding isSound Then.isSound
-  sound-same = rw (both-same (r .table) none (r .order), all-same (rowSound r) (Then.rowSound r) row-same (rowsOf (r .table)))
+  sound-same = rw (both-same (r .table) none (r .order), all-agree (rowSound r) (Then.rowSound r) row-same (rowsOf (r .table)))
 
   pub next-same : (v : ℕ) → nextRun r v ≡ Then.nextRun r v
   unfolding nextRun Then.nextRun

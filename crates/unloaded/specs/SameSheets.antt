@@ -1,35 +1,30 @@
 -- Old sheets. Whatever the bytes, with the field of K = 0 added they are answered as the old reader answered them without it; bytes that the
 -- old reader accepted are answered 2; and the sheet of a table with K = 0 is its old sheet with that field, 8 bytes longer.
 use Prim.Native.Nat.{ℕ, _+_, _-_, _*_, _/_, _%_, _≤_, _<_}
-use mathlib.Core.Bool.{Bool, true, false, cond, _&&_, _||_, true≢false}
-use mathlib.Core.Path.{_≡_, refl, sym, ap, ap₂, subst, _∙_}
-use mathlib.Core.List.{List, [], _∷_, _++_, map, append-assoc}
+use mathlib.Core.Bool.{Bool, true, false, _||_, true≢false}
+use mathlib.Core.Path.{_≡_, refl, sym, ap, subst, _∙_}
+use mathlib.Core.List.{List, [], _∷_, _++_, append-assoc}
 use native.Mathlib.Omega.{arith}
 use lib.Dec.{eqb, ltb, leb}
-use lib.ListN.{length, getD, take, drop, replicate, length-append, length-take, length-drop, take-append-drop}
-use lib.Seq.{take-at, drop-at, take-append-le, drop-append-le, length-take-le, drop-drop, getD-drop, drop-cons, drop-nil}
-use borrow.Author.Tests.{lt-ltb, le-ltb, le-leb, leb-true, eqb-true, eq-eqb, ne-eqb}
+use lib.ListN.{length, getD, take, drop, length-append, length-take, length-drop, take-append-drop}
+use lib.Seq.{take-at, drop-at, length-take-le, drop-drop, getD-drop, drop-cons}
+use borrow.Author.Tests.{lt-ltb, le-ltb, leb-true, eqb-true, eq-eqb, ne-eqb}
 use Rattle.rules.specs.declared.Table.{Table}
-use Rattle.rules.specs.declared.Refusal.the-variants.{Length, Malformed, RowCount}
-use Rattle.rules.specs.declared.Check.{Check}
+use Rattle.rules.specs.declared.Refusal.the-variants.{Malformed}
 use Rattle.rules.specs.declared.Check.the-variants.{Passed, Refused}
 use Rattle.rules.specs.Fields.{digitAt, digitOf, written, line, valueOf, isField, fieldAt}
-use Rattle.rules.specs.Lists.{all, rowsTo, same, joined}
+use Rattle.rules.specs.Lists.{all, rowsTo, joined}
 use Rattle.rules.specs.Rows.{rowsOf}
-use Rattle.rules.specs.Sheets.{isLine, numberAt, lineOf, columnOf, tableIn, checkSheet, readChecked, readOf, rowLine, sheetOf}
+use Rattle.rules.specs.Sheets.{isLine, numberAt, lineOf, columnOf, tableIn, checkSheet, readOf, rowLine, sheetOf}
 use Rattle.rules.specs.Tables.{countOk, zeroTable}
+use Rattle.theory.specs.Agree.{map-agree, all-agree}
 use Rattle.theory.specs.Tests.{by-bool, by-ltb, by-eqb, and-left, and-right}
 use Rattle.theory.specs.Facts.{all-in, clash}
+use Rattle.fields.specs.Bytes.{field-within}
 use Rattle.fields.specs.Lengths.{written-long}
 use Rattle.unloaded.specs.OldSheets as Old
 use Rattle.unloaded.specs.OldSheets.{withField}
 use Rattle.unloaded.specs.Same.{check-same}
-use Rattle.unloaded.specs.SameRecords.{all-same}
-
--- a field that lies within the first bytes
-field-within : (a r : List ℕ) (start : ℕ) → start + 8 ≤ length a → fieldAt (a ++ r) start ≡ fieldAt a start
-field-within a r start h =
-    rw (drop-append-le start a r (omega arith)) (take-append-le 8 (drop start a) r (omega (arith, length-drop start a)))
 
 -- the field of 0: it is well formed, and its number is 0
 zero-field : isField (written 0) ≡ true
@@ -39,10 +34,6 @@ zero-field = refl
 zero-value : valueOf (written 0) ≡ 0
 unfolding valueOf written digitAt digitOf
 zero-value = refl
-
-map-same : (f g : ℕ → ℕ) → ((x : ℕ) → f x ≡ g x) → (l : List ℕ) → map f l ≡ map g l
-map-same f g h [] = refl
-map-same f g h (x ∷ l) = ap₂ (λ (y : ℕ) (m : List ℕ). y ∷ m) (h x) (map-same f g h l)
 
 -- a are the three fields of the first line, r all bytes after them
 module _ (a r : List ℕ) (head : length a ≡ 24) where
@@ -93,7 +84,7 @@ module _ (a r : List ℕ) (head : length a ≡ 24) where
         p,
         q,
         byte-moved (1 + m + 8 * k),
-        all-same (λ j. isField (fieldAt now (33 + m + 8 * (j - 1)))) (λ j. isField (fieldAt was (25 + m + 8 * (j - 1)))) each (rowsTo k),
+        all-agree (λ j. isField (fieldAt now (33 + m + 8 * (j - 1)))) (λ j. isField (fieldAt was (25 + m + 8 * (j - 1)))) each (rowsTo k),
       )
     where
       each : (j : ℕ) → isField (fieldAt now (33 + m + 8 * (j - 1))) ≡ isField (fieldAt was (25 + m + 8 * (j - 1)))
@@ -128,7 +119,7 @@ module _ (a r : List ℕ) (head : length a ≡ 24) where
   column-same : (n j : ℕ) → columnOf now n j ≡ Old.columnOf was n j
   unfolding columnOf Old.columnOf
   column-same n j =
-      rw (map-same (λ i. numberAt now (lineOf i) j) (λ i. numberAt was (Old.lineOf i) j) (λ i. number-moved (33 * (i - 1)) j) (rowsTo n))
+      rw (map-agree (λ i. numberAt now (lineOf i) j) (λ i. numberAt was (Old.lineOf i) j) (λ i. number-moved (33 * (i - 1)) j) (rowsTo n))
 
   table-same : tableIn now ≡ Old.tableIn was
   unfolding tableIn Old.tableIn numberAt
@@ -170,7 +161,7 @@ module _ (a r : List ℕ) (head : length a ≡ 24) where
         first-same,
         count-same,
         long-same (numberAt was 0 1),
-        all-same (λ i. isLine now (lineOf i) 4) (λ i. isLine was (Old.lineOf i) 4) (λ i. line-moved (33 * (i - 1)) 4) (rowsTo (numberAt was 0 1)),
+        all-agree (λ i. isLine now (lineOf i) 4) (λ i. isLine was (Old.lineOf i) 4) (λ i. line-moved (33 * (i - 1)) 4) (rowsTo (numberAt was 0 1)),
         table-same,
         check-same (Old.tableIn was) none-was,
       )

@@ -1,30 +1,27 @@
 -- A table with K = 0 has the report, and the program's text, of the rules without loading.
 use Prim.Native.Nat.{ℕ}
-use mathlib.Core.List.{List, [], _∷_, _++_}
-use mathlib.Core.Path.{_≡_, refl, ap, _∙_}
-use lib.ListN.{length}
+use mathlib.Core.List.{List}
+use mathlib.Core.Path.{_≡_, refl, ap}
 use Rattle.rules.specs.declared.Table.{Table}
 use Rattle.rules.specs.declared.Check.{Check}
 use Rattle.rules.specs.declared.Check.the-variants.{Passed, Refused}
 use Rattle.rules.specs.declared.Planned.{Planned}
 use Rattle.rules.specs.declared.Planned.the-variants as Plans
-use Rattle.rules.specs.Lists.{rowsTo, joined}
+use Rattle.rules.specs.Lists.{rowsTo}
 use Rattle.rules.specs.Program.{placeLine, planText, readText}
 use Rattle.rules.specs.Reports.{isLate, jobLine, needsOf, lateRows, lastLine, reportText, checkReport, reportOf}
 use Rattle.rules.specs.Rows.{at, rowsOf, needOf}
 use Rattle.rules.specs.Sheets as Rules
 use Rattle.rules.specs.Sheets.{readOf}
 use Rattle.rules.specs.Worst.{slack}
+use Rattle.theory.specs.Agree.{joined-agree}
+use Rattle.theory.specs.Counts.{sum-eq}
 use Rattle.unloaded.specs.OldSheets.{withField}
 use Rattle.unloaded.specs.OldSheets as Old
 use Rattle.unloaded.specs.OldTexts as Texts
-use Rattle.unloaded.specs.Same.{sum-same, need-at-same, finish-same, slack-same, both-same, plan-same}
+use Rattle.unloaded.specs.Same.{need-at-same, finish-same, slack-same, both-same, plan-same}
 use Rattle.unloaded.specs.SameSheets.{read-same}
 use Rattle.unloaded.specs.Unloaded as Then
-
-joined-same : (f g : ℕ → List ℕ) → ((x : ℕ) → f x ≡ g x) → (l : List ℕ) → joined f l ≡ joined g l
-joined-same f g h [] = refl
-joined-same f g h (x ∷ l) = rw (h x, joined-same f g h l)
 
 module _ (t : Table) (none : t .loading ≡ 0) where
   -- the report (section 16 of the rules)
@@ -36,13 +33,13 @@ module _ (t : Table) (none : t .loading ≡ 0) where
   unfolding lastLine needsOf lateRows Texts.lastLine
   last-same o =
       rw (
-        sum-same (needOf t) (Then.allowance t) (need-at-same t none (t .normal)) (rowsOf t),
-        sum-same (λ i. isLate (slack t o i)) (λ i. isLate (Then.slack t o i)) (λ i. ap isLate (slack-same t none o i)) (rowsOf t),
+        sum-eq (needOf t) (Then.allowance t) (rowsOf t) (λ i _. need-at-same t none (t .normal) i),
+        sum-eq (λ i. isLate (slack t o i)) (λ i. isLate (Then.slack t o i)) (rowsOf t) (λ i _. ap isLate (slack-same t none o i)),
       )
 
   text-same : (o : List ℕ) → reportText t o ≡ Texts.reportText t o
   unfolding reportText Texts.reportText
-  text-same o = rw (joined-same (jobLine t o) (Texts.jobLine t o) (job-same o) (rowsTo (t .n)), last-same o)
+  text-same o = rw (joined-agree (jobLine t o) (Texts.jobLine t o) (job-same o) (rowsTo (t .n)), last-same o)
 
   pub report-same : (o lent : List ℕ) → reportOf t o lent ≡ Texts.reportOf t o lent
   unfolding reportOf checkReport Texts.reportOf
@@ -54,7 +51,7 @@ module _ (t : Table) (none : t .loading ≡ 0) where
   place-same o k = rw (finish-same t none o (at o k))
 
   plan-text-same : (o : List ℕ) (p : Planned) → planText t o p ≡ Texts.planText t o p
-  plan-text-same o Plans.Ordered = rw (joined-same (placeLine t o) (Texts.placeLine t o) (place-same o) (rowsTo (t .n)))
+  plan-text-same o Plans.Ordered = rw (joined-agree (placeLine t o) (Texts.placeLine t o) (place-same o) (rowsTo (t .n)))
   plan-text-same o (Plans.NoOrder left) = refl
   plan-text-same o (Plans.Refused r) = refl
 

@@ -1,6 +1,5 @@
 -- The sum fits: at most 16 slots of loading and a slot for each work unit.
 use borrow.Author.Needs.{needs}
-use mathlib.Core.Path.{_≡_, ap, _∙_}
 use native.Mathlib.Omega.{arith}
 use Rattle.checks.specs.NeedLaws.{slots-fit}
 use Rattle.checks.proofs.need.Statement.{statement}

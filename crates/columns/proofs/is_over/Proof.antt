@@ -1,5 +1,4 @@
 -- `columns::is_over` meets its contract: each way through its tests is one case of the definition. Assumes nothing.
-use borrow.Author.Needs.{needs}
 use borrow.Author.Tests.{eq-eqb, ne-eqb}
 use Rattle.columns.specs.Figures.{over}
 use Rattle.columns.proofs.is_over.Statement.{statement}

@@ -1,5 +1,4 @@
 -- `columns::need_used` meets its contract: a row that loads has slots left, and after that the product decides. The product fits.
-use borrow.Author.Needs.{needs}
 use mathlib.Core.Path.{sym}
 use Rattle.columns.specs.Products.{need-loading, need-product, product-fits}
 use Rattle.columns.proofs.need_used.Statement.{statement}

@@ -29,7 +29,7 @@ use denote.Ref.{RefT, ShrRef, ptr-vals, shr-tells}
 use denote.Slice.{sliceVal, ShrSlice, Room, slice-vals, shr-slice-tells}
 use denote.Signature.{plain, shrSliceOf, shrRefTo}
 use denote.Signature.Array.{arrayOf}
-use denote.Steps.{only, looks, shuts, owned, peeks, heard, nothing}
+use denote.Steps.{looks, shuts, owned, peeks, heard, nothing}
 use denote.Struct.Steps.{spelt}
 use denote.Enum.Laws as EL
 use denote.Triple.Statement.{Contract, Triple}

@@ -4,7 +4,6 @@ use native.Mathlib.Omega.{arith}
 use borrow.Author.Needs.{needs}
 use mathlib.Core.Path.{_≡_, refl, sym, subst, _∙_}
 use lib.ListN.{length, take, getD, length-set}
-use Rattle.theory.specs.Facts.{facts}
 use Rattle.sweep.specs.CapColumn.{Limited, limited, caps-normal}
 use Rattle.sweep.specs.Holds.{Holds, holds-empty}
 use Rattle.judge.specs.Checked.{checked}
