@@ -96,7 +96,7 @@ fn an_order_with_1_slot_of_loading_and_none_with_2() {
         assert_eq!(answer, no_order(0b11), "K {loading}");
     }
     let verdict = library::judge(&at_loading(2), &order_of(&[1, 2]));
-    assert_eq!((verdict.row, verdict.slack), (2, -1));
+    assert_eq!((verdict.row, verdict.slack), (2, -2));
 }
 
 /// 16 slots are the most; the table is the one word that differs (rule 10.11).

@@ -70,10 +70,10 @@ pub fn no_order(left: u64) -> Plan {
 }
 
 /// A table that has an order with a loading time of 0 slots, another one with 1
-/// slot, and none with 2: row 1 takes K + 1 slots of its 3, and row 2, which takes
-/// K + 2 slots at G and K + 1 at N, has 6.
+/// slot, and none with 2 (rule 13.11): row 1 takes K + 1 slots of its 4, and row 2,
+/// which takes K + 4 slots at G and K + 2 at N, has 7.
 pub fn at_loading(loading: u32) -> Table {
-    table(2, 1, &[[0, 2, 3, 0], [0, 2, 6, 1]]).with_loading(loading)
+    table(2, 1, &[[0, 2, 4, 0], [0, 4, 7, 1]]).with_loading(loading)
 }
 
 /// The planner's answers to it, by loading time from 0 slots on.
@@ -100,12 +100,12 @@ fn preempted(release: u32) -> Table {
     table(2, 1, &[[0, 4, 9, 0], [release, 2, 9, 1]]).with_loading(2)
 }
 
-/// One row of 5 work units and N of 2, at this level.
+/// One row of 4 work units and N of 2, at this level.
 fn alone(level: u32, loading: u32) -> Table {
-    table(2, 1, &[[0, 5, 9, level]]).with_loading(loading)
+    table(2, 1, &[[0, 4, 9, level]]).with_loading(loading)
 }
 
-/// Runs in which jobs load (rules 1.9, 1.10 and 2.14).
+/// Runs in which jobs load (rules 1.9, 1.10 and 2.14; those of rule 13.11 are here).
 pub fn loading_runs() -> Vec<LoadingRun> {
     let run = |what, table, order: &[u8], supplies, rows: &[u8], ends: &[[u32; 3]]| LoadingRun {
         what,
@@ -149,28 +149,28 @@ pub fn loading_runs() -> Vec<LoadingRun> {
             &[[3, 4, 12], [3, 4, 5], [3, 4, 10]],
         ),
         run(
-            "dropped with its allowance of 3 slots, without loading",
+            "dropped with its allowance of 2 slots, without loading",
             alone(0, 0),
             &[1],
             vec![1; 8],
-            &[1, 1, 1, 0, 0, 0, 0, 0],
-            &[[3, 3, 3]],
+            &[1, 1, 0, 0, 0, 0, 0, 0],
+            &[[2, 2, 2]],
         ),
         run(
-            "dropped with its allowance of 3 + 3 slots",
+            "dropped with its allowance of 3 + 2 slots",
             alone(0, 3),
             &[1],
             vec![1; 8],
-            &[1, 1, 1, 1, 1, 1, 0, 0],
-            &[[3, 6, 6]],
+            &[1, 1, 1, 1, 1, 0, 0, 0],
+            &[[2, 5, 5]],
         ),
         run(
             "done in its last allowed slot",
             alone(0, 3),
             &[1],
             vec![9, 9, 9, 2, 2, 1, 9],
-            &[1, 1, 1, 1, 1, 1, 0],
-            &[[5, 6, 6]],
+            &[1, 1, 1, 1, 1, 0, 0],
+            &[[4, 5, 5]],
         ),
         run(
             "HI, and so not dropped after many slots more",
@@ -178,7 +178,7 @@ pub fn loading_runs() -> Vec<LoadingRun> {
             &[1],
             vec![9, 9, 9, 0, 0, 0, 0, 0, 0, 0, 5],
             &[1; 11],
-            &[[5, 11, 11]],
+            &[[4, 11, 11]],
         ),
         run(
             "the most that there is to supply brings nothing in 16 slots",
@@ -194,7 +194,7 @@ pub fn loading_runs() -> Vec<LoadingRun> {
             &[1],
             vec![u32::MAX; 17],
             &[1; 17],
-            &[[5, 17, 17]],
+            &[[4, 17, 17]],
         ),
     ]
 }
@@ -284,18 +284,18 @@ pub fn reports() -> [(Table, Order, &'static str); 10] {
             at_loading(1),
             order_of(&[1, 2]),
             concat!(
-                "         1         1         2         2         1\n",
-                "         2         2         2         5         1\n",
-                "         4         0\n",
+                "         1         1         2         2         2\n",
+                "         2         2         3         7         0\n",
+                "         5         0\n",
             ),
         ),
         (
             at_loading(2),
             order_of(&[1, 2]),
             concat!(
-                "         1         1         3         3         0\n",
-                "         2         2         3         7        -1\n",
-                "         6         1\n",
+                "         1         1         3         3         1\n",
+                "         2         2         4         9        -2\n",
+                "         7         1\n",
             ),
         ),
         (

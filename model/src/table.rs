@@ -46,8 +46,8 @@ pub struct Table {
     pub normal: u32,
     /// Degraded speed G, in work units per slot.
     pub degraded: u32,
-    /// Loading time K, in slots: the first K slots that a job runs bring it no
-    /// work (rule 1.10).
+    /// Loading time K, in slots: in so many of its own slots a job gets its code
+    /// and no work (rule 1.10).
     pub loading: u32,
     /// Release of each row, in slots.
     pub release: [u32; ROWS],

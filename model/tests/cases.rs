@@ -133,7 +133,7 @@ fn an_order_with_1_slot_of_loading_and_none_with_2() {
     }
     let order = order_of(&[1, 2]);
     let slacks = |loading| [1, 2].map(|row| slack(&at_loading(loading), &order, row));
-    assert_eq!([slacks(0), slacks(1), slacks(2)], [[2, 3], [1, 1], [0, -1]]);
+    assert_eq!([slacks(0), slacks(1), slacks(2)], [[3, 2], [2, 0], [1, -2]]);
     for loading in 2..=MOST_LOADING {
         assert_eq!(plan(&at_loading(loading)), no_order(0b11), "K {loading}");
     }

@@ -9,3 +9,4 @@ pub mod Shown
 pub mod Reading
 pub mod Turns
 pub mod Reached
+pub mod Working

@@ -57,6 +57,7 @@ runs =
     ∷ told (low 3) (1 ∷ []) 0 (forward (9 ∷ 9 ∷ 9 ∷ 1 ∷ 4 ∷ []) ∷ []) (0 ∷ []) (5 ∷ []) (5 ∷ 4 ∷ 5 ∷ 5 ∷ [])
     ∷ told (low 3) (1 ∷ []) 0 (forward (9 ∷ 9 ∷ 9 ∷ 9 ∷ []) ∷ []) (0 ∷ []) (4 ∷ []) (4 ∷ 4 ∷ 4 ∷ 4 ∷ [])
     ∷ ran (low 3) (1 ∷ []) (1 ∷ 1 ∷ 1 ∷ 1 ∷ 1 ∷ []) (end 5 false false ∷ [])
+    ∷ told (low 3) (1 ∷ []) 0 (forward (replicate 9 1) ∷ []) (0 ∷ []) (9 ∷ []) (9 ∷ 2 ∷ 5 ∷ 5 ∷ [])
     ∷ ran (low 0) (1 ∷ []) (1 ∷ 1 ∷ 1 ∷ 1 ∷ 1 ∷ []) (end 2 false false ∷ [])
     ∷ ran (low 16) (1 ∷ []) (replicate 18 1) (end 18 false true ∷ [])
     ∷ told (low 16) (1 ∷ []) 0 (forward (replicate 17 1) ∷ []) (0 ∷ []) (17 ∷ []) (17 ∷ 1 ∷ 17 ∷ 0 ∷ [])
@@ -77,6 +78,8 @@ times =
     ∷ lists (map (needFor (later 2) 2) (rowsOf (later 2))) (12 ∷ 10 ∷ 8 ∷ 5 ∷ [])
     ∷ lists (map (needOf (two 1)) (rowsOf (two 1))) (2 ∷ 3 ∷ [])
     ∷ lists (map (allowance (two 1)) (1 ∷ [])) (2 ∷ [])
+    ∷ gives (allowance (preempted 3) 2) 4
+    ∷ gives (allowance (low 3) 1) 5
     ∷ gives (horizon (later 2) 5) 24
     ∷ gives (horizon (later 2) 2) 40
     ∷ lists (map (worstFinish (preempted 3) (padded (1 ∷ 2 ∷ []))) (1 ∷ 2 ∷ [])) (7 ∷ 7 ∷ [])

@@ -5,7 +5,7 @@
 --   calm:  no row's demand grows by more than the row brings with the slot, and
 --   works: after the slot either no demand is left at all, or some row's demand fell by a slot.
 -- `works` is what priority gives: while a row of the list is ready, the slot goes to a row of the list.
--- A later rule (loading slots, late rows closed, a promised part, waits, a start at another clock) supplies these two facts for
+-- A later rule (late rows closed, a promised part, waits, a start at another clock) supplies these two facts for
 -- its own demand and its own `bring`, and the demand at the start; what follows below stays.
 -- The instance in this crate is the step on paper at supplies of at least s work units (`slot-serves` in Sustain).
 use Prim.Native.Nat.{ℕ, zero, suc, _+_, _-_, _≤_, _<_}

@@ -19,3 +19,4 @@ pub mod Verdict
 pub mod Choosing
 pub mod Results
 pub mod Agree
+pub mod Lost

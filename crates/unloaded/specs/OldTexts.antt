@@ -1,9 +1,9 @@
--- What the rules said, before jobs could load, of the report and of the program's text for a table. As in Unloaded, K is not looked at.
+-- What the rules said, before jobs could load, of the report and of the program's text. As in Unloaded, K is not looked at.
 use Prim.Native.Nat.{ℕ, _-_}
 use mathlib.Core.List.{List, [], _∷_, _++_}
 use lib.Count.{ones}
 use lib.IntN.{pos}
-use lib.ListN.{length}
+use lib.ListN.{length, take}
 use Rattle.rules.specs.declared.Table.{Table}
 use Rattle.rules.specs.declared.Check.{Check}
 use Rattle.rules.specs.declared.Check.the-variants as Checks
@@ -16,6 +16,7 @@ use Rattle.rules.specs.Numbers.{refusalNumber}
 use Rattle.rules.specs.Orders.{andThen}
 use Rattle.rules.specs.Reports.{figures, isLate}
 use Rattle.rules.specs.Rows.{at, rowsOf, deadlineOf}
+use Rattle.unloaded.specs.OldSheets.{readOf}
 use Rattle.unloaded.specs.Unloaded as Then
 
 -- the report
@@ -46,3 +47,7 @@ planText t o (Plans.Refused r) = line (refusalNumber r ∷ 0 ∷ [])
 abbrev pub readText : Check → Table → List ℕ
 readText Checks.Passed t = planText t (Then.planOf t .order) (Then.planOf t .answer)
 readText (Checks.Refused r) t = line (refusalNumber r ∷ 0 ∷ [])
+
+-- the program from input to output; of its input it looked at 2,138 bytes
+unfoldable pub programText : List ℕ → List ℕ
+programText input = let r = readOf (take 2138 input) in readText (r .check) (r .table)

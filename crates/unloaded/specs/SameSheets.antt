@@ -170,6 +170,19 @@ module _ (a r : List ℕ) (head : length a ≡ 24) where
   unfolding readOf Old.readOf
   read-now = rw (check-now, table-same)
 
+-- any bytes are 8 longer by the field
+pub field-long : (bytes : List ℕ) → length (withField bytes) ≡ length bytes + 8
+unfolding withField
+field-long bytes =
+    omega (
+      arith,
+      length-append (take 24 bytes) (written 0 ++ drop 24 bytes),
+      length-append (written 0) (drop 24 bytes),
+      written-long 0,
+      length-take 24 bytes,
+      length-drop 24 bytes,
+    )
+
 -- 1. With the field of K = 0 added, bytes are answered as they were by the old reader: number and table, refusals included.
 pub read-same : (bytes : List ℕ) → readOf (withField bytes) ≡ Old.readOf bytes
 unfolding withField readOf checkSheet Old.readOf Old.checkSheet
@@ -183,15 +196,7 @@ read-same bytes =
     with = take 24 bytes ++ (written 0 ++ drop 24 bytes)
 
     size : length with ≡ length bytes + 8
-    size =
-        omega (
-          arith,
-          length-append (take 24 bytes) (written 0 ++ drop 24 bytes),
-          length-append (written 0) (drop 24 bytes),
-          written-long 0,
-          length-take 24 bytes,
-          length-drop 24 bytes,
-        )
+    size = field-long bytes
 
     short : length bytes < 24 → readOf with ≡ Old.readOf bytes
     short h = rw (lt-ltb (length with) 33 (omega (arith, size)), lt-ltb (length bytes) 25 (omega arith))
@@ -223,7 +228,7 @@ line-end bytes e = eqb-true (getD bytes 24 0) 10 (and-right (all (λ j. isField 
 -- what an accepted old sheet has
 record OldSheet (bytes : List ℕ) : Type 0 where
   long : 33 ≤ length bytes
-  ends : getD bytes 24 0 ≡ 10
+  first : isLine bytes 0 3 ≡ true
 
 old-sheet : (bytes : List ℕ) → Old.checkSheet bytes ≡ Passed → OldSheet bytes
 unfolding Old.checkSheet
@@ -239,18 +244,20 @@ old-sheet bytes h =
         eqb-true (length bytes) (25 + 33 * numberAt bytes 0 1) e4,
         leb-true 1 (numberAt bytes 0 1) (and-left (leb 1 (numberAt bytes 0 1)) (leb (numberAt bytes 0 1) 64) e3),
       );
-      ends = line-end bytes e2;
+      first = e2;
     })
     (λ e4. clash (rw (e1, e2, e3, e4) at h)))
     (λ e3. clash (rw (e1, e2, e3) at h)))
     (λ e2. clash (rw (e1, e2) at h)))
 
--- 2. Every sheet that the old reader accepted is answered 2, with the table of zeros.
-pub old-malformed : (bytes : List ℕ) → Old.checkSheet bytes ≡ Passed → readOf bytes ≡ record { check = Refused Malformed; table = zeroTable }
+-- 2. Bytes that begin with a well-formed first line of three fields, and are long enough for one of four, are answered 2 with the table of
+-- zeros, whatever comes after it. So is every sheet that the old reader accepted.
+pub first-malformed : (bytes : List ℕ) → 33 ≤ length bytes → isLine bytes 0 3 ≡ true → readOf bytes ≡ record { check = Refused Malformed; table = zeroTable }
 unfolding readOf checkSheet
-old-malformed bytes h =
-    let o = old-sheet bytes h in
-    rw (le-ltb (length bytes) 33 (o .long), no-fourth bytes (omega (arith, o .long)) (o .ends))
+first-malformed bytes h e = rw (le-ltb (length bytes) 33 h, no-fourth bytes (omega arith) (line-end bytes e))
+
+pub old-malformed : (bytes : List ℕ) → Old.checkSheet bytes ≡ Passed → readOf bytes ≡ record { check = Refused Malformed; table = zeroTable }
+old-malformed bytes h = let o = old-sheet bytes h in first-malformed bytes (o .long) (o .first)
 
 -- 3. The sheet of a table with K = 0 is its old sheet with the field of K = 0, and so 8 bytes longer.
 pub sheet-longer : (t : Table) → t .loading ≡ 0 → sheetOf t ≡ withField (Old.sheetOf t)
@@ -281,3 +288,6 @@ sheet-longer t none = ap (λ (k : ℕ). line (t .n ∷ t .normal ∷ t .degraded
         ++ (written 0 ++ drop 24 (line (t .n ∷ t .normal ∷ t .degraded ∷ []) ++ joined (rowLine t) (rowsOf t)))
         ≡ line (t .n ∷ t .normal ∷ t .degraded ∷ 0 ∷ []) ++ joined (rowLine t) (rowsOf t)
     whole = rw (old, take-at a r 24 head, drop-at a r 24 head) (simp append-assoc)
+
+pub eight-longer : (t : Table) → t .loading ≡ 0 → length (sheetOf t) ≡ length (Old.sheetOf t) + 8
+eight-longer t none = ap length (sheet-longer t none) ∙ field-long (Old.sheetOf t)

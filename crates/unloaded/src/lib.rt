@@ -1,2 +1,3 @@
 // The rules as they were before jobs could load (rule 1.10), kept to be compared with, and that a table with K = 0 is answered as by them. This
-// crate has specs/ only: Unloaded, OldSheets and OldRecords are definitions, and the other files are what is shown of them.
+// crate has specs/ only: Unloaded, OldRecords, OldSheets and OldTexts are definitions, and the other files are what is shown
+// of them.

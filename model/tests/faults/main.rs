@@ -1,4 +1,4 @@
-//! The faults of section 14 of the rules and likely faults in loading, each built
+//! The faults of section 14 of the rules, but for the check of rule 14.11, each built
 //! into a planner of its own, and the smallest tables on which that planner and
 //! the true one differ. Run with `--nocapture` to read the tables.
 

@@ -1,0 +1,35 @@
+-- From the claim alone: deadlines are kept if the slots in which a row works supply enough. What idle slots and loading slots supply matters to
+-- no deadline (rules 9.12, 9.17).
+use Prim.Native.Nat.{ℕ, _≤_}
+use mathlib.Core.Bool.{true}
+use mathlib.Core.List.{List}
+use mathlib.Core.Path.{_≡_, sym, ap, subst, _∙_}
+use native.Mathlib.Omega.{arith}
+use Rattle.record.specs.Records.{stateOf, freshOf}
+use Rattle.rules.specs.declared.Table.{Table}
+use Rattle.rules.specs.Calls.{Call, supplyAt}
+use Rattle.rules.specs.Correct.{KeptIn, Correct}
+use Rattle.rules.specs.Orders.{isOrder}
+use Rattle.rules.specs.Rows.{at, isRow, workOf, deadlineOf}
+use Rattle.rules.specs.Slots.{State, after}
+use Rattle.rules.specs.Tables.{Accepted}
+use Rattle.rules.specs.Worst.{worstSpeed}
+use Rattle.theory.specs.Lost.{WorkWindow, sustainable-working}
+use Rattle.theory.specs.Results.{verdict}
+use Rattle.guarantee.specs.Claim.{paper, Demand3}
+use Rattle.guarantee.specs.Playing.{makeAll}
+
+-- After a list of calls on the fresh record of a correct order, each row whose deadline the clock has reached has kept it, if every slot of its
+-- window in which a row worked supplied at least N for a LO row, or G for a HI row.
+pub kept-working : Demand3 → (t : Table) → Accepted t → (o : List ℕ) → isOrder t o ≡ true → (cs : List Call) → Correct t o → (i : ℕ) → isRow t i ≡ true
+    → deadlineOf t i ≤ makeAll cs (freshOf t o .run) .run .clock → WorkWindow t o (supplyAt cs) i (worstSpeed t i)
+    → KeptIn t (stateOf (makeAll cs (freshOf t o .run) .run)) i
+kept-working claim t a o e cs correct i r d w =
+    let q = claim t a cs .right o e in
+    let k = sustainable-working t a o e i r (verdict t a o e .0 correct i r) (supplyAt cs) w (paper t o cs .state .clock) (omega (arith, q .clock)) in
+    let p : KeptIn t (paper t o cs .state) i = subst (λ (s : State). KeptIn t s i) (sym (q .taken)) k in
+    record {
+      done = ap (λ (l : List ℕ). at l i) (q .got) ∙ p .done;
+      closed = rw (q .closing) (p .closed);
+      inTime = rw (q .closing) (p .inTime);
+    }
