@@ -13,3 +13,4 @@ pub mod Listed
 pub mod ListedExact
 pub mod Written
 pub mod Begins
+pub mod Settled

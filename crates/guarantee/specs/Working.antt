@@ -10,8 +10,8 @@ use Rattle.rules.specs.declared.Table.{Table}
 use Rattle.rules.specs.Calls.{Call, supplyAt}
 use Rattle.rules.specs.Correct.{KeptIn, Correct}
 use Rattle.rules.specs.Orders.{isOrder}
-use Rattle.rules.specs.Rows.{at, isRow, workOf, deadlineOf}
-use Rattle.rules.specs.Slots.{State, after}
+use Rattle.rules.specs.Rows.{at, isRow, deadlineOf}
+use Rattle.rules.specs.Slots.{State}
 use Rattle.rules.specs.Tables.{Accepted}
 use Rattle.rules.specs.Worst.{worstSpeed}
 use Rattle.theory.specs.Lost.{WorkWindow, sustainable-working}

@@ -139,6 +139,12 @@ cases =
     ∷ stepped (of loaded order 9 [] (3 ∷ []) (3 ∷ [])) 5 9 0
     ∷ stepped (of loaded order 9 [] (4 ∷ []) (4 ∷ [])) 5 0 2
     ∷ stepped (of loaded order 9 [] (4 ∷ 9 ∷ []) (4 ∷ 9 ∷ [])) 5 9 0
+    -- rows that still load are held to the same: open with all its work (row 2) and closed with neither (row 1) are refused, closed with all
+    -- its work and open with some of it are not
+    ∷ stepped (of loaded order 9 (0 ∷ 4 ∷ []) (0 ∷ 1 ∷ []) []) 5 9 0
+    ∷ stepped (of loaded order 9 [] (1 ∷ []) (1 ∷ [])) 5 9 0
+    ∷ stepped (of loaded order 9 (2 ∷ []) (1 ∷ []) (1 ∷ [])) 5 0 2
+    ∷ stepped (of loaded order 9 (1 ∷ []) (1 ∷ []) []) 5 0 1
     -- sound, and reached by no run: the HI row has work of a slot in which it still loaded; it goes on loading
     ∷ leaves (of loaded order 9 (2 ∷ 3 ∷ []) (4 ∷ 1 ∷ []) (4 ∷ [])) 5 10 (2 ∷ 3 ∷ []) (4 ∷ 2 ∷ []) (4 ∷ [])
     -- fresh records (rule 8.2)
@@ -149,6 +155,7 @@ cases =
     ∷ begun (tableOf (record { release = 1; work = 1; deadline = 1; level = 0 } ∷ []) 2 1 16) (1 ∷ []) 5
     ∷ begun (tableOf (record { release = 1; work = 1; deadline = 1; level = 0 } ∷ []) 2 1 17) (1 ∷ []) 11
     ∷ begun loaded order 0
+    ∷ begun (tableOf (record { release = 0; work = 1; deadline = 1; level = 0 } ∷ []) 2 1 17) (1 ∷ 1 ∷ []) 11
     -- the coming slot (rule 8.15)
     ∷ coming (at order 0 [] [] []) 0 1
     ∷ coming (at order 9 (2 ∷ 4 ∷ []) (1 ∷ 2 ∷ []) (1 ∷ 3 ∷ [])) 0 0

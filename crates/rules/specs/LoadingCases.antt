@@ -39,6 +39,21 @@ three k = tableOf (job 0 1 6 0 ∷ job 0 1 6 0 ∷ job 0 1 6 0 ∷ []) 2 2 k
 abbrev two : ℕ → Table
 two k = tableOf (job 0 2 4 0 ∷ job 0 4 7 1 ∷ []) 2 1 k
 
+-- a table of one row with K = k and a figure after its last row
+abbrev followed : ℕ → Table
+followed k =
+    let t = tableOf (job 0 1 1 0 ∷ job 1 0 0 0 ∷ []) 2 1 k in
+    record {
+      n = 1;
+      normal = t .normal;
+      degraded = t .degraded;
+      loading = k;
+      release = t .release;
+      work = t .work;
+      deadline = t .deadline;
+      level = t .level;
+    }
+
 -- P1 with later deadlines
 abbrev later : ℕ → Table
 later k = tableOf (job 0 20 12 1 ∷ job 5 15 14 0 ∷ job 5 11 24 1 ∷ job 0 5 8 0 ∷ []) 5 2 k
@@ -85,6 +100,7 @@ times =
     ∷ lists (map (worstFinish (preempted 3) (padded (1 ∷ 2 ∷ []))) (1 ∷ 2 ∷ [])) (7 ∷ 7 ∷ [])
     ∷ lists (map (worstFinish (two 2) (padded (1 ∷ 2 ∷ []))) (1 ∷ 2 ∷ [])) (3 ∷ 9 ∷ [])
     ∷ lists (map (worstFinish (two 2) (padded (2 ∷ 1 ∷ []))) (1 ∷ 2 ∷ [])) (7 ∷ 6 ∷ [])
+    ∷ lists (map (worstFinish (tableOf (job 6 3 30 1 ∷ []) 3 1 16) (padded (1 ∷ []))) (1 ∷ [])) (25 ∷ [])
     ∷ []
 
 -- the planner and the judge: an order at K = 1 and none at K = 2 (rules 4.10, 7.2)
@@ -117,6 +133,8 @@ checks =
     ∷ refused (tableOf (job 0 1 1 0 ∷ []) 2 3 17) 4
     ∷ refused (tableOf (job 4 1 4 0 ∷ []) 2 1 17) 11
     ∷ refused (tableOf (job 4 1 4 0 ∷ []) 2 1 16) 5
+    ∷ refused (followed 17) 11
+    ∷ refused (followed 16) 5
     ∷ ordered (two 16) (2 ∷ 1 ∷ [])
     ∷ []
 

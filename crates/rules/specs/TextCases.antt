@@ -30,7 +30,7 @@ use Rattle.rules.specs.Tables.{rowOk, tailOk, checkTable}
 use Rattle.rules.specs.Worst.{horizon, worstFinish, slack, meets}
 
 -- the bytes of a text of plain characters
-abbrev bytes : String → List ℕ
+abbrev pub bytes : String → List ℕ
 bytes Strings.[] = []
 bytes (Strings._∷_ c s) = code c ∷ bytes s
 
@@ -137,6 +137,7 @@ texts =
     ∷ text "       1       2       199999999\n       4       1       4       0\n" "      11       0\n"
     ∷ text "       1       2       1      17\n       4       1       4      -0\n" "       2       0\n"
     ∷ text "      65       1       1      17\n" "       3       0\n"
+    ∷ text "       1       x       1      17\n" "       2       0\n"
     ∷ text "       1       2       1      17\n" "       1       0\n"
     ∷ text "       1       1       1\n       0       1 1000000       1\n" "       2       0\n"
     ∷ text "       1       1       1      00\n       0       1 1000000       1\n" "       2       0\n"

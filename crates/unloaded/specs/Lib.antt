@@ -2,6 +2,7 @@ pub mod Unloaded
 pub mod OldRecords
 pub mod OldSheets
 pub mod OldTexts
+pub mod UnloadedCases
 pub mod Same
 pub mod SameRecords
 pub mod SameSheets
