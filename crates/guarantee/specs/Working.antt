@@ -19,8 +19,8 @@ use Rattle.theory.specs.Results.{verdict}
 use Rattle.guarantee.specs.Claim.{paper, Demand3}
 use Rattle.guarantee.specs.Playing.{makeAll}
 
--- After a list of calls on the fresh record of a correct order, each row whose deadline the clock has reached has kept it, if every slot of its
--- window in which a row worked supplied at least N for a LO row, or G for a HI row.
+-- After a list of calls on the fresh record of a correct order, a row with a deadline that the clock has come to has kept it, if every slot of
+-- its window in which a row worked supplied at least N for a LO row, or G for a HI row.
 pub kept-working : Demand3 → (t : Table) → Accepted t → (o : List ℕ) → isOrder t o ≡ true → (cs : List Call) → Correct t o → (i : ℕ) → isRow t i ≡ true
     → deadlineOf t i ≤ makeAll cs (freshOf t o .run) .run .clock → WorkWindow t o (supplyAt cs) i (worstSpeed t i)
     → KeptIn t (stateOf (makeAll cs (freshOf t o .run) .run)) i

@@ -45,8 +45,8 @@ module _ (t : Table) (o : List ℕ) where
       (λ e. ap (λ (v : ℕ). slot t o v (after t o σ k)) (sym (h k e)))
       ∙ ap (slot t o (τ k)) (run-lost σ τ h k)
 
--- A row whose slack is not below zero has kept its deadline at every clock from d on, if every slot from the earliest release to d-1 in which
--- a row worked supplied at least N for a LO row, or G for a HI row, whatever the other slots supplied.
+-- A row whose slack is not below zero has kept its deadline at every clock from d on, if of the slots of its window each one in which a row
+-- worked supplied at least N for a LO row, or G for a HI row, whatever the others supplied.
 pub sustainable-working : (t : Table) → Accepted t → (o : List ℕ) → isOrder t o ≡ true → (i : ℕ) → isRow t i ≡ true → ltZ (slack t o i) (pos 0) ≡ false
     → (σ : ℕ → ℕ) → WorkWindow t o σ i (worstSpeed t i) → (k : ℕ) → deadlineOf t i ≤ k → KeptIn t (after t o σ k) i
 sustainable-working t a o e i r s σ w k q =
