@@ -60,7 +60,7 @@ not-passed r e = refusal-number r .0 e
 
 -- ---- bytes that read as a table in words
 -- every table that is answered has full columns, that of zeros too
-read-full : (bytes : List ℕ) → FullTable (readOf bytes .table)
+pub read-full : (bytes : List ℕ) → FullTable (readOf bytes .table)
 unfolding readOf
 read-full bytes = go (checkSheet bytes)
   where

@@ -8,7 +8,7 @@ use mathlib.Core.Logic.{_⊎_}
 use mathlib.Core.Path.{_≡_}
 use mathlib.Core.List.{List, [], _∷_, _++_}
 use lib.IntN.{ℤ, pos, _-ℤ_}
-use lib.ListN.{length, getD, take, drop, replicate}
+use lib.ListN.{length, getD, set, take, drop, replicate}
 use lib.Signed.{ltZ}
 use Rattle.rules.specs.declared.Table.{Table}
 use Rattle.rules.specs.Calls.{Call, one, forward, Said, tellAll, supplyAt}
@@ -156,6 +156,38 @@ pub record Planner (t : Table) (number : ℕ) (order : List ℕ) (left : ℕ) : 
       → ((o : List ℕ) → isOrder t o ≡ true → Serves t o → ⊥) × (order ≡ replicate 64 0) × (left ≡ word (choice t .left)) × (choice t .left ≡ [] → ⊥)
   -- with any other number all is zero (rules 10.3 to 10.5, 10.11)
   pub refused : (number ≡ 0 → ⊥) → (number ≡ 7 → ⊥) → (order ≡ replicate 64 0) × (left ≡ 0)
+
+-- ---- The maker who buys a cooler: the least workable speed is the least at which some order serves (section 18 of the rules).
+
+-- The table that the words hold with a speed of s work units per slot in one of them: word 1 is N, word 2 is G (rule 18.1).
+abbrev pub speedAt : List ℕ → ℕ → ℕ → Table
+speedAt table index s = tableIn (set table index s)
+
+-- A search for the speed in the word of that index, from one speed to another. What the word itself holds has to be within its limits, and that
+-- is all that it matters for.
+pub record LeastFound (table : List ℕ) (index from upTo number speed : ℕ) (order : List ℕ) : Type 0 where
+  -- of an accepted table the answer is 0 or 7; of any other it is what the table is refused for (rules 18.5, 18.6)
+  pub either : Accepted (tableIn table) → (number ≡ 0) ⊎ (number ≡ 7)
+  pub accepted : (number ≡ 0) ⊎ (number ≡ 7) → Accepted (tableIn table)
+  pub own : (number ≡ 0 → ⊥) → (number ≡ 7 → ⊥) → number ≡ checkNumber (checkTable (tableIn table))
+  -- with 0 the speed is in the range, and at no smaller one does any order serve (rule 18.3)
+  pub within : number ≡ 0 → (from ≤ speed) × (speed ≤ upTo)
+  pub smaller : number ≡ 0 → (s : ℕ) → from ≤ s → s < speed → (o : List ℕ) → isOrder (speedAt table index s) o ≡ true → Serves (speedAt table index s) o → ⊥
+  -- the order is the one that the choice makes at that speed (rule 18.4); it serves there and at every larger speed of the range (rule 18.8)
+  pub made : number ≡ 0 → order ≡ padded (choice (speedAt table index speed) .placed)
+  pub serves : number ≡ 0 → (s : ℕ) → speed ≤ s → s ≤ upTo → (isOrder (speedAt table index s) order ≡ true) × Serves (speedAt table index s) order
+  -- where some order serves at some speed of the range, one is found; with 7 none does (rules 18.3, 18.5)
+  pub exists : Accepted (tableIn table) → (s : ℕ) → from ≤ s → s ≤ upTo → (o : List ℕ) → isOrder (speedAt table index s) o ≡ true → Serves (speedAt table index s) o
+      → number ≡ 0
+  pub none : number ≡ 7 → (s : ℕ) → from ≤ s → s ≤ upTo → (o : List ℕ) → isOrder (speedAt table index s) o ≡ true → Serves (speedAt table index s) o → ⊥
+  -- with any number but 0 speed and order are zeros (rules 18.5, 18.6)
+  pub zeros : (number ≡ 0 → ⊥) → (speed ≡ 0) × (order ≡ replicate 64 0)
+
+-- The same from a sheet, which is read beside it: the reader's number if that is not 0, else as for the table that was read (rule 18.7).
+pub record LeastRead (sheet : List ℕ) (read : ℕ) (table : List ℕ) (index from upTo number speed : ℕ) (order : List ℕ) : Type 0 where
+  pub reads : (read ≡ checkNumber (readOf sheet .check)) × (table ≡ wordsOf (readOf sheet .table))
+  pub refused : (read ≡ 0 → ⊥) → (number ≡ read) × (speed ≡ 0) × (order ≡ replicate 64 0)
+  pub taken : read ≡ 0 → LeastFound table index from upTo number speed order
 
 -- ---- The firmware writer: the row is known before the supply (rules 2.4, 8.15), and a slot changes just what it says (rules 8.9 to 8.14).
 

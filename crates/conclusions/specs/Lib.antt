@@ -4,6 +4,9 @@ pub mod Planned
 pub mod Author
 pub mod Rooms
 pub mod Back
+pub mod Cooled
+pub mod CooledExact
+pub mod Raised
 pub mod Exact
 pub mod Firmware
 pub mod Forwarded

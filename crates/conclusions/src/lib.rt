@@ -1,8 +1,9 @@
 // What each caller may rely on, shown of the exported functions themselves: each function here does what one caller does, through the
 // C boundary alone, and its contract is that caller's conclusion in plain terms (specs/Conclusions). None of it is shipped.
 ghost use mathlib.Core.Path.{_≡_};
+ghost use lib.ListN.{getD};
 ghost use Rattle.words.specs.Words.{tableIn};
-ghost use Rattle.conclusions.specs.Conclusions.{TableAuthor, SheetBack, SheetAgain, NumberField, Text, Planner, FreshRecord, FirmwareWriter, Forwarding, Drawn, SalesDesk, Listing};
+ghost use Rattle.conclusions.specs.Conclusions.{TableAuthor, SheetBack, SheetAgain, NumberField, Text, Planner, LeastFound, LeastRead, FreshRecord, FirmwareWriter, Forwarding, Drawn, SalesDesk, Listing};
 
 // What reading a sheet and writing its table back said: both numbers, and the length in bytes.
 pub struct Again {
@@ -53,6 +54,13 @@ pub struct Opinion {
     pub finishes: u32,
 }
 
+// What reading a sheet and searching it for a speed said, both numbers, and the words of the table that was read.
+pub struct Reads {
+    pub read: u32,
+    pub number: u32,
+    pub table: [u32; 260],
+}
+
 // A table author hands in a sheet.
 pub fn table_author(sheet: &[u8], table: &mut [u32; 260]) -> u32
     ensures { λ r. ⌜ TableAuthor (now (sheet .entry)) r (now (table .exit)) ⌝ }
@@ -101,6 +109,48 @@ pub fn planner(table: &[u32; 260], order: &mut [u8; 64], left: &mut u64) -> u32
     ensures { λ r. ⌜ Planner (tableIn (now (table .entry))) r (now (order .exit)) (now (left .exit)) ⌝ }
 {
     jasminebrace::jb_plan(table, order, left)
+}
+
+// A maker who buys a cooler asks for the least degraded speed that is enough, in work units per slot.
+pub fn least_degraded(table: [u32; 260], speed: &mut u32, order: &mut [u8; 64]) -> u32
+    ensures { λ r. ⌜ LeastFound table 2 1 (getD table 1 0) r (now (speed .exit)) (now (order .exit)) ⌝ }
+{
+    jasminebrace::jb_least_degraded(&table, speed, order)
+}
+
+// A maker who buys a processor asks for the least normal speed that is enough, in work units per slot.
+pub fn least_normal(table: [u32; 260], speed: &mut u32, order: &mut [u8; 64]) -> u32
+    ensures { λ r. ⌜ LeastFound table 1 (getD table 2 0) 1000 r (now (speed .exit)) (now (order .exit)) ⌝ }
+{
+    jasminebrace::jb_least_normal(&table, speed, order)
+}
+
+// The maker of the cooler has a sheet, and reads it too.
+pub fn sheet_degraded(sheet: &[u8], speed: &mut u32, order: &mut [u8; 64]) -> Reads
+    ensures { λ r. ⌜ LeastRead (now (sheet .entry)) (r .read) (r .table) 2 1 (getD (r .table) 1 0) (r .number) (now (speed .exit)) (now (order .exit)) ⌝ }
+{
+    let mut table = [0u32; 260];
+    let read = jasminebrace::jb_read(sheet, &mut table);
+    let number = jasminebrace::jb_read_least_degraded(sheet, speed, order);
+    Reads {
+        read,
+        number,
+        table,
+    }
+}
+
+// The maker of the processor has a sheet, and reads it too.
+pub fn sheet_normal(sheet: &[u8], speed: &mut u32, order: &mut [u8; 64]) -> Reads
+    ensures { λ r. ⌜ LeastRead (now (sheet .entry)) (r .read) (r .table) 1 (getD (r .table) 2 0) 1000 (r .number) (now (speed .exit)) (now (order .exit)) ⌝ }
+{
+    let mut table = [0u32; 260];
+    let read = jasminebrace::jb_read(sheet, &mut table);
+    let number = jasminebrace::jb_read_least_normal(sheet, speed, order);
+    Reads {
+        read,
+        number,
+        table,
+    }
 }
 
 // A firmware writer makes a fresh record of a table and an order.

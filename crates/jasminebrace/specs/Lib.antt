@@ -2,3 +2,4 @@ pub mod Finishes
 pub mod Zeros
 pub mod Packed
 pub mod Version
+pub mod Searches

@@ -16,15 +16,19 @@ ghost use Rattle.rules.specs.Orders.{checkBoth};
 ghost use Rattle.rules.specs.Program.{programText};
 ghost use Rattle.rules.specs.Reports.{reportOf};
 ghost use Rattle.rules.specs.Sheets.{readOf, writeOf};
+ghost use Rattle.rules.specs.Speeds.{searchOf, searchSheet};
 ghost use Rattle.record.specs.Answers.{slotSaid, forwardSaid};
 ghost use Rattle.record.specs.Records.{freshOf, comingSlot, oneSlot, forwardOver};
 ghost use Rattle.words.specs.Words.{tableIn, wordsOf, runIn, stateWords};
 ghost use Rattle.jasminebrace.specs.Finishes.{finishesOf, yesWord};
 ghost use Rattle.jasminebrace.specs.Packed.{packedOf};
+ghost use Rattle.jasminebrace.specs.Searches.{SearchTold};
 ghost use Rattle.jasminebrace.specs.Version.{version};
 use record::Run;
 use rules::Check;
 use rules::Row;
+use rules::Searching;
+use rules::Sought;
 use rules::Table;
 use rules::Verdict;
 
@@ -147,6 +151,61 @@ pub extern "C" fn jb_plan(table: &[u32; 260], order: &mut [u8; 64], left: &mut u
     *order = made;
     *left = numbers.left;
     numbers.number
+}
+
+// Writes the speed and the order that a search found, and gives its number (rules 18.4 to 18.6).
+fn put_search(searching: Searching, speed: &mut u32, order: &mut [u8; 64]) -> u32
+    ensures { λ r. ⌜ SearchTold searching r (now (speed .exit)) (now (order .exit)) ⌝ }
+{
+    let made = searching.order;
+    let answer = searching.answer;
+    let numbers = numbers::search_numbers(answer);
+    *speed = numbers.speed;
+    *order = made;
+    numbers.number
+}
+
+// The least degraded speed of a table at which a correct order exists, in work units per slot, and the planner's order at it; both zero where
+// none does, with 7, and on a refusal (rules 18.4 to 18.6). Gives the number of the search (rule 11.8).
+#[no_mangle]
+pub extern "C" fn jb_least_degraded(
+    table: &[u32; 260],
+    speed: &mut u32,
+    order: &mut [u8; 64],
+) -> u32
+    ensures { λ r. ⌜ SearchTold (searchOf Sought.Degraded (tableIn (now (table .entry)))) r (now (speed .exit)) (now (order .exit)) ⌝ }
+{
+    let t = words::table_in(table);
+    let searching = speeds::least_speed(Sought::Degraded, t);
+    put_search(searching, speed, order)
+}
+
+// The same for the normal speed.
+#[no_mangle]
+pub extern "C" fn jb_least_normal(table: &[u32; 260], speed: &mut u32, order: &mut [u8; 64]) -> u32
+    ensures { λ r. ⌜ SearchTold (searchOf Sought.Normal (tableIn (now (table .entry)))) r (now (speed .exit)) (now (order .exit)) ⌝ }
+{
+    let t = words::table_in(table);
+    let searching = speeds::least_speed(Sought::Normal, t);
+    put_search(searching, speed, order)
+}
+
+// The least degraded speed of a sheet (rule 18.7): the reader's numbers first, then as for its table.
+#[no_mangle]
+pub extern "C" fn jb_read_least_degraded(sheet: &[u8], speed: &mut u32, order: &mut [u8; 64]) -> u32
+    ensures { λ r. ⌜ SearchTold (searchSheet Sought.Degraded (now (sheet .entry))) r (now (speed .exit)) (now (order .exit)) ⌝ }
+{
+    let searching = speeds::sheet_speed(Sought::Degraded, sheet);
+    put_search(searching, speed, order)
+}
+
+// The same for the normal speed.
+#[no_mangle]
+pub extern "C" fn jb_read_least_normal(sheet: &[u8], speed: &mut u32, order: &mut [u8; 64]) -> u32
+    ensures { λ r. ⌜ SearchTold (searchSheet Sought.Normal (now (sheet .entry))) r (now (speed .exit)) (now (order .exit)) ⌝ }
+{
+    let searching = speeds::sheet_speed(Sought::Normal, sheet);
+    put_search(searching, speed, order)
 }
 
 // Judges an order of a table: yes as 1 or 0, the tightest row, and its slack in slots. All zero on a refusal (rules 7.2 to 7.4).

@@ -1,12 +1,13 @@
 // The numbers and values of the answers, as numbers (section 10 of the rules).
 ghost use mathlib.Core.Path.{_≡_};
-ghost use Rattle.rules.specs.Numbers.{refusalNumber, checkNumber, plannedNumber, rowsLeft};
+ghost use Rattle.rules.specs.Numbers.{refusalNumber, checkNumber, plannedNumber, rowsLeft, searchedNumber, searchedSpeed};
 ghost use Rattle.record.specs.Answers.{slotSaid, forwardSaid};
 use record::ForwardAnswer;
 use record::SlotAnswer;
 use rules::Check;
 use rules::Planned;
 use rules::Refusal;
+use rules::Searched;
 
 // A run call's number, and its value: the row run, or the slots worked.
 pub struct CallNumbers {
@@ -18,6 +19,12 @@ pub struct CallNumbers {
 pub struct PlanNumbers {
     pub number: u32,
     pub left: u64,
+}
+
+// The number of a search for a speed, and the speed found in work units per slot.
+pub struct SearchNumbers {
+    pub number: u32,
+    pub speed: u32,
 }
 
 // The number of a refusal.
@@ -58,6 +65,23 @@ pub fn plan_numbers(answer: Planned) -> PlanNumbers
         Planned::Refused(why) => {
             let number = refusal_number(why);
             PlanNumbers { number, left: 0 }
+        }
+    }
+}
+
+// The number of a search's answer, and the speed found.
+pub fn search_numbers(answer: Searched) -> SearchNumbers
+    ensures { λ r. ⌜ (r .number ≡ searchedNumber answer) × (r .speed ≡ searchedSpeed answer) ⌝ }
+{
+    match answer {
+        Searched::Least(speed) => SearchNumbers { number: 0, speed },
+        Searched::NoSpeed => SearchNumbers {
+            number: 7,
+            speed: 0,
+        },
+        Searched::Refused(why) => {
+            let number = refusal_number(why);
+            SearchNumbers { number, speed: 0 }
         }
     }
 }

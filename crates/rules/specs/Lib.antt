@@ -16,6 +16,8 @@ pub mod Lent
 pub mod Sheets
 pub mod Program
 pub mod Reports
+pub mod Speeds
 pub mod Cases
 pub mod LoadingCases
+pub mod SpeedCases
 pub mod TextCases

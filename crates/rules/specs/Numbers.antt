@@ -8,6 +8,8 @@ use Rattle.rules.specs.declared.Check.{Check}
 use Rattle.rules.specs.declared.Check.the-variants as Checks
 use Rattle.rules.specs.declared.Planned.{Planned}
 use Rattle.rules.specs.declared.Planned.the-variants as Plans
+use Rattle.rules.specs.declared.Searched.{Searched}
+use Rattle.rules.specs.declared.Searched.the-variants as Searches
 use Rattle.rules.specs.declared.Verdict.{Verdict}
 use Rattle.rules.specs.declared.Verdict.the-variants as Verdicts
 
@@ -42,6 +44,19 @@ unfoldable pub rowsLeft : Planned → ℕ
 rowsLeft Plans.Ordered = 0
 rowsLeft (Plans.NoOrder left) = left
 rowsLeft (Plans.Refused r) = 0
+
+-- the number of a search for a speed: 0 with the speed, 7 where none of the range works (rules 10.0, 10.7, 18.5)
+unfoldable pub searchedNumber : Searched → ℕ
+unfolding refusalNumber
+searchedNumber (Searches.Least speed) = 0
+searchedNumber Searches.NoSpeed = 7
+searchedNumber (Searches.Refused r) = refusalNumber r
+
+-- the speed found, in work units per slot, which is 0 unless the number is 0 (rules 18.4 to 18.6)
+unfoldable pub searchedSpeed : Searched → ℕ
+searchedSpeed (Searches.Least speed) = speed
+searchedSpeed Searches.NoSpeed = 0
+searchedSpeed (Searches.Refused r) = 0
 
 -- the judge's number, which is 0 with either verdict (rule 10.0)
 unfoldable pub verdictNumber : Verdict → ℕ

@@ -69,6 +69,25 @@ pub struct Planning {
     pub order: [u8; 64],
 }
 
+// Which speed a search is for; the other one is kept as the table states it (rule 18.1).
+pub enum Sought {
+    Degraded,
+    Normal,
+}
+
+// A search's answer: the least workable speed in work units per slot, no speed of the range works, or a refusal (rules 18.4 to 18.6).
+pub enum Searched {
+    Least(u32),
+    NoSpeed,
+    Refused(Refusal),
+}
+
+// A search's answer with the planner's order at the speed found, all zero unless one was (rules 18.4 to 18.6).
+pub struct Searching {
+    pub answer: Searched,
+    pub order: [u8; 64],
+}
+
 // The judge's answer: yes or no, each with the tightest row and its slack in slots, or a refusal (rules 7.2 to 7.4).
 pub enum Verdict {
     Correct { row: u8, slack: i32 },

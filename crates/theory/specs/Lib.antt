@@ -17,6 +17,7 @@ pub mod Places
 pub mod Finishes
 pub mod Verdict
 pub mod Choosing
+pub mod Speeds
 pub mod Results
 pub mod Agree
 pub mod Lost

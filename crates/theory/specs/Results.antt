@@ -10,15 +10,17 @@ use native.Mathlib.Omega.{arith}
 use lib.IntN.{pos}
 use lib.Signed.{ltZ}
 use borrow.Author.Tests.{leb-true}
+use Rattle.rules.specs.declared.Sought.{Sought}
 use Rattle.rules.specs.declared.Table.{Table}
 use Rattle.rules.specs.Lists.{sum, greatest, erase}
 use Rattle.rules.specs.Rows.{isRow, isLow, isHigh, rowsOf, releaseOf, deadlineOf}
 use Rattle.rules.specs.Tables.{Accepted}
 use Rattle.rules.specs.Orders.{isOrder}
 use Rattle.rules.specs.Slots.{after}
-use Rattle.rules.specs.Correct.{KeptIn, Correct, Window}
+use Rattle.rules.specs.Correct.{KeptIn, Correct, CorrectOrder, Window}
 use Rattle.rules.specs.Worst.{worstSpeed, horizon, worstFinish, slack, meets}
 use Rattle.rules.specs.Choice.{passes, choice, padded}
+use Rattle.rules.specs.Speeds.{withSpeeds, atSpeed, slowest, fastest, InRange, LeastSpeed}
 use Rattle.theory.specs.Tests.{not-is}
 use Rattle.theory.specs.Counts.{In, Within, Same, in-head, in-tail, erase-last, count-append, sum-within, sum-most}
 use Rattle.theory.specs.Backlog.{finish-set, finish-only}
@@ -29,7 +31,8 @@ use Rattle.theory.specs.Facts.{Row, TableFacts, row-is, is-row, rows-in,
 use Rattle.theory.specs.Places.{placed, length-rows}
 use Rattle.theory.specs.Finishes.{worst-runs, worst-slower, worst-finish, worst-bound, within-rows}
 use Rattle.theory.specs.Finishes as Finishes
-use Rattle.theory.specs.Verdict.{Finished, finished, slack-difference, slack-meets, meets-slack, kept, all-meet, correct}
+use Rattle.theory.specs.Verdict.{Finished, finished, slack-difference, less-left, slack-meets, meets-slack, kept, all-meet, correct}
+use Rattle.theory.specs.Speeds.{accepted-speeds, finish-falls, correct-faster, correct-at, least-parts}
 use Rattle.theory.specs.Choosing.{rows-of, once-of, moved, choice-filled, no-order}
 use Rattle.theory.specs.Choosing as Choosing
 
@@ -155,3 +158,33 @@ module _ (t : Table) (accepted : Accepted t) where
       let p = placed t o e i (row-is t i r) in
       subst (λ (l : List ℕ). worstFinish t l i ≤ 65001024) (sym (p .whole))
       (finish-bound (p .above) (p .below) i (within-rows t f (p .above ++ (i ∷ [])) (p .rows) (p .once)))
+
+  -- 8. SPEEDS. An order that is correct, over all courses of speed, stays correct at a larger G, a larger N, or both, within their limits.
+  pub larger-speeds : (o : List ℕ) → isOrder t o ≡ true → Correct t o → (n g : ℕ) → t .normal ≤ n → n ≤ 1000 → t .degraded ≤ g → g ≤ n
+      → Correct (withSpeeds t n g) o
+  larger-speeds o e c n g normal most degraded slower =
+      correct-faster t (t .normal) (t .degraded) n g normal degraded f
+      (facts (withSpeeds t n g) (accepted-speeds t accepted n g most (omega (arith, f .crawls)) slower)) o e c
+
+  -- Under any order no row's worst finish grows.
+  pub finish-larger : (o : List ℕ) → isOrder t o ≡ true → (i : ℕ) → isRow t i ≡ true → (n g : ℕ) → t .normal ≤ n → n ≤ 1000 → t .degraded ≤ g → g ≤ n
+      → worstFinish (withSpeeds t n g) o i ≤ worstFinish t o i
+  finish-larger o e i r n g normal most degraded slower =
+      finish-falls t (t .normal) (t .degraded) n g normal degraded f
+      (facts (withSpeeds t n g) (accepted-speeds t accepted n g most (omega (arith, f .crawls)) slower)) o e i (row-is t i r)
+
+  -- And so no row's slack falls.
+  pub slack-larger : (o : List ℕ) → isOrder t o ≡ true → (i : ℕ) → isRow t i ≡ true → (n g : ℕ) → t .normal ≤ n → n ≤ 1000 → t .degraded ≤ g → g ≤ n
+      → ltZ (slack (withSpeeds t n g) o i) (slack t o i) ≡ false
+  unfolding slack
+  slack-larger o e i r n g normal most degraded slower =
+      less-left (deadlineOf t i) (worstFinish (withSpeeds t n g) o i) (worstFinish t o i) (finish-larger o e i r n g normal most degraded slower)
+
+  -- The least workable speed parts its range: a correct order exists at it and at every larger speed, and at no smaller one.
+  pub least-exact : (q : Sought) (s : ℕ) → LeastSpeed q t s → (r : ℕ) → InRange q t r → CorrectOrder (atSpeed q t r) ↔ (s ≤ r)
+  least-exact q = least-parts q t accepted
+
+  -- An order that is correct at a speed of the range is correct at every larger one.
+  pub larger-at : (q : Sought) (s r : ℕ) → slowest q t ≤ s → s ≤ r → r ≤ fastest q t → (o : List ℕ) → isOrder t o ≡ true → Correct (atSpeed q t s) o
+      → Correct (atSpeed q t r) o
+  larger-at q = correct-at q t accepted

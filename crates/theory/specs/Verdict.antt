@@ -8,14 +8,14 @@ use native.Mathlib.Omega.{arith}
 use lib.Dec.{ltb, leb}
 use lib.IntN.{pos, _-ℤ_}
 use lib.Signed.{ltZ}
-use borrow.Author.Tests.{le-ltb, le-leb, leb-true, ltb-false}
+use borrow.Author.Tests.{lt-ltb, le-ltb, le-leb, leb-true, ltb-false}
 use Rattle.rules.specs.declared.Table.{Table}
 use Rattle.rules.specs.Rows.{at, isLow, workOf, deadlineOf}
 use Rattle.rules.specs.Orders.{isOrder}
 use Rattle.rules.specs.Slots.{after}
 use Rattle.rules.specs.Correct.{KeptIn, Kept, Correct, earliest, Window}
 use Rattle.rules.specs.Worst.{worstSpeed, horizon, worstFinish, slack, meets}
-use Rattle.theory.specs.Tests.{by-bool, not-is}
+use Rattle.theory.specs.Tests.{by-bool, by-ltb, not-is}
 use Rattle.theory.specs.Counts.{In, in-last}
 use Rattle.theory.specs.Facts.{Row, row-is, is-row, TableFacts}
 use Rattle.theory.specs.Cells.{Cell, cellAt}
@@ -29,6 +29,16 @@ use Rattle.theory.specs.Finishes.{earliest-first, worst-runs, worst-slow
 pub late-is : (d k : ℕ) → ltZ (pos d -ℤ pos k) (pos 0) ≡ ltb d k
 late-is d zero = le-ltb (d + 0) 0 (omega arith) ∙ sym (le-ltb d 0 (omega arith))
 late-is d (suc k) = by-bool (ltb d (suc k)) (λ e. rw e) (λ e. rw e (le-ltb (d - suc k) 0 (omega arith)))
+
+-- a finish that is not later leaves a slack that is not less
+pub less-left : (d k m : ℕ) → k ≤ m → ltZ (pos d -ℤ pos k) (pos d -ℤ pos m) ≡ false
+less-left d zero zero h = le-ltb (d + 0) (d + 0) (omega arith)
+less-left d zero (suc m) h = by-bool (ltb d (suc m)) (λ e. rw e) (λ e. rw e (le-ltb (d + 0) (d - suc m) (omega arith)))
+less-left d (suc k) zero h = absurd (omega arith)
+less-left d (suc k) (suc m) h =
+    by-ltb d (suc k)
+    (λ e p. rw (e, lt-ltb d (suc m) (omega arith)) (le-ltb (suc m - suc d) (suc k - suc d) (omega arith)))
+    (λ e p. by-bool (ltb d (suc m)) (λ f. rw (e, f)) (λ f. rw (e, f) (le-ltb (d - suc k) (d - suc m) (omega arith))))
 
 pub slack-meets : (t : Table) (o : List ℕ) (i : ℕ) → ltZ (slack t o i) (pos 0) ≡ false → meets t o i ≡ true
 unfolding slack meets

@@ -1,0 +1,41 @@
+-- Each arm is one case of the two definitions.
+use borrow.Author.Needs.{needs}
+use Rattle.rules.specs.Numbers.{searchedNumber, searchedSpeed}
+use Rattle.numbers.proofs.search_numbers.Statement.{statement}
+use Rattle.numbers.proofs.search_numbers.Tie as tie
+
+enum-known-answer : tie.Need-enum-known-answer
+enum-known-answer c = search needs
+
+enum-told : tie.Need-enum-told
+enum-told c = search needs
+
+enum-known-answer-2 : tie.Need-enum-known-answer-2
+enum-known-answer-2 c = search needs
+
+refusal-number-requires : tie.Need-refusal-number-requires
+refusal-number-requires c κs = search needs
+
+returns : tie.Need-returns
+unfolding searchedNumber searchedSpeed
+returns c = search needs
+
+returns-2 : tie.Need-returns-2
+unfolding searchedNumber searchedSpeed
+returns-2 c = search needs
+
+returns-3 : tie.Need-returns-3
+unfolding searchedNumber searchedSpeed
+returns-3 c = search needs
+
+pub search-numbers-spec : {M : Type 1} → statement M
+search-numbers-spec =
+    tie.close
+    (tie.spec
+    enum-known-answer
+    enum-told
+    enum-known-answer-2
+    refusal-number-requires
+    returns
+    returns-2
+    returns-3)
