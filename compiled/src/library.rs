@@ -12,6 +12,7 @@ use model::order::Order;
 use model::plan::Plan;
 use model::record::{Forward, OneSlot, Record};
 use model::report::LONGEST_REPORT;
+use model::speeds::{Least, Sought};
 use model::table::{Row, Table, ROWS};
 
 const RUBBISH: u32 = 0xA5A5_A5A5;
@@ -67,6 +68,36 @@ pub fn plan(table: &Table) -> Plan {
         order,
         left,
     }
+}
+
+/// The least workable speed of a table.
+pub fn least(table: &Table, sought: Sought) -> Least {
+    let words = raw::table_words(table);
+    let call = match sought {
+        Sought::Degraded => raw::jb_least_degraded,
+        Sought::Normal => raw::jb_least_normal,
+    };
+    let answer = find_least(&|speed, order| {
+        // SAFETY: as in `read`.
+        unsafe { call(&words, speed, order) }
+    });
+    assert_eq!(words, raw::table_words(table), "the table was written");
+    answer
+}
+
+/// The least workable speed of a sheet, any bytes.
+pub fn read_least(sheet: &[u8], sought: Sought) -> Least {
+    let before = sheet.to_vec();
+    let call = match sought {
+        Sought::Degraded => raw::jb_read_least_degraded,
+        Sought::Normal => raw::jb_read_least_normal,
+    };
+    let answer = find_least(&|speed, order| {
+        // SAFETY: as in `read`.
+        unsafe { call(sheet.as_ptr(), sheet.len(), speed, order) }
+    });
+    assert_eq!(sheet, before, "the sheet was written");
+    answer
 }
 
 /// The judge.
@@ -308,6 +339,48 @@ impl Guarded {
         assert!(is_whole(below), "a byte before the lent ones was written");
         assert!(is_whole(above), "a byte behind the lent ones was written");
         lent
+    }
+}
+
+/// A call that writes a speed and an order, and gives its number.
+type FindLeast<'a> = &'a dyn Fn(*mut u32, *mut Order) -> u32;
+
+/// Makes such a call twice, with rubbish in and around its results and with every
+/// bit of it turned over, so that what is left unwritten shows.
+fn find_least(call: FindLeast) -> Least {
+    let answer = find_between_guards(RUBBISH, call);
+    let again = find_between_guards(!RUBBISH, call);
+    assert_eq!(answer, again, "it matters what stood there before");
+    answer
+}
+
+/// A speed and an order with words of rubbish on either side of both.
+#[repr(C)]
+struct SpeedAndOrder {
+    before: [u32; 64],
+    speed: u32,
+    between: [u32; 64],
+    order: Order,
+    behind: [u32; 64],
+}
+
+fn find_between_guards(rubbish: u32, call: FindLeast) -> Least {
+    let guard = [rubbish; 64];
+    let mut memory = SpeedAndOrder {
+        before: guard,
+        speed: rubbish,
+        between: guard,
+        order: [rubbish as u8; ROWS],
+        behind: guard,
+    };
+    let number = call(&mut memory.speed, &mut memory.order);
+    assert_eq!(memory.before, guard, "a word before the speed was written");
+    assert_eq!(memory.between, guard, "a word behind the speed was written");
+    assert_eq!(memory.behind, guard, "a word behind the order was written");
+    Least {
+        number,
+        speed: memory.speed,
+        order: memory.order,
     }
 }
 

@@ -30,6 +30,20 @@ extern "C" {
         -> u32;
     pub fn jb_field(figure: u32, field: *mut [u8; 8]) -> u32;
     pub fn jb_plan(table: *const TableWords, order: *mut Order, left: *mut u64) -> u32;
+    pub fn jb_least_degraded(table: *const TableWords, speed: *mut u32, order: *mut Order) -> u32;
+    pub fn jb_least_normal(table: *const TableWords, speed: *mut u32, order: *mut Order) -> u32;
+    pub fn jb_read_least_degraded(
+        sheet: *const u8,
+        length: usize,
+        speed: *mut u32,
+        order: *mut Order,
+    ) -> u32;
+    pub fn jb_read_least_normal(
+        sheet: *const u8,
+        length: usize,
+        speed: *mut u32,
+        order: *mut Order,
+    ) -> u32;
     pub fn jb_judge(
         table: *const TableWords,
         order: *const Order,

@@ -55,11 +55,49 @@ pub fn hard_loading(n: u32, loading: u32) -> Table {
     Table::of(5, 2, loading, &rows)
 }
 
+/// A hard table with the longest range of speeds, N of 1,000 and G of 1 work unit per
+/// slot. Its LO rows have this much work and just fit if that is one slot each at N;
+/// so has its last HI row, with this much work, at G. All other HI rows have time.
+pub fn hard_at(n: u32, low: u32, high: u32) -> Table {
+    let mut table = Table {
+        normal: 1_000,
+        degraded: 1,
+        ..hard(n)
+    };
+    for index in 0..n as usize {
+        if table.level[index] == LO {
+            table.work[index] = low;
+        } else {
+            table.work[index] = high;
+            table.deadline[index] += 900_000;
+        }
+    }
+    let last = n as usize - 1;
+    table.deadline[last] = table.release[last] + 4;
+    table
+}
+
+/// An easy table with the longest range of speeds, whose rows at this level have this
+/// much work each and fit if that is one slot, and not if it is two.
+pub fn easy_at(n: u32, level: u32, work: u32) -> Table {
+    let mut table = easy(n);
+    (table.normal, table.degraded) = (1_000, 1);
+    table.level[..n as usize].fill(level);
+    table.work[..n as usize].fill(work);
+    table
+}
+
 /// A table of n rows whose deadlines are those of a random order's worst
 /// finishes or a little later, so that it just has a correct order; then, once
 /// in two times, one deadline is moved forward, so that it often has none.
 pub fn tight(random: &mut Random, n: u32, ranges: Ranges) -> Table {
-    let mut table = table_of_rows_in(random, n, ranges);
+    let table = table_of_rows_in(random, n, ranges);
+    tightened(random, &table)
+}
+
+/// This accepted table with such deadlines.
+pub fn tightened(random: &mut Random, table: &Table) -> Table {
+    let (mut table, n) = (*table, table.n);
     let order = random_order(random, n);
     let (number, finishes) = plain::finishes(&table, &order);
     assert_eq!(number, 0, "a table in these ranges is accepted");

@@ -167,11 +167,20 @@ pub fn peaks() -> Vec<(&'static str, usize)> {
         .collect()
 }
 
+/// The figure that the header states for a call that took this many bytes: 64 bytes
+/// more, rounded up to a multiple of 256; 512 as it is, since that stands for less.
+pub fn to_state(bytes: usize) -> usize {
+    if bytes == UNPAINTED {
+        return bytes;
+    }
+    (bytes + 64).next_multiple_of(256)
+}
+
 type Call = fn(&Inputs);
 
 /// Every export with the memory that it is lent. What is written lies outside
 /// the measured stack, in `Results`.
-const CALLS: [(&str, Call); 14] = [
+const CALLS: [(&str, Call); 18] = [
     ("jb_read", |on| {
         with_results(|out| unsafe {
             raw::jb_read(on.sheet.as_ptr(), on.sheet.len(), &mut out.table);
@@ -191,6 +200,28 @@ const CALLS: [(&str, Call); 14] = [
     ("jb_plan", |on| {
         with_results(|out| unsafe {
             raw::jb_plan(&on.table, &mut out.order, &mut out.left);
+        })
+    }),
+    ("jb_least_degraded", |on| {
+        with_results(|out| unsafe {
+            raw::jb_least_degraded(&on.table, &mut out.words[0], &mut out.order);
+        })
+    }),
+    ("jb_least_normal", |on| {
+        with_results(|out| unsafe {
+            raw::jb_least_normal(&on.table, &mut out.words[0], &mut out.order);
+        })
+    }),
+    ("jb_read_least_degraded", |on| {
+        with_results(|out| unsafe {
+            let (sheet, length) = (on.sheet.as_ptr(), on.sheet.len());
+            raw::jb_read_least_degraded(sheet, length, &mut out.words[0], &mut out.order);
+        })
+    }),
+    ("jb_read_least_normal", |on| {
+        with_results(|out| unsafe {
+            let (sheet, length) = (on.sheet.as_ptr(), on.sheet.len());
+            raw::jb_read_least_normal(sheet, length, &mut out.words[0], &mut out.order);
         })
     }),
     ("jb_judge", |on| {

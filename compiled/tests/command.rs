@@ -19,7 +19,8 @@ use model::sheet::{
     read_field, read_sheet, sheet_of, write_field, write_line, write_sheet, FIELD, FIRST_LINE,
     ROW_LINE,
 };
-use model::table::{check_table, Row, Table, HI, LATEST_DEADLINE, MOST_LOADING, ROWS};
+use model::speeds::{Least, Sought, BOTH};
+use model::table::{check_table, Row, Table, HI, LATEST_DEADLINE, MOST_LOADING, MOST_SPEED, ROWS};
 use std::io::Write;
 use std::process::{Command, Stdio};
 
@@ -331,6 +332,147 @@ fn reports_of_refused_sheets() {
         }
     }
     tally.assert_common(&[0, 1, 2, 3, 4, 5, 7, 11], 20);
+}
+
+/// What `speeds --plain` writes for one speed: 0, the speed and the row count,
+/// then place, row and slack; or a number and zeros.
+fn least_lines(table: &Table, sought: Sought, least: &Least) -> Vec<u8> {
+    if least.number != 0 {
+        return write_line(&[least.number, 0, 0]);
+    }
+    let (_, finishes) = plain::finishes(&sought.put(table, least.speed), &least.order);
+    let mut lines = write_line(&[0, least.speed, table.n]);
+    for (place, &row) in (1..=table.n).zip(&least.order) {
+        let index = row as usize - 1;
+        let slack = table.deadline[index] - finishes[index];
+        lines.extend(write_line(&[place, u32::from(row), slack]));
+    }
+    lines
+}
+
+/// What `speeds --plain` writes of an accepted sheet, its status, and the numbers
+/// of its two answers.
+fn both_speeds(table: &Table) -> (Vec<u8>, i32, [u32; 2]) {
+    let answers = BOTH.map(|sought| (sought, plain::least_by_scan(table, sought)));
+    let numbers = answers.map(|(_, least)| least.number);
+    let lines = answers.map(|(sought, least)| least_lines(table, sought, &least));
+    let status = i32::from(numbers != [0, 0]);
+    (lines.concat(), status, numbers)
+}
+
+/// What is said beside the plain form: nothing, the explanation of a refused
+/// sheet, or of each speed that does not exist, its range.
+fn said_of_speeds(sheet: &[u8], table: &Table, [degraded, normal]: [u32; 2]) -> Vec<String> {
+    let first_words = [
+        (degraded, "G", 1, table.normal),
+        (normal, "N", table.degraded, MOST_SPEED),
+    ];
+    match degraded {
+        0 | 7 => first_words
+            .iter()
+            .filter(|&&(number, ..)| number == 7)
+            .map(|(_, letter, least, largest)| {
+                let units = if *largest == 1 { "unit" } else { "units" };
+                format!("number 7: no {letter} from {least} to {largest} work {units} per slot has a correct order")
+            })
+            .collect(),
+        _ => {
+            let explained = command(&["explain", "-"], sheet).0;
+            text(&explained).lines().take(1).map(String::from).collect()
+        }
+    }
+}
+
+/// The least speeds of samples and of random sheets, refused ones among them,
+/// against the plain scan of the range.
+#[test]
+fn least_speeds() {
+    let mut random = Random::seeded(713);
+    let mut tally = Tally::new("command speeds, by the numbers for G and N");
+    let mut compare = |sheet: &[u8]| {
+        let (number, table) = read_sheet(sheet);
+        let (lines, status, numbers) = match number {
+            0 => both_speeds(&table),
+            _ => {
+                let refused = write_line(&[number, 0, 0]);
+                (refused.repeat(2), status_of(number), [number; 2])
+            }
+        };
+        let (output, errors, ended) = command_with_errors(&["speeds", "--plain", "-"], sheet);
+        assert_eq!(text(&output), text(&lines), "{}", text_or_bytes(sheet));
+        assert_eq!(ended, status, "{}", text_or_bytes(sheet));
+        let said: Vec<_> = errors
+            .lines()
+            .filter(|line| line.starts_with("number "))
+            .collect();
+        assert_eq!(said, said_of_speeds(sheet, &table, numbers));
+        tally.saw(numbers);
+    };
+    for sheet in sample_sheets() {
+        compare(&sheet);
+    }
+    for _ in 0..100 {
+        for sheet in sheets(&mut random) {
+            compare(&sheet);
+        }
+        compare(&sheet_of(&small_table(&mut random)));
+        compare(&sheet_of(&small_table(&mut random)));
+        compare(&sheet_of(&large_table(&mut random)));
+    }
+    tally.assert_common(&[[0, 0], [0, 7], [7, 0], [7, 7]], 10);
+    tally.assert_common(&[1, 2, 3, 4, 5, 11].map(|number| [number; 2]), 10);
+}
+
+/// What `speeds --slacks --plain` writes of an accepted sheet under an order: its
+/// places, then the verdict at each G.
+fn slack_lines(table: &Table, order: &Order) -> Vec<u8> {
+    let mut lines = write_line(&[0, table.n]);
+    for (place, &row) in (1..=table.n).zip(order) {
+        lines.extend(write_line(&[place, u32::from(row)]));
+    }
+    for speed in 1..=table.normal {
+        let verdict = plain::judge(&Sought::Degraded.put(table, speed), order);
+        let [before, after] = slack_fields(verdict.slack);
+        lines.extend(write_line(&[speed, u32::from(verdict.row), before, after]));
+    }
+    lines
+}
+
+/// One order at each G: the one at the least G, given ones, correct and not, and
+/// numbers that are no order.
+#[test]
+fn slacks_at_each_speed() {
+    let mut random = Random::seeded(714);
+    let mut tally = Tally::new("command speeds --slacks, by status with and without an order");
+    for _ in 0..150 {
+        let table = a_table(&mut random);
+        let sheet = sheet_of(&table);
+        let order = any_order(&mut random, table.n, 4);
+        let listed = order_words(&order).join(",");
+        let of_given = match check_order(table.n, &order) {
+            0 => (slack_lines(&table, &order), 0),
+            number => refused(number, 0),
+        };
+        let of_least = match plain::least_by_scan(&table, Sought::Degraded) {
+            Least {
+                number: 0, order, ..
+            } => (slack_lines(&table, &order), 0),
+            Least { number, .. } => {
+                let fastest = plain::plan(&Sought::Degraded.put(&table, table.normal));
+                refused(number, fastest.rows_left())
+            }
+        };
+        tally.saw((of_given.1, of_least.1));
+        let words = ["speeds", "--slacks", "--plain", "-"];
+        assert_eq!(command(&words, &sheet), of_least, "{table:?}");
+        let with_order = [&words[..], &[&listed]].concat();
+        assert_eq!(
+            command(&with_order, &sheet),
+            of_given,
+            "{table:?} {order:?}"
+        );
+    }
+    tally.assert_common(&[(0, 0), (0, 1), (2, 0), (2, 1)], 3);
 }
 
 /// A line for each slot of the run on paper: slot, row, got, work, how it closed,

@@ -1,6 +1,6 @@
 //! The stack of every call, against what the header says of it.
 
-use compiled::stack::peaks;
+use compiled::stack::{peaks, to_state};
 use std::fs;
 
 /// A file of the repository.
@@ -33,8 +33,13 @@ fn the_header_says_what_each_call_takes() {
         .into_iter()
         .map(|(name, bytes)| (name.to_string(), bytes))
         .collect();
-    println!("measured {measured:?}");
-    assert_eq!(names(&stated), names(&measured));
+    for (name, took) in &measured {
+        println!(
+            "{name} took {took} bytes, to be stated: {}",
+            to_state(*took)
+        );
+    }
+    assert_eq!(names(&stated), names(&measured), "the header's comment");
     for ((name, said), (_, took)) in stated.iter().zip(&measured) {
         assert!(
             took <= said,

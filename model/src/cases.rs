@@ -3,6 +3,7 @@
 
 use crate::order::{order_of, Order, NO_ORDER};
 use crate::plan::Plan;
+use crate::speeds::{Least, Sought, BOTH};
 use crate::table::{Row, Table};
 
 /// A row from its figures: a (slots), c (work units), d (slots), level.
@@ -197,6 +198,140 @@ pub fn loading_runs() -> Vec<LoadingRun> {
             &[[4, 17, 17]],
         ),
     ]
+}
+
+/// A least workable speed, worked out by hand.
+pub struct LeastCase {
+    pub what: &'static str,
+    pub table: Table,
+    pub sought: Sought,
+    pub answer: Least,
+}
+
+/// The answer with this speed (work units per slot) and order, highest place first.
+pub fn least_of(speed: u32, rows: &[u8]) -> Least {
+    Least {
+        number: 0,
+        speed,
+        order: order_of(rows),
+    }
+}
+
+/// Row 1 is HI and has 20 slots for 200 work units, row 2 is LO and has 18 slots
+/// for 180. N is 20, and at each G from 19 on the HI row fits below the LO row.
+pub fn cooler(degraded: u32) -> Table {
+    table(20, degraded, &[[0, 200, 20, 1], [0, 180, 18, 0]])
+}
+
+/// One row, released at 0 with a deadline of 1 slot.
+fn one_slot(normal: u32, degraded: u32, work: u32, level: u32) -> Table {
+    table(normal, degraded, &[[0, work, 1, level]])
+}
+
+/// The same speed sought in these tables, each with what it is answered.
+fn sought_in(sought: Sought, cases: &[(&'static str, Table, Least)]) -> Vec<LeastCase> {
+    let case = |&(what, table, answer): &(&'static str, Table, Least)| LeastCase {
+        what,
+        table,
+        sought,
+        answer,
+    };
+    cases.iter().map(case).collect()
+}
+
+/// Least workable speeds (section 18 of the rules): of P1 to P6, at both ends of
+/// the range and past them, with loading, and of tables that are refused.
+pub fn least_speeds() -> Vec<LeastCase> {
+    let (at, none) = (least_of, Least::refused(7));
+    let degraded = [
+        ("G 18 is too slow and 19 is not", cooler(1), at(19, &[2, 1])),
+        ("P1", p1(), at(2, &[1, 2, 3, 4])),
+        (
+            "P2 would do with less than its G",
+            p2(),
+            at(2, &[3, 1, 2, 4]),
+        ),
+        ("P3 has none with its own G", p3(), at(2, &[1, 2])),
+        ("P4 has none with its own G", p4(), at(2, &[2, 1])),
+        ("P5, a LO row alone", one_slot(3, 3, 3, 0), at(1, &[1])),
+        ("P5 with 4 work units", one_slot(3, 3, 4, 0), none),
+        ("P6", one_slot(2, 1, 2, 1), at(2, &[1])),
+        ("1 is enough", one_slot(1_000, 1_000, 1, 1), at(1, &[1])),
+        ("1 would do, 1 is N", one_slot(1, 1, 1, 1), at(1, &[1])),
+        (
+            "it has to be 2 of 1,000",
+            one_slot(1_000, 1, 2, 1),
+            at(2, &[1]),
+        ),
+        (
+            "it has to be 999",
+            one_slot(1_000, 1, 999, 1),
+            at(999, &[1]),
+        ),
+        (
+            "it has to be 1,000",
+            one_slot(1_000, 1, 1_000, 1),
+            at(1_000, &[1]),
+        ),
+        ("1,000 is too slow", one_slot(1_000, 1, 1_001, 1), none),
+        ("N is too slow for a HI row", one_slot(7, 7, 8, 1), none),
+        ("K 1", at_loading(1), at(1, &[1, 2])),
+        ("K 2", at_loading(2), at(2, &[1, 2])),
+        ("K 3", at_loading(3), none),
+        ("G above N", cooler(21), Least::refused(4)),
+        ("G of 0", cooler(0), Least::refused(4)),
+    ];
+    let normal = [
+        ("with G 19 it is 20", cooler(19), at(20, &[2, 1])),
+        (
+            "with G 18 it is above its own N",
+            cooler(18),
+            at(23, &[1, 2]),
+        ),
+        ("P1", p1(), at(5, &[1, 2, 3, 4])),
+        ("P2", p2(), at(4, &[3, 1, 2, 4])),
+        ("P3 has none with its own N", p3(), at(4, &[2, 1])),
+        ("P4 has none with its own N", p4(), at(3, &[1, 2])),
+        ("P5", one_slot(3, 1, 3, 0), at(3, &[1])),
+        ("P5 with 4 work units", one_slot(3, 1, 4, 0), at(4, &[1])),
+        ("P6", one_slot(2, 2, 2, 1), at(2, &[1])),
+        ("P6 with G 1", one_slot(2, 1, 2, 1), none),
+        ("G is enough", one_slot(1_000, 1, 1, 0), at(1, &[1])),
+        ("less than G would do", one_slot(9, 7, 3, 0), at(7, &[1])),
+        ("it has to be G and 1", one_slot(9, 7, 8, 0), at(8, &[1])),
+        ("it has to be 999", one_slot(1, 1, 999, 0), at(999, &[1])),
+        (
+            "it has to be 1,000",
+            one_slot(1, 1, 1_000, 0),
+            at(1_000, &[1]),
+        ),
+        ("1,000 is too slow", one_slot(1, 1, 1_001, 0), none),
+        ("1,000 is G", one_slot(1_000, 1_000, 9, 0), at(1_000, &[1])),
+        (
+            "another order than at its own N",
+            at_loading(0),
+            at(1, &[1, 2]),
+        ),
+        ("K 1", at_loading(1), at(2, &[1, 2])),
+        ("K 2", at_loading(2), none),
+        ("N below G", cooler(21), Least::refused(4)),
+        ("N of 1,001", one_slot(1_001, 1, 1, 0), Least::refused(4)),
+    ];
+    let (no_rows, no_work) = (Table { n: 0, ..p1() }, one_slot(2, 1, 0, 0));
+    let loading_above = no_work.with_loading(17);
+    let refused = [
+        ("no rows", no_rows, Least::refused(3)),
+        ("N of 0", Sought::Normal.put(&p1(), 0), Least::refused(4)),
+        ("K 17, and no work", loading_above, Least::refused(11)),
+        ("no work", no_work, Least::refused(5)),
+    ];
+    let mut cases = sought_in(Sought::Degraded, &degraded);
+    cases.extend(sought_in(Sought::Normal, &normal));
+    cases.extend(
+        BOTH.into_iter()
+            .flat_map(|sought| sought_in(sought, &refused)),
+    );
+    cases
 }
 
 /// What the planning program writes for P1 (rule 13.10).

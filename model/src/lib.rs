@@ -21,6 +21,7 @@
 //! | `record`  | the run record, check 9, one slot and forward on a record    |
 //! | `plan`    | worst finish, slack, the planner's choice                    |
 //! | `judge`   | the judge of orders                                          |
+//! | `speeds`  | the least workable speeds, by a scan over all of the range   |
 //! | `sheet`   | the sheet's fields, its reader and its writer                |
 //! | `place`   | where a refused sheet is at fault                           |
 //! | `report`  | the report: its figures, lines and totals                    |
@@ -44,4 +45,5 @@ pub mod record;
 pub mod report;
 pub mod run;
 pub mod sheet;
+pub mod speeds;
 pub mod table;

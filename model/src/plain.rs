@@ -13,6 +13,7 @@ use crate::plan::Plan;
 use crate::record::Record;
 use crate::report::{figure, LAST_LINE, PLACE_LINE};
 use crate::sheet::{read_sheet, write_field, write_line, FIRST_LINE, LINE_END, ROW_LINE};
+use crate::speeds::{Least, Sought};
 use crate::table::{check_table, need, Table, HI, LO, ROWS};
 
 /// What a row can take in its worst runs, and the rows by release.
@@ -128,6 +129,55 @@ fn answer(number: u32, order: Order, left: u64) -> Plan {
         order,
         left,
     }
+}
+
+/// The least workable speed: every speed of the range is planned, from the least
+/// on, until one has an order.
+pub fn least_by_scan(table: &Table, sought: Sought) -> Least {
+    let refusal = check_table(table);
+    if refusal != 0 {
+        return Least::refused(refusal);
+    }
+    let found = sought
+        .range(table)
+        .find_map(|speed| planned_at(table, sought, speed));
+    found.unwrap_or(Least::refused(7))
+}
+
+/// The same by halves. It relies on it that correct orders stay correct at larger
+/// speeds.
+pub fn least_by_halves(table: &Table, sought: Sought) -> Least {
+    least_and_plannings(table, sought).0
+}
+
+/// The search by halves, and how many plannings it made: always the middle one of
+/// those speeds that can still be the least, the one after the range among them.
+pub fn least_and_plannings(table: &Table, sought: Sought) -> (Least, u32) {
+    let refusal = check_table(table);
+    if refusal != 0 {
+        return (Least::refused(refusal), 0);
+    }
+    let (mut low, most) = sought.range(table).into_inner();
+    let (mut high, mut found, mut plannings) = (most + 1, Least::refused(7), 0);
+    while low < high {
+        let middle = low + (high - low) / 2;
+        plannings += 1;
+        match planned_at(table, sought, middle) {
+            Some(slower) => (high, found) = (middle, slower),
+            None => low = middle + 1,
+        }
+    }
+    (found, plannings)
+}
+
+/// The answer with this speed and the planner's order for it, if there is one.
+fn planned_at(table: &Table, sought: Sought, speed: u32) -> Option<Least> {
+    let Plan { number, order, .. } = plan(&sought.put(table, speed));
+    (number == 0).then_some(Least {
+        number,
+        speed,
+        order,
+    })
 }
 
 /// The checks of the table, then 6.

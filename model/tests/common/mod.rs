@@ -1,6 +1,8 @@
 //! What several test files share: tables, answers, random runs, lent bytes.
 #![allow(dead_code)]
 
+pub mod correct;
+
 use model::judge::Verdict;
 use model::order::{orders, Order};
 use model::random::{loading_table_in, table_in, Random, Ranges};

@@ -1,9 +1,11 @@
 //! The faults of section 14 of the rules, but for the check of rule 14.11, each built
 //! into a planner of its own, and the smallest tables on which that planner and
-//! the true one differ. Run with `--nocapture` to read the tables.
+//! the true one differ. `speeds` has faults in the search for the least workable
+//! speed. Run with `--nocapture` to read the tables.
 
 mod planners;
 mod search;
+mod speeds;
 
 use model::cases::{p1, p2, p3, p4, table as table_of};
 use model::order::{order_of, NO_ORDER};

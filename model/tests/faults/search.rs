@@ -116,17 +116,25 @@ pub struct Witness {
 /// The smallest table on which this planner differs from the true one in one of
 /// these kinds, among the tables tried.
 pub fn smallest(planner: &Planner, kinds: &[Kind]) -> Option<Witness> {
-    let mut found = None;
+    let of_kind = |table: &Table| witness(planner, table).filter(|(kind, _)| kinds.contains(kind));
+    let (kind, witness) = first_of(&of_kind)?;
+    print(planner, kind, &witness);
+    Some(witness)
+}
+
+/// What `found` makes of the smallest table of which it makes anything, among the
+/// tables tried.
+pub fn first_of<Found>(found: &dyn Fn(&Table) -> Option<Found>) -> Option<Found> {
+    let mut first = None;
     for (n, most) in TRIED {
         for sum in 0..=most {
             every_table(n, sum, &mut |table| {
-                if found.is_none() {
-                    found = witness(planner, table).filter(|(kind, _)| kinds.contains(kind));
+                if first.is_none() {
+                    first = found(table);
                 }
             });
-            if let Some((kind, witness)) = found {
-                print(planner, kind, &witness);
-                return Some(witness);
+            if first.is_some() {
+                return first;
             }
         }
     }
@@ -147,17 +155,22 @@ pub fn witness(planner: &Planner, table: &Table) -> Option<(Kind, Witness)> {
 
 pub fn print(planner: &Planner, kind: Kind, witness: &Witness) {
     let table = &witness.table;
-    let mut text = format!("{}\n  {kind:?}\n", planner.name);
-    let (normal, degraded, loading) = (table.normal, table.degraded, table.loading);
-    text += &format!("  N {normal}, G {degraded}, K {loading}, rows");
-    for job in table.rows() {
-        let (a, c, d, level) = (job.release, job.work, job.deadline, job.level);
-        text += &format!(" ({a} {c} {d} {level})");
-    }
+    let mut text = format!("{}\n  {kind:?}\n  {}", planner.name, figures(table));
     for (name, answer) in [("true", &witness.truth), ("faulty", &witness.faulty)] {
         let order = &answer.order[..table.n as usize];
         let (number, left) = (answer.number, answer.left);
         text += &format!("\n  {name}: {number}, order {order:?}, rows left {left:#b}");
     }
     println!("{text}");
+}
+
+/// The figures of a table, as they are printed.
+pub fn figures(table: &Table) -> String {
+    let (normal, degraded, loading) = (table.normal, table.degraded, table.loading);
+    let mut text = format!("N {normal}, G {degraded}, K {loading}, rows");
+    for job in table.rows() {
+        let (a, c, d, level) = (job.release, job.work, job.deadline, job.level);
+        text += &format!(" ({a} {c} {d} {level})");
+    }
+    text
 }

@@ -1,11 +1,15 @@
 //! Measures the compiled library against plain Rust by the same algorithm.
 //!
 //!     cargo run --offline --release --bin bench
+//!     cargo run --offline --release --bin bench -- searches
 //!
 //! The headline is the ratio: the library's time divided by plain Rust's, both
-//! from this run, this machine and the same inputs. Nothing is asserted.
+//! from this run, this machine and the same inputs. Nothing is asserted. With the
+//! word `searches` nothing is timed: each search for a least speed is made once, for
+//! tools/plannings.sh, which counts its plannings.
 
 mod pairs;
+mod searches;
 
 use compiled::raw::{self, StateWords, TableWords};
 use compiled::sheets::{easy, hard, hard_loading};
@@ -28,6 +32,9 @@ const ROW_COUNTS: [u32; 4] = [8, 16, 32, 64];
 const SET_BACK: u32 = 900_000;
 
 fn main() {
+    if std::env::args().nth(1).as_deref() == Some("searches") {
+        return searches::make_each_once();
+    }
     println!("Ratio: time of the library divided by time of plain Rust, same run and inputs.");
     println!("Buffers for results are not cleared before a call, on either side; both sides");
     println!("write them whole, but of a sheet's or a report's buffer just the text. Run");
@@ -48,6 +55,11 @@ fn main() {
     for_each_count(|n| measure_forward("forward, a million slots", &busy(n, HI, 0)));
     for_each_count(|n| measure_forward("forward, LO rows", &busy(n, LO, 0)));
     for_each_count(|n| measure_forward("forward, LO rows, K 16", &busy(n, LO, MOST_LOADING)));
+    println!("Searches for the least workable speed, which is the last figure of their names,");
+    println!("from 1 to 1,000 work units per slot; at the end one planning at that speed, and");
+    println!("the ratio of the search to it.\n");
+    searches::measure();
+    println!();
     print_stack();
 }
 
@@ -244,9 +256,10 @@ fn library_forward(input: &Input, state: &mut StateWords, supplies: &[u32]) -> (
 
 /// Peak stack of every export, and of plain Rust's planning and forward.
 fn print_stack() {
-    println!("Peak stack in bytes, without what the caller lends (512 stands for less):");
+    println!("Peak stack in bytes, without what the caller lends (512 stands for less), and");
+    println!("what the header states for it: 64 bytes more, rounded up to a multiple of 256:");
     for (name, bytes) in stack::peaks() {
-        println!("  {name:<16}{bytes:>7}");
+        println!("  {name:<24}{bytes:>7}{:>7}", stack::to_state(bytes));
     }
     let (planned, run) = (hard(64), Input::of(&busy(64, HI, 0)));
     let supplies = vec![1; 10_000];

@@ -1,4 +1,4 @@
-//! Times two calls that do the same in turns and prints their ratio.
+//! Times calls that do the same in turns and prints their ratio.
 
 use std::time::{Duration, Instant};
 
@@ -10,26 +10,64 @@ const BATCH: Duration = Duration::from_millis(10);
 
 /// Prints the head of the table.
 pub fn print_head() {
-    println!(
+    println!("{}", head());
+}
+
+fn head() -> String {
+    format!(
         "{:<28}{:>5}{:>8}{:>16}{:>16}",
         "what", "rows", "ratio", "library", "plain Rust"
-    );
+    )
 }
 
 /// Measures one pair on so many rows and prints its line.
 pub fn measure(what: &str, rows: u32, library: &mut dyn FnMut(), plain: &mut dyn FnMut()) {
-    let (library_calls, plain_calls) = (calls_in_batch(library), calls_in_batch(plain));
-    let (mut of_library, mut of_plain) = (f64::INFINITY, f64::INFINITY);
-    for _ in 0..BATCHES {
-        of_library = of_library.min(nanoseconds(library, library_calls));
-        of_plain = of_plain.min(nanoseconds(plain, plain_calls));
-    }
-    println!(
+    println!("{}", line(what, rows, best([library, plain])));
+}
+
+fn line(what: &str, rows: u32, [of_library, of_plain]: [f64; 2]) -> String {
+    format!(
         "{what:<28}{rows:>5}{:>8.2}{:>16}{:>16}",
         of_library / of_plain,
         in_words(of_library),
         in_words(of_plain)
+    )
+}
+
+/// Prints the head of the table of calls that are measured against a part of them.
+pub fn print_head_with_part(part: &str) {
+    println!("{}{part:>16}{:>8}", head(), "ratio");
+}
+
+/// Measures one pair and a part of the library's call on so many rows, and prints
+/// their line, with the ratio of the call to its part at the end.
+pub fn measure_with_part(
+    what: &str,
+    rows: u32,
+    library: &mut dyn FnMut(),
+    plain: &mut dyn FnMut(),
+    part: &mut dyn FnMut(),
+) {
+    let [of_library, of_plain, of_part] = best([library, plain, part]);
+    println!(
+        "{}{:>16}{:>8.2}",
+        line(what, rows, [of_library, of_plain]),
+        in_words(of_part),
+        of_library / of_part
     );
+}
+
+/// Nanoseconds that each of these takes: the best of its batches, which take turns
+/// with those of the others.
+fn best<const COUNT: usize>(mut calls: [&mut dyn FnMut(); COUNT]) -> [f64; COUNT] {
+    let in_batch: Vec<u32> = calls.iter_mut().map(|call| calls_in_batch(call)).collect();
+    let mut best = [f64::INFINITY; COUNT];
+    for _ in 0..BATCHES {
+        for ((best, call), &count) in best.iter_mut().zip(&mut calls).zip(&in_batch) {
+            *best = best.min(nanoseconds(call, count));
+        }
+    }
+    best
 }
 
 /// How many calls fill a batch.
