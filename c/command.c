@@ -1,10 +1,10 @@
 /*
  * The command tools/jasminebrace: plans, judges, lists, runs, explains and writes
- * sheets.
+ * sheets, and says their least workable speeds.
  *
- * It has no check, no limit, no planner and no writer of its own: what it says of
- * a sheet, an order or a run is what the archive answered, and a sheet, a report,
- * and each field of 8 bytes of a plain form, is written by the archive. It knows
+ * It has no check, no limit, no planner, no search and no writer of its own: what it
+ * says of a sheet, an order or a run is what the archive answered, and a sheet, a
+ * report, and each field of 8 bytes of a plain form, is written by the archive. It knows
  * how a sheet is laid out, in such fields, to cut it into parts and to ask the
  * archive's reader about each part inside a sheet that is right everywhere else.
  * Rows files and rows as words are in table.h.
@@ -24,7 +24,7 @@
 
 enum status {
     FINE = 0,      /* an order, or yes, or done */
-    NO = 1,        /* no correct order exists, or the order is not correct */
+    NO = 1,        /* no correct order exists, or none at any speed of a range, or the order is not correct */
     REFUSED = 2,   /* the sheet, the order or the run is refused by a number other than 7 */
     NOT_USABLE = 3 /* arguments, a file or standard output cannot be used; nothing is said of a sheet */
 };
@@ -33,6 +33,7 @@ enum status {
 typedef struct {
     bool plain;        /* figures alone, in fields of 8 bytes, or a report's bytes alone */
     bool stretches;    /* run: a line for each stretch of slots */
+    bool slacks;       /* speeds: a line for each G under one order */
     const char *order; /* run: row numbers with commas between, or NULL for the planned order */
     char **words;      /* the arguments that are no options, after the command's name */
     size_t count;      /* how many there are */
@@ -75,6 +76,19 @@ static void put_field(uint32_t figure) {
     fwrite(field, 1, sizeof field, stdout);
 }
 
+static void put_two_fields(uint32_t first, uint32_t second) {
+    put_field(first);
+    put_field(second);
+    putchar('\n');
+}
+
+static void put_three_fields(uint32_t first, uint32_t second, uint32_t third) {
+    put_field(first);
+    put_field(second);
+    put_field(third);
+    putchar('\n');
+}
+
 /* A slack in two fields: the slots before the deadline and the slots after it; at least one is 0. */
 static void put_slack(int64_t slack) {
     put_field(slack > 0 ? (uint32_t)slack : 0);
@@ -83,6 +97,11 @@ static void put_slack(int64_t slack) {
 
 static const char *slots(int64_t count) {
     return count == 1 || count == -1 ? "slot" : "slots";
+}
+
+/* The unit of a speed, after its figure. */
+static const char *per_slot(uint32_t speed) {
+    return speed == 1 ? "work unit per slot" : "work units per slot";
 }
 
 static const char *level_word(uint32_t level) {
@@ -425,15 +444,19 @@ static void explain_refusal(FILE *to, uint32_t number, const uint8_t *bytes, siz
     put_remedy(to, number);
 }
 
-static void explain_no_order(FILE *to, uint64_t left) {
-    put_words(to, JB_NO_ORDER);
-    fputs("rows left:", to);
+static void put_rows_left(FILE *to, uint64_t left) {
     for (unsigned row = 1; row <= JB_ROWS; row++) {
         if (left >> (row - 1) & 1) {
             fprintf(to, " %u", row);
         }
     }
     fputc('\n', to);
+}
+
+static void explain_no_order(FILE *to, uint64_t left) {
+    put_words(to, JB_NO_ORDER);
+    fputs("rows left:", to);
+    put_rows_left(to, left);
     put_remedy(to, JB_NO_ORDER);
 }
 
@@ -610,9 +633,7 @@ static uint32_t *read_supplies(char **words, size_t count, size_t *total) {
 /* Says a refusal: in plain form its number and the count of rows left, and always the explanation. */
 static int refuse_sheet(const request *asked, uint32_t number, const sheet_file *sheet, uint64_t left) {
     if (asked->plain) {
-        put_field(number);
-        put_field(how_many(left));
-        putchar('\n');
+        put_two_fields(number, how_many(left));
     }
     explain_number(stderr, number, sheet, left);
     return status_of(number);
@@ -621,9 +642,7 @@ static int refuse_sheet(const request *asked, uint32_t number, const sheet_file 
 /* Says a refusal of an order, or of a slot. */
 static int refuse_call(const request *asked, uint32_t number) {
     if (asked->plain && number == JB_NOT_AN_ORDER) {
-        put_field(number);
-        put_field(0);
-        putchar('\n');
+        put_two_fields(number, 0);
     }
     put_words(stderr, number);
     put_remedy(stderr, number);
@@ -690,27 +709,35 @@ static int plan_plain(const sheet_file *sheet) {
     return status_of(number);
 }
 
-static int plan_words(const request *asked, const sheet_file *sheet) {
-    jb_table table;
-    uint8_t order[JB_ROWS];
+/* Says a correct order with the slack of each place; in the plain form the lines of its places alone. */
+static int put_correct_order(const request *asked, const jb_table *table, const uint8_t order[JB_ROWS]) {
     uint32_t worst[JB_ROWS];
-    uint64_t left;
-    uint32_t number = read_and_plan(sheet, &table, order, &left);
-    if (number != JB_OK) {
-        return refuse_sheet(asked, number, sheet, left);
-    }
-    number = jb_worst_finishes(&table, order, worst);
+    const uint32_t number = jb_worst_finishes(table, order, worst);
     if (number != JB_OK) {
         return refuse_call(asked, number);
     }
-    printf("a correct order of %" PRIu32 " %s, highest place first\n", table.n, table.n == 1 ? "row" : "rows");
-    for (uint32_t place = 1; place <= table.n; place++) {
+    if (!asked->plain) {
+        printf("a correct order of %" PRIu32 " %s, highest place first\n", table->n, table->n == 1 ? "row" : "rows");
+    }
+    for (uint32_t place = 1; place <= table->n; place++) {
         const uint32_t row = order[place - 1];
-        const int64_t slack = slack_of(&table, worst, row);
-        printf("place %" PRIu32 ": row %" PRIu32 " (%s), slack %" PRId64 " %s\n", place, row,
-               level_word(table.level[row - 1]), slack, slots(slack));
+        const int64_t slack = slack_of(table, worst, row);
+        if (asked->plain) {
+            put_three_fields(place, row, (uint32_t)slack);
+        } else {
+            printf("place %" PRIu32 ": row %" PRIu32 " (%s), slack %" PRId64 " %s\n", place, row,
+                   level_word(table->level[row - 1]), slack, slots(slack));
+        }
     }
     return FINE;
+}
+
+static int plan_words(const request *asked, const sheet_file *sheet) {
+    jb_table table;
+    uint8_t order[JB_ROWS];
+    uint64_t left;
+    const uint32_t number = read_and_plan(sheet, &table, order, &left);
+    return number == JB_OK ? put_correct_order(asked, &table, order) : refuse_sheet(asked, number, sheet, left);
 }
 
 static int plan(const request *asked) {
@@ -720,6 +747,11 @@ static int plan(const request *asked) {
         return status;
     }
     return asked->plain ? plan_plain(&sheet) : plan_words(asked, &sheet);
+}
+
+/* Says the row of least slack under an order, in words. */
+static void put_least_slack(const jb_table *table, uint32_t row, int32_t slack) {
+    printf("least slack: row %" PRIu32 " (%s), %" PRId32 " %s\n", row, level_word(table->level[row - 1]), slack, slots(slack));
 }
 
 static int judge(const request *asked) {
@@ -744,8 +776,7 @@ static int judge(const request *asked) {
         putchar('\n');
     } else {
         printf("%s\n", yes ? "yes: the order is correct" : "no: the order is not correct");
-        printf("least slack: row %" PRIu32 " (%s), %" PRId32 " %s\n", row, level_word(table.level[row - 1]), slack,
-               slots(slack));
+        put_least_slack(&table, row, slack);
     }
     return yes ? FINE : NO;
 }
@@ -761,9 +792,7 @@ static void put_order(const order_list *order, uint32_t n) {
 /* What stands before the lines of rows or slots: the order, or in the plain form 0 and the row count. */
 static void put_heading(const request *asked, const order_list *order, uint32_t n) {
     if (asked->plain) {
-        put_field(JB_OK);
-        put_field(n);
-        putchar('\n');
+        put_two_fields(JB_OK, n);
     } else {
         put_order(order, n);
     }
@@ -826,6 +855,189 @@ static int report(const request *asked) {
     }
     fwrite(text, 1, length, stdout);
     return FINE;
+}
+
+/* A speed that is sought while the other one is kept as it is. */
+typedef struct {
+    const char *name; /* of the speed sought */
+    char letter;      /* of the speed sought, G or N */
+    char kept;        /* of the other one */
+    uint32_t (*least)(const uint8_t *sheet, size_t length, uint32_t *speed, uint8_t order[JB_ROWS]);
+} search;
+
+static const search LEAST_DEGRADED = {"degraded speed", 'G', 'N', jb_read_least_degraded_speed};
+static const search LEAST_NORMAL = {"normal speed", 'N', 'G', jb_read_least_normal_speed};
+
+static uint32_t speed_of(const jb_table *table, char letter) {
+    return letter == 'G' ? table->degraded : table->normal;
+}
+
+static jb_table with_speed(const jb_table *table, char letter, uint32_t speed) {
+    jb_table other = *table;
+    *(letter == 'G' ? &other.degraded : &other.normal) = speed;
+    return other;
+}
+
+/* The planner's number and rows left at these speeds, in work units per slot. */
+static uint32_t plan_at(jb_table table, uint32_t normal, uint32_t degraded, uint64_t *left) {
+    uint8_t order[JB_ROWS];
+    table.normal = normal;
+    table.degraded = degraded;
+    return jb_plan_table(&table, order, left);
+}
+
+/*
+ * What to do where no speed of a range will do, as far as it can help: a larger
+ * speed of the other kind if there is an order with both at their largest, a smaller
+ * K if there is one without loading, at the speeds given, and both if it takes both.
+ */
+static void put_speed_remedy(FILE *to, const search *of, const jb_table *table, uint32_t normal, uint32_t degraded) {
+    jb_table unloaded = *table;
+    unloaded.loading = 0;
+    uint64_t left;
+    const bool faster = plan_at(*table, JB_MOST_SPEED, JB_MOST_SPEED, &left) == JB_OK;
+    const bool lighter = plan_at(unloaded, normal, degraded, &left) == JB_OK;
+    fputs("remedy: give the rows left later deadlines or less work", to);
+    if (faster && lighter) {
+        fprintf(to, ", the processor a larger %c, or the table a smaller K\n", of->kept);
+    } else if (faster) {
+        fprintf(to, ", or the processor a larger %c\n", of->kept);
+    } else if (lighter) {
+        fputs(", or the table a smaller K\n", to);
+    } else if (plan_at(unloaded, JB_MOST_SPEED, JB_MOST_SPEED, &left) == JB_OK) {
+        fprintf(to, ", or the processor a larger %c and the table a smaller K\n", of->kept);
+    } else {
+        fputc('\n', to);
+    }
+}
+
+/* Says that no speed of the range has a correct order, and gives the rows left at its largest. */
+static uint64_t explain_no_speed(FILE *to, const search *of, const jb_table *table) {
+    const bool degraded = of->letter == 'G';
+    const uint32_t least = degraded ? 1 : table->degraded;
+    const uint32_t largest = degraded ? table->normal : JB_MOST_SPEED;
+    const uint32_t degraded_there = degraded ? largest : table->degraded;
+    uint64_t left;
+    plan_at(*table, largest, degraded_there, &left);
+    fprintf(to, "number %d: no %c from %" PRIu32 " to %" PRIu32 " %s has a correct order\n", JB_NO_ORDER, of->letter, least,
+            largest, per_slot(largest));
+    fprintf(to, "rows left at %c = %" PRIu32 " %s:", of->letter, largest, per_slot(largest));
+    put_rows_left(to, left);
+    put_speed_remedy(to, of, table, largest, degraded_there);
+    return left;
+}
+
+/* Says the least speed of a sheet and the order at it, or that there is none. A sheet that is refused is explained elsewhere. */
+static int put_least_speed(const request *asked, const search *of, const sheet_file *sheet, const jb_table *table) {
+    const uint32_t kept = speed_of(table, of->kept);
+    uint8_t order[JB_ROWS];
+    uint32_t speed;
+    const uint32_t number = of->least(sheet->bytes, sheet->length, &speed, order);
+    if (asked->plain) {
+        put_three_fields(number, speed, number == JB_OK ? table->n : 0);
+    } else if (status_of(number) != REFUSED) {
+        printf("least %s, with %c = %" PRIu32 " %s: ", of->name, of->kept, kept, per_slot(kept));
+    }
+    if (number == JB_OK) {
+        const jb_table at_speed = with_speed(table, of->letter, speed);
+        if (!asked->plain) {
+            printf("%c = %" PRIu32 " %s\n", of->letter, speed, per_slot(speed));
+        }
+        return put_correct_order(asked, &at_speed, order);
+    }
+    if (number == JB_NO_ORDER) {
+        if (!asked->plain) {
+            puts("none");
+        }
+        explain_no_speed(asked->plain ? stderr : stdout, of, table);
+    }
+    return status_of(number);
+}
+
+static int least_speeds(const request *asked) {
+    sheet_file sheet;
+    jb_table table;
+    const int status = read_sheet(asked->words[0], &sheet);
+    if (status != FINE) {
+        return status;
+    }
+    const uint32_t number = jb_read_table(sheet.bytes, sheet.length, &table);
+    if (number != JB_OK) {
+        explain_number(stderr, number, &sheet, 0);
+    }
+    const int degraded = put_least_speed(asked, &LEAST_DEGRADED, &sheet, &table);
+    const int normal = put_least_speed(asked, &LEAST_NORMAL, &sheet, &table);
+    return degraded > normal ? degraded : normal;
+}
+
+/* Reads the sheet, and takes the order at its least G where none was given. Gives FINE, or a status with everything said. */
+static int load_least(const request *asked, jb_table *table, order_list *order) {
+    sheet_file sheet;
+    uint32_t speed;
+    const int status = load_table(asked, &sheet, table);
+    if (status != FINE || order->count != 0) {
+        return status;
+    }
+    const uint32_t number = jb_least_degraded_speed(table, &speed, order->places);
+    if (number == JB_NO_ORDER) {
+        const uint64_t left = explain_no_speed(stderr, &LEAST_DEGRADED, table);
+        if (asked->plain) {
+            put_two_fields(number, how_many(left));
+        }
+    }
+    return status_of(number);
+}
+
+/* Says the judge's verdict on an order at one G. Gives the judge's number. */
+static uint32_t put_slack_at(const request *asked, const jb_table *table, const order_list *order, uint32_t speed) {
+    const jb_table at_speed = with_speed(table, 'G', speed);
+    uint32_t yes;
+    uint32_t row;
+    int32_t slack;
+    const uint32_t number = jb_judge_order(&at_speed, order->places, &yes, &row, &slack);
+    if (number != JB_OK) {
+        return number;
+    }
+    if (asked->plain) {
+        put_field(speed);
+        put_field(row);
+        put_slack(slack);
+        putchar('\n');
+    } else {
+        printf("G = %" PRIu32 " %s: %s, ", speed, per_slot(speed), yes ? "correct" : "not correct");
+        put_least_slack(table, row, slack);
+    }
+    return number;
+}
+
+/* One order at each G from 1 to N. */
+static int slacks(const request *asked) {
+    jb_table table;
+    order_list order = {{0}, 0};
+    int status = add_words(asked->words + 1, asked->count - 1, &order);
+    if (status == FINE) {
+        status = load_least(asked, &table, &order);
+    }
+    if (status != FINE) {
+        return status;
+    }
+    uint32_t worst[JB_ROWS];
+    uint32_t number = jb_worst_finishes(&table, order.places, worst);
+    if (number != JB_OK) {
+        return refuse_call(asked, number);
+    }
+    put_heading(asked, &order, table.n);
+    for (uint32_t place = 1; asked->plain && place <= table.n; place++) {
+        put_two_fields(place, order.places[place - 1]);
+    }
+    for (uint32_t speed = 1; number == JB_OK && speed <= table.normal; speed++) {
+        number = put_slack_at(asked, &table, &order, speed);
+    }
+    return status_of(number);
+}
+
+static int speeds(const request *asked) {
+    return asked->slacks ? slacks(asked) : least_speeds(asked);
 }
 
 /* How a row has closed, for plain lines: see the help of run. */
@@ -1258,6 +1470,32 @@ static const char REPORT_HELP[] =
     "line of its number and the count of rows left, which is 0 but for 7, each in a\n"
     "field of 8 bytes.\n";
 
+static const char SPEEDS_HELP[] =
+    "says the least degraded and the least normal speed at which a correct order exists\n"
+    "\n"
+    "First the least G from 1 to N, with N as it is, then the least N from G to 1,000,\n"
+    "with G as it is, in work units per slot; after each the planner's order at that\n"
+    "speed, highest place first, with the slack of each row in slots. At every larger\n"
+    "speed of the range that order is correct too, and at every smaller one none is. Each\n"
+    "answer holds with the other speed as the sheet states it: the two least speeds\n"
+    "together may have no correct order. What the sheet states as the speed sought must be\n"
+    "within its limits and does not matter otherwise. Status 1 if no speed of one range,\n"
+    "or of both, has a correct order: that is said on standard output, and the rows left\n"
+    "are then those at the largest speed of the range.\n"
+    "\n"
+    "--slacks: for one order the judge's verdict at each G from 1 to N: correct or not, the\n"
+    "row of least slack (the lower row on a tie) and that slack in slots. ROW.. is the\n"
+    "order as for judge; without it the order at the least G is taken. Any order is\n"
+    "listed, with status 0.\n"
+    "\n"
+    "--plain: for G and then for N a first line: 0, the speed in work units per slot and\n"
+    "the row count, or a refusal's number, 0 and 0. After 0 a line for each place: place,\n"
+    "row, slack in slots. A sheet that is refused gives its number in both first lines.\n"
+    "With --slacks: first line: 0 and the row count, or a refusal's number and the count\n"
+    "of rows left, 0 but for 7. After 0 a line for each place: place, row. Then a line\n"
+    "for each G: G in work units per slot, row of least slack, slots by which it\n"
+    "finishes before its deadline, slots by which it finishes after it.\n";
+
 static const char RUN_HELP[] =
     "works a run, one slot for each supply, and says what each slot did\n"
     "\n"
@@ -1332,6 +1570,7 @@ static const command COMMANDS[] = {
     {"judge", judge, 2, 0, "judge SHEET ROW..", JUDGE_HELP},
     {"finishes", finishes, 1, 0, "finishes SHEET [ROW..]", FINISHES_HELP},
     {"report", report, 1, 0, "report SHEET [ROW..]", REPORT_HELP},
+    {"speeds", speeds, 1, 0, "speeds {SHEET | --slacks SHEET [ROW..]}", SPEEDS_HELP},
     {"run", run, 2, 0, "run SHEET [--order ROW,ROW..] [--stretches] SUPPLY..", RUN_HELP},
     {"explain", explain, 1, 1, "explain SHEET", EXPLAIN_HELP},
     {"sheet", sheet, 1, 0, "sheet {ROWS.csv | N G K RELEASE,WORK,DEADLINE,LEVEL..}", SHEET_HELP},
@@ -1373,9 +1612,9 @@ static int put_help(const command *of) {
           "What was asked for goes to standard output, the explanation of a refusal to\n"
           "standard error (that of explain to standard output).\n"
           "\n"
-          "Exit status: 0 an order, or yes, or done; 1 no correct order exists (number 7),\n"
-          "or no; 2 refused by another number; 3 cannot be used (arguments, a file, standard\n"
-          "output, a missing tool).\n",
+          "Exit status: 0 an order, or yes, or done; 1 no correct order exists (number 7; for\n"
+          "speeds: at no speed of a range), or no; 2 refused by another number; 3 cannot be\n"
+          "used (arguments, a file, standard output, a missing tool).\n",
           stdout);
     return FINE;
 }
@@ -1409,6 +1648,8 @@ static int take_option(command_line *line, const char *option, const char *next,
         line->asked.plain = true;
     } else if (strcmp(option, "--stretches") == 0) {
         line->asked.stretches = true;
+    } else if (strcmp(option, "--slacks") == 0) {
+        line->asked.slacks = true;
     } else if (strcmp(option, order) == 0) {
         if (next == NULL) {
             return not_usable("--order needs row numbers with commas between");
@@ -1468,8 +1709,14 @@ static int do_line(const command_line *line) {
         not_usable("--order and --stretches belong to run");
         return bad_usage(of);
     }
-    if (given < of->least || (of->most != 0 && given > of->most)) {
-        not_usable("%s takes %s%zu %s; %zu given", of->name, of->most == 0 ? "at least " : "", of->least,
+    if (of->does != speeds && line->asked.slacks) {
+        not_usable("--slacks belongs to speeds");
+        return bad_usage(of);
+    }
+    /* Without --slacks speeds takes no order. */
+    const size_t most = of->does == speeds && !line->asked.slacks ? 1 : of->most;
+    if (given < of->least || (most != 0 && given > most)) {
+        not_usable("%s takes %s%zu %s; %zu given", of->name, most == 0 ? "at least " : "", of->least,
                    of->least == 1 ? "argument" : "arguments", given);
         return bad_usage(of);
     }
@@ -1477,7 +1724,7 @@ static int do_line(const command_line *line) {
 }
 
 int main(int count, char **words) {
-    command_line line = {false, false, NULL, {false, false, NULL, NULL, 0}};
+    command_line line = {false, false, NULL, {false, false, false, NULL, NULL, 0}};
     if (!jb_fits()) {
         return not_usable("the archive has interface %" PRIu32 " and this program was compiled for %u", jb_version(),
                           JB_VERSION);

@@ -1,8 +1,8 @@
 /*
  * The library without a C library: the two functions that the archive needs, an
  * entry of its own, and a run of case P1 from its sheet to its last row; then the
- * sheet is written back, and a report of its rows. It shows what a board has to
- * provide. Build and run it on x86-64 Linux:
+ * sheet is written back, a report of its rows, and its least G is asked for. It shows
+ * what a board has to provide. Build and run it on x86-64 Linux:
  *
  *     gcc -std=c11 -O2 -ffreestanding -nostdlib -static -fno-tree-loop-distribute-patterns \
  *         -o freestanding c/freestanding.c target/staticlib/libjasminebrace.a
@@ -69,6 +69,7 @@ static int steps(void) {
     uint8_t order[JB_ROWS];
     uint64_t left;
     uint32_t length;
+    uint32_t speed;
     if (!jb_fits()) {
         return 1;
     }
@@ -103,6 +104,9 @@ static int steps(void) {
     }
     if (jb_report_order(&table, order, report, sizeof report, &length) != JB_OK || !same_text(report, length, REPORT)) {
         return 9;
+    }
+    if (jb_least_degraded_speed(&table, &speed, order) != JB_OK || speed != table.degraded) {
+        return 10;
     }
     return 0;
 }

@@ -29,6 +29,7 @@ enum {
     GUARD = 0xC5,      /* the pattern around a buffer */
     GUARD_SIZE = 256,  /* bytes of it that are checked */
     MOST_SUPPLIES = 40,
+    SEARCHED = 4, /* rounds for one in which least speeds are sought: each search plans many times */
     LONGEST_INPUT = 2300, /* bytes, some more than a sheet has */
     MOST_ROOM = 3400      /* bytes lent for a report, some more than one has */
 };
@@ -258,7 +259,24 @@ static size_t fill_input(uint8_t *input) {
 static buffer input_at, sheet_at, report_at, table_at, order_at, run_at, supplies_at, text_at, left_at, word_at, row_at, slack_at, out_at, one_at;
 
 /* The functions, and the numbers that each can give. */
-enum { READ, WRITE, PLAN, JUDGE, FINISHES, REPORT, FRESH, COMING, SLOT, FORWARD, PROGRAM, FUNCTIONS };
+enum {
+    READ,
+    WRITE,
+    PLAN,
+    LEAST_DEGRADED,
+    LEAST_NORMAL,
+    READ_LEAST_DEGRADED,
+    READ_LEAST_NORMAL,
+    JUDGE,
+    FINISHES,
+    REPORT,
+    FRESH,
+    COMING,
+    SLOT,
+    FORWARD,
+    PROGRAM,
+    FUNCTIONS
+};
 static const struct {
     const char *name;
     int numbers[NUMBERS];
@@ -266,6 +284,10 @@ static const struct {
     [READ] = {"read", {0, 1, 2, 3, 4, 11, 5, END}},
     [WRITE] = {"write", {0, 3, 4, 11, 5, 10, END}},
     [PLAN] = {"plan", {0, 3, 4, 11, 5, 7, END}},
+    [LEAST_DEGRADED] = {"least G", {0, 3, 4, 11, 5, 7, END}},
+    [LEAST_NORMAL] = {"least N", {0, 3, 4, 11, 5, 7, END}},
+    [READ_LEAST_DEGRADED] = {"sheet's G", {0, 1, 2, 3, 4, 11, 5, 7, END}},
+    [READ_LEAST_NORMAL] = {"sheet's N", {0, 1, 2, 3, 4, 11, 5, 7, END}},
     [JUDGE] = {"judge", {0, 3, 4, 11, 5, 6, END}},
     [FINISHES] = {"finishes", {0, 3, 4, 11, 5, 6, END}},
     [REPORT] = {"report", {0, 3, 4, 11, 5, 6, 10, END}},
@@ -276,6 +298,7 @@ static const struct {
     [PROGRAM] = {"program", {0, 1, 2, 3, 4, 11, 5, 7, END}},
 };
 static uint64_t counts[FUNCTIONS][NUMBERS];
+static uint64_t range_ends[2]; /* least speeds that are the first and the last of their range */
 static uint64_t loading_slots, working_slots; /* slots worked one by one that brought no work by K, and other ones of a row */
 
 /* Counts an answer, whose number is one that the function can give. */
@@ -322,6 +345,102 @@ static void expect_written_back(const jb_table *table, const uint8_t *sheet, siz
     expect(*written == length && memcmp(sheet_at.start, sheet, length) == 0, "a sheet comes back byte for byte");
 }
 
+/* The searches for a least speed: over a table, over a sheet, and which speed is sought. */
+static const struct {
+    int of_table;
+    int of_sheet;
+    uint32_t (*least)(const jb_table *table, uint32_t *speed, uint8_t order[JB_ROWS]);
+    uint32_t (*least_of_sheet)(const uint8_t *sheet, size_t length, uint32_t *speed, uint8_t order[JB_ROWS]);
+    bool degraded;
+} searches[] = {
+    {LEAST_DEGRADED, READ_LEAST_DEGRADED, jb_least_degraded_speed, jb_read_least_degraded_speed, true},
+    {LEAST_NORMAL, READ_LEAST_NORMAL, jb_least_normal_speed, jb_read_least_normal_speed, false},
+};
+enum { SEARCHES = sizeof searches / sizeof *searches };
+
+/* What a search answered: its results lie between pages that cannot be touched. */
+typedef struct {
+    uint32_t number;
+    const uint32_t *speed;
+    const uint8_t *order;
+} least_answer;
+
+/* Results for a search, with any values. */
+static least_answer place_least(void) {
+    least_answer made = {0, (uint32_t *)place(&word_at, sizeof(uint32_t)), (uint8_t *)place(&out_at, JB_ROWS)};
+    fill_with_any(word_at.start, word_at.size);
+    fill_with_any(out_at.start, out_at.size);
+    return made;
+}
+
+/* Nothing beside the results was written, and they are zeros with every number but 0. */
+static void expect_least(const least_answer *answer, int function) {
+    count(function, answer->number);
+    expect_guards(&word_at);
+    expect_guards(&out_at);
+    expect(answer->number == JB_OK || (*answer->speed == 0 && all_zero(answer->order, JB_ROWS)), "no least speed: zeros");
+}
+
+/* The planner's number for the table with this speed in place of its own, and its order. */
+static uint32_t plan_at(const jb_table *table, bool degraded, uint32_t speed, uint8_t order[JB_ROWS]) {
+    jb_table other = *table;
+    uint64_t left;
+    *(degraded ? &other.degraded : &other.normal) = speed;
+    return jb_plan_table(&other, order, &left);
+}
+
+/* The answer for an accepted table is that of the planner at the speed, at the one below it, and with 7 at the last of the range. */
+static void expect_least_of(const least_answer *answer, const jb_table *table, bool degraded) {
+    const uint32_t first = degraded ? 1 : table->degraded;
+    const uint32_t last = degraded ? table->normal : JB_MOST_SPEED;
+    uint8_t order[JB_ROWS];
+    if (answer->number == JB_NO_ORDER) {
+        expect(plan_at(table, degraded, last, order) == JB_NO_ORDER, "7 only if the largest speed has no order");
+        return;
+    }
+    const uint32_t speed = *answer->speed;
+    expect(answer->number == JB_OK && speed >= first && speed <= last, "the least speed is one of its range");
+    expect(plan_at(table, degraded, speed, order) == JB_OK, "the least speed has an order");
+    expect(memcmp(order, answer->order, JB_ROWS) == 0, "the order is the planner's at the least speed");
+    expect(speed == first || plan_at(table, degraded, speed - 1, order) == JB_NO_ORDER, "the speed below has no order");
+    range_ends[0] += speed == first;
+    range_ends[1] += speed == last;
+}
+
+/* Both searches over the sheet in its buffer, which the reader answered with this number and table. */
+static void try_least_of_sheet(uint32_t number, const jb_table *table) {
+    for (int index = 0; index < SEARCHES; index++) {
+        least_answer answer = place_least();
+        answer.number = searches[index].least_of_sheet(input_at.start, input_at.size, (uint32_t *)word_at.start, out_at.start);
+        expect_least(&answer, searches[index].of_sheet);
+        expect_unwritten(&input_at);
+        if (number == JB_OK) {
+            expect_least_of(&answer, table, searches[index].degraded);
+        } else {
+            expect(answer.number == number, "the searches refuse the sheets that the reader refuses");
+        }
+    }
+}
+
+/* Both searches over the table lent before refuse what the planner refuses. */
+static void try_least(void) {
+    const jb_table *table = (const jb_table *)table_at.start;
+    uint8_t order[JB_ROWS];
+    uint64_t left;
+    const uint32_t planned = jb_plan_table(table, order, &left);
+    for (int index = 0; index < SEARCHES; index++) {
+        least_answer answer = place_least();
+        answer.number = searches[index].least(table, (uint32_t *)word_at.start, out_at.start);
+        expect_least(&answer, searches[index].of_table);
+        expect_unwritten(&table_at);
+        if (planned == JB_OK || planned == JB_NO_ORDER) {
+            expect_least_of(&answer, table, searches[index].degraded);
+        } else {
+            expect(answer.number == planned, "the searches refuse the tables that the planner refuses");
+        }
+    }
+}
+
 static void try_read(void) {
     static uint8_t input[LONGEST_INPUT];
     size_t length = fill_input(input);
@@ -336,6 +455,9 @@ static void try_read(void) {
     expect(number == JB_OK || all_zero(table, sizeof *table), "a refused sheet leaves a table of zeros");
     if (number == JB_OK) {
         expect_written_back(table, sheet, length);
+    }
+    if (once_in(SEARCHED)) {
+        try_least_of_sheet(number, table);
     }
 
     uint8_t *text = (uint8_t *)place(&text_at, JB_PROGRAM_TEXT);
@@ -823,6 +945,9 @@ int main(int argc, char **argv) {
         fill_lent();
         try_write();
         try_plan();
+        if (once_in(SEARCHED)) {
+            try_least();
+        }
         try_judge();
         try_report();
         try_fresh();
@@ -832,6 +957,8 @@ int main(int argc, char **argv) {
     print_counts();
     printf("slots worked one by one: %" PRIu64 " loading, %" PRIu64 " other ones of a row\n", loading_slots, working_slots);
     expect(loading_slots > 0 && working_slots > 0, "both kinds of slots come up");
+    printf("least speeds: %" PRIu64 " the first of their range, %" PRIu64 " the last\n", range_ends[0], range_ends[1]);
+    expect(range_ends[0] > 0 && range_ends[1] > 0, "both ends of the ranges come up");
     printf("%lu rounds, all held\n", rounds);
     return 0;
 }

@@ -1,9 +1,9 @@
 /*
  * Tests of the header's own functions, in what C11 and C++11 have in common:
  * the interface's number, the words for every number, lists of no entries, a
- * sheet written back, reports, K beyond its limit, where a row of a run stands and
- * how far it has loaded, and the packed verdict taken apart. It says how many things
- * it looked at; exit status 1 if one is not as it should be.
+ * sheet written back, least speeds, reports, K beyond its limit, where a row of a run
+ * stands and how far it has loaded, and the packed verdict taken apart. It says how
+ * many things it looked at; exit status 1 if one is not as it should be.
  */
 #include "jasminebrace.h"
 
@@ -37,6 +37,38 @@ static void look_at_words(void) {
     look(strcmp(jb_words(JB_LAST_NUMBER + 1), jb_words(UINT32_MAX)) == 0, "one text for all other numbers", UINT32_MAX);
 }
 
+static int all_are(const uint8_t *bytes, size_t count, uint8_t byte) {
+    for (size_t index = 0; index < count; index++) {
+        if (bytes[index] != byte) {
+            return 0;
+        }
+    }
+    return 1;
+}
+
+static int all_zero(const void *memory, size_t size) {
+    return all_are((const uint8_t *)memory, size, 0);
+}
+
+/* The searches for a least speed, over a table and over a sheet. */
+typedef uint32_t (*least_of_table)(const jb_table *table, uint32_t *speed, uint8_t order[JB_ROWS]);
+typedef uint32_t (*least_of_sheet)(const uint8_t *sheet, size_t length, uint32_t *speed, uint8_t order[JB_ROWS]);
+static const least_of_table LEAST_OF_TABLE[] = {jb_least_degraded_speed, jb_least_normal_speed};
+static const least_of_sheet LEAST_OF_SHEET[] = {jb_read_least_degraded_speed, jb_read_least_normal_speed};
+
+/* A refusal of a table, or of a sheet where there is no table: this number, speed 0 and an order of zeros, from both searches. */
+static void look_at_no_speed(const jb_table *table, const char *sheet, size_t length, uint32_t number, const char *what) {
+    for (unsigned index = 0; index < 2; index++) {
+        uint32_t speed = 7;
+        uint8_t order[JB_ROWS];
+        memset(order, 7, sizeof order);
+        const uint32_t got = table != NULL ? LEAST_OF_TABLE[index](table, &speed, order)
+                                           : LEAST_OF_SHEET[index]((const uint8_t *)sheet, length, &speed, order);
+        look(got == number, what, got);
+        look(speed == 0 && all_zero(order, sizeof order), what, index);
+    }
+}
+
 /* Null goes with a length of 0, and the answer is that of an empty list. */
 static void look_at_empty_lists(void) {
     jb_table table;
@@ -49,6 +81,7 @@ static void look_at_empty_lists(void) {
     uint32_t worked = 7;
     uint32_t length = 7;
     look(jb_read_table(NULL, 0, &table) == JB_LENGTH, "no sheet", 0);
+    look_at_no_speed(NULL, NULL, 0, JB_LENGTH, "no least speed of no sheet");
     look(jb_program_text(NULL, 0, text) == 17 && memcmp(text, "       1       0\n", 17) == 0, "no input", 0);
     look(jb_judge_list(NULL, 0, 2, 1, 0, order, &yes, &row, &slack) == JB_ROW_COUNT && yes == 0 && row == 0 && slack == 0, "no rows", 0);
     look(jb_read_table((const uint8_t *)P3, sizeof P3 - 1, &table) == JB_OK, "P3", 0);
@@ -57,15 +90,6 @@ static void look_at_empty_lists(void) {
     look(jb_report_order(&table, order, NULL, 0, &length) == JB_NO_ROOM && length == 0, "no room for a report", 0);
     look(jb_fresh_run(&table, order, &run) == JB_OK, "fresh", 0);
     look(jb_work_forward(&run, NULL, 0, &worked) == JB_OK && worked == 0 && run.clock == 0, "no supplies", 0);
-}
-
-static int all_are(const uint8_t *bytes, size_t count, uint8_t byte) {
-    for (size_t index = 0; index < count; index++) {
-        if (bytes[index] != byte) {
-            return 0;
-        }
-    }
-    return 1;
 }
 
 /* P3 comes back byte for byte, nothing is written after it, and the table is looked at before the room. */
@@ -82,6 +106,87 @@ static void look_at_sheet(void) {
     look(all_are(sheet + sizeof P3 - 1, sizeof sheet - (sizeof P3 - 1), 'x'), "the bytes after P3", length);
     table.n = JB_ROWS + 1;
     look(jb_write_table(&table, NULL, 0, &length) == JB_ROW_COUNT && length == 0, "no sheet of rows", table.n);
+}
+
+/* A search over a table of one row or two without loading, all speeds in work units per slot, and what it answers. */
+typedef struct {
+    unsigned search; /* 0 for G, 1 for N */
+    uint32_t own;    /* the table's figure for the speed sought, which does not matter */
+    uint32_t kept;   /* the other speed */
+    jb_row rows[2];  /* the second of no work where there is one */
+    uint32_t speed;  /* 0 where no speed of the range will do */
+    uint8_t order[JB_ROWS];
+} least_case;
+
+/*
+ * First N 20, a HI row 0 200 20 and a LO row 0 180 18: above row 2, row 1 makes it a
+ * slot late; below it, 11 slots are left to row 1, so that G is 19. With G 20 the
+ * least N is 20, and the order is other than at larger N. Then P3, and rows whose
+ * least speeds are the ends of the ranges, or just beyond them.
+ */
+static const least_case LEAST_CASES[] = {
+    {0, 1, 20, {{0, 200, 20, JB_HI}, {0, 180, 18, JB_LO}}, 19, {2, 1}},
+    {0, 18, 20, {{0, 200, 20, JB_HI}, {0, 180, 18, JB_LO}}, 19, {2, 1}},
+    {0, 20, 20, {{0, 200, 20, JB_HI}, {0, 180, 18, JB_LO}}, 19, {2, 1}},
+    {1, 20, 20, {{0, 200, 20, JB_HI}, {0, 180, 18, JB_LO}}, 20, {2, 1}},
+    {1, JB_MOST_SPEED, 20, {{0, 200, 20, JB_HI}, {0, 180, 18, JB_LO}}, 20, {2, 1}},
+    {0, 1, 2, {{0, 2, 2, JB_LO}, {0, 4, 4, JB_HI}}, 2, {1, 2}},
+    {1, 1, 1, {{0, 2, 2, JB_LO}, {0, 4, 4, JB_HI}}, 4, {2, 1}},
+    {1, JB_MOST_SPEED, 1, {{0, 2, 2, JB_LO}, {0, 4, 4, JB_HI}}, 4, {2, 1}},
+    {0, 7, 7, {{0, 7, 1, JB_LO}, {0, 0, 0, 0}}, 1, {1}},
+    {0, 7, 7, {{0, 7, 1, JB_HI}, {0, 0, 0, 0}}, 7, {1}},
+    {0, 7, 7, {{0, 8, 1, JB_HI}, {0, 0, 0, 0}}, 0, {0}},
+    {1, 9, 7, {{0, 7, 1, JB_LO}, {0, 0, 0, 0}}, 7, {1}},
+    {1, 7, 7, {{0, 1000, 1, JB_LO}, {0, 0, 0, 0}}, JB_MOST_SPEED, {1}},
+    {1, 7, 7, {{0, 1001, 1, JB_LO}, {0, 0, 0, 0}}, 0, {0}},
+};
+
+static jb_table table_of(const least_case *of) {
+    jb_table table;
+    memset(&table, 0, sizeof table);
+    table.normal = of->search == 0 ? of->kept : of->own;
+    table.degraded = of->search == 0 ? of->own : of->kept;
+    for (uint32_t index = 0; index < 2 && of->rows[index].work != 0; index++) {
+        table.n = index + 1;
+        table.release[index] = of->rows[index].release;
+        table.work[index] = of->rows[index].work;
+        table.deadline[index] = of->rows[index].deadline;
+        table.level[index] = of->rows[index].level;
+    }
+    return table;
+}
+
+/* Each search over its table, and over the sheet of it. */
+static void look_at_least_speeds(void) {
+    for (unsigned index = 0; index < sizeof LEAST_CASES / sizeof LEAST_CASES[0]; index++) {
+        const least_case *expected = &LEAST_CASES[index];
+        const jb_table table = table_of(expected);
+        uint8_t sheet[JB_LONGEST_SHEET];
+        uint32_t length;
+        look(jb_write_table(&table, sheet, sizeof sheet, &length) == JB_OK, "the sheet of least speed case", index);
+        for (unsigned of_sheet = 0; of_sheet < 2; of_sheet++) {
+            uint32_t speed = 7000;
+            uint8_t order[JB_ROWS];
+            memset(order, 7, sizeof order);
+            const uint32_t number = of_sheet != 0 ? LEAST_OF_SHEET[expected->search](sheet, length, &speed, order)
+                                                  : LEAST_OF_TABLE[expected->search](&table, &speed, order);
+            look(number == (expected->speed == 0 ? JB_NO_ORDER : JB_OK) && speed == expected->speed, "least speed, case", index);
+            look(memcmp(order, expected->order, sizeof order) == 0, "order at the least speed, case", index);
+        }
+    }
+}
+
+/* Both searches refuse what the planner refuses, and a sheet that the reader refuses. */
+static void look_at_refused_speeds(void) {
+    jb_table table;
+    look(jb_read_table((const uint8_t *)P3, sizeof P3 - 1, &table) == JB_OK, "P3", 0);
+    look_at_no_speed(NULL, P3, sizeof P3 - 2, JB_LENGTH, "no least speed of a sheet with a byte too few");
+    table.deadline[0] = 0;
+    look_at_no_speed(&table, NULL, 0, JB_ROW_LIMITS, "no least speed with a deadline of 0 slots");
+    table.degraded = table.normal + 1;
+    look_at_no_speed(&table, NULL, 0, JB_SPEEDS, "no least speed with G above N");
+    table.n = JB_ROWS + 1;
+    look_at_no_speed(&table, NULL, 0, JB_ROW_COUNT, "no least speed of 65 rows");
 }
 
 /* The reports of P3 under both its orders: the need at N, the worst finish and the slack of each row, all in slots. */
@@ -159,10 +264,6 @@ static void look_at_fields(void) {
     }
 }
 
-static int all_zero(const void *memory, size_t size) {
-    return all_are((const uint8_t *)memory, size, 0);
-}
-
 /* K above its limit is 11, after 4 and before 5, 6 and 10, wherever a table goes in; what is lent to be written stays. */
 static void look_at_long_loading(void) {
     const jb_row rows[] = {{0, 2, 2, JB_LO}, {0, 4, 4, JB_HI}};
@@ -184,6 +285,7 @@ static void look_at_long_loading(void) {
     sheet[31] = '6';
     look(jb_read_table((const uint8_t *)sheet, sizeof sheet - 1, &table) == JB_OK && table.loading == JB_MOST_LOADING, "a sheet with K", 16);
     table.loading = JB_MOST_LOADING + 1;
+    look_at_no_speed(&table, NULL, 0, JB_LOADING, "no least speed with K 17");
     look(jb_write_table(&table, NULL, 0, &length) == JB_LOADING && length == 0, "no sheet with K", table.loading);
     look(jb_plan_table(&table, planned, &left) == JB_LOADING && left == 0 && all_zero(planned, sizeof planned), "no plan with K", 17);
     look(jb_judge_order(&table, order, &yes, &row, &slack) == JB_LOADING && yes == 0 && row == 0 && slack == 0, "no verdict with K", 17);
@@ -298,6 +400,8 @@ int main(void) {
     look_at_words();
     look_at_empty_lists();
     look_at_sheet();
+    look_at_least_speeds();
+    look_at_refused_speeds();
     look_at_reports_of_p3();
     look_at_longest_report();
     look_at_fields();

@@ -36,20 +36,24 @@
  * Stack, in bytes, without what the caller lends. It is measured, over tables of
  * 1 and 64 rows, and not proved: the most that each call took, and some bytes
  * more (512 stands for less); docs/BENCHMARKS.md says how:
- *     jb_read          5,632
- *     jb_write         3,584
- *     jb_field           512
- *     jb_plan          7,168
- *     jb_judge         8,192
- *     jb_judge_rows    9,984
- *     jb_finishes      7,168
- *     jb_report        7,936
- *     jb_fresh         4,096
- *     jb_coming        9,216
- *     jb_slot          9,984
- *     jb_forward      11,008
- *     jb_program      11,520
- *     jb_version         512
+ *     jb_read                  5,632
+ *     jb_write                 3,584
+ *     jb_field                   512
+ *     jb_plan                  7,168
+ *     jb_least_degraded        9,472
+ *     jb_least_normal          9,472
+ *     jb_read_least_degraded   9,472
+ *     jb_read_least_normal     9,472
+ *     jb_judge                 8,192
+ *     jb_judge_rows            9,984
+ *     jb_finishes              7,168
+ *     jb_report                7,936
+ *     jb_fresh                 4,096
+ *     jb_coming                9,216
+ *     jb_slot                  9,984
+ *     jb_forward              11,008
+ *     jb_program              11,520
+ *     jb_version                 512
  * The functions of the last part add the few words of their own frame.
  *
  * Bare boards. The archive's code uses xmm registers by SSE and SSE2
@@ -139,7 +143,7 @@ enum jb_number {
     JB_SPEEDS = 4,       /* a speed is beyond its limits */
     JB_ROW_LIMITS = 5,   /* a row is beyond its limits, or figures stand after the last */
     JB_NOT_AN_ORDER = 6, /* the order is no order of the table */
-    JB_NO_ORDER = 7,     /* no correct order exists */
+    JB_NO_ORDER = 7,     /* no correct order exists; from a search, at no speed of its range */
     JB_CLOCK_OVER = 8,   /* the clock is at its end, and no further slot is worked */
     JB_UNSOUND = 9,      /* the run record cannot come from a run */
     JB_NO_ROOM = 10,     /* the memory lent is shorter than what has to be written */
@@ -265,6 +269,10 @@ uint32_t jb_write(const uint32_t table[260], uint8_t *sheet, size_t room, uint32
 uint32_t jb_field(uint32_t figure, uint8_t field[8]);
 
 uint32_t jb_plan(const uint32_t table[260], uint8_t order[64], uint64_t *left);
+uint32_t jb_least_degraded(const uint32_t table[260], uint32_t *speed, uint8_t order[64]);
+uint32_t jb_least_normal(const uint32_t table[260], uint32_t *speed, uint8_t order[64]);
+uint32_t jb_read_least_degraded(const uint8_t *sheet, size_t length, uint32_t *speed, uint8_t order[64]);
+uint32_t jb_read_least_normal(const uint8_t *sheet, size_t length, uint32_t *speed, uint8_t order[64]);
 uint32_t jb_judge(const uint32_t table[260], const uint8_t order[64], uint32_t *yes, uint32_t *row, int32_t *slack);
 
 /* Returns no number but a packed word: the number in bits 0 to 3, yes in bit 4,
@@ -361,6 +369,60 @@ static inline uint32_t jb_program_text(const uint8_t *input, size_t length, uint
  */
 static inline uint32_t jb_plan_table(const jb_table *table, uint8_t order[JB_ROWS], uint64_t *left) {
     return jb_plan(jb_table_words(table), order, left);
+}
+
+/*
+ * How slow the processor may become: the least degraded speed G, from 1 work unit
+ * per slot up to the table's N, for which a correct order exists, and the planner's
+ * order at it. What the table states as G must be within its limits and does not
+ * matter otherwise. At every smaller G no correct order exists. At every larger G up
+ * to N one does, and this order is one. The answer holds with N as the table states
+ * it: with a smaller N there may be no correct order.
+ * In:      table, any values.
+ * Out:     0; speed is that G in work units per slot; order is what jb_plan_table
+ *          makes of the table with that G.
+ * Refused: 7 if no G from 1 to N has a correct order; 3, 4, 11 or 5 for the table.
+ *          With either, speed is 0 and order is all zero. (After a 7,
+ *          jb_plan_table tells the rows left at any G that it is handed.)
+ */
+static inline uint32_t jb_least_degraded_speed(const jb_table *table, uint32_t *speed, uint8_t order[JB_ROWS]) {
+    return jb_least_degraded(jb_table_words(table), speed, order);
+}
+
+/*
+ * The same for the normal speed: the least N, from the table's G up to 1,000 work
+ * units per slot, for which a correct order exists. What the table states as N must
+ * be within its limits and does not matter otherwise. The answer holds with G as the
+ * table states it.
+ * In:      table, any values.
+ * Out:     0; speed is that N in work units per slot; order is what jb_plan_table
+ *          makes of the table with that N. It is correct at every larger N up to
+ *          1,000 too.
+ * Refused: 7 if no N from G to 1,000 has a correct order; 3, 4, 11 or 5 for the
+ *          table. With either, speed is 0 and order is all zero.
+ */
+static inline uint32_t jb_least_normal_speed(const jb_table *table, uint32_t *speed, uint8_t order[JB_ROWS]) {
+    return jb_least_normal(jb_table_words(table), speed, order);
+}
+
+/*
+ * The least degraded speed of a sheet.
+ * In:      sheet, length bytes; any bytes, any length; null is allowed with 0.
+ * Out:     as jb_least_degraded_speed of the table that the sheet states.
+ * Refused: 1, 2, 3, 4, 11 or 5 as jb_read_table refuses the sheet; 7 as
+ *          jb_least_degraded_speed. Speed is then 0 and order all zero.
+ */
+static inline uint32_t jb_read_least_degraded_speed(const uint8_t *sheet, size_t length, uint32_t *speed,
+                                                    uint8_t order[JB_ROWS]) {
+    const uint8_t none = 0;
+    return jb_read_least_degraded(length == 0 ? &none : sheet, length, speed, order);
+}
+
+/* The least normal speed of a sheet: as jb_read_least_degraded_speed, for jb_least_normal_speed. */
+static inline uint32_t jb_read_least_normal_speed(const uint8_t *sheet, size_t length, uint32_t *speed,
+                                                  uint8_t order[JB_ROWS]) {
+    const uint8_t none = 0;
+    return jb_read_least_normal(length == 0 ? &none : sheet, length, speed, order);
 }
 
 /*

@@ -72,6 +72,11 @@ refused_at() {
     case_is "$status" "$(printf '%8s%8s' "$number" 0)" "$place" finishes --plain "$file"
     case_is "$status" '' "$place" report "$file"
     case_is "$status" "$(printf '%8s%8s' "$number" 0)" "$place" report --plain "$file" 1
+    case_is "$status" '' "$place" speeds "$file"
+    also_err "$words"
+    case_is "$status" "$(printf '%8s%8s%8s' "$number" 0 0)" "$place" speeds --plain "$file"
+    [ "$(uniq -c out)" = "$(printf '%7s %8s%8s%8s' 2 "$number" 0 0)" ] || complain "speeds --plain $file: not the number in two lines"
+    case_is "$status" "$(printf '%8s%8s' "$number" 0)" "$place" speeds --slacks --plain "$file"
     case_is "$status" '' "$place" run "$file" 5
     case_is "$status" '' "$place" rows --plain "$file"
     case_is "$status" '' "$place" rows "$file"
@@ -123,6 +128,9 @@ for order in '1 1 3 4' '1 2 3' '1 2 3 4 4' '1 2 3 5' '0 1 2 3 4' '1 2 3 4 0 1' '
     also_err 'remedy: give each row of the table once, highest place first'
     # shellcheck disable=SC2086
     case_is 2 '       6       0' '*' report --plain p1.sheet $order
+    # shellcheck disable=SC2086
+    case_is 2 '       6       0' 'number 6: the order does not name every row once and then only zeros' speeds --slacks --plain p1.sheet $order
+    [ "$(wc -l <out)" -eq 1 ] || complain "speeds --slacks --plain p1.sheet $order: more than a refusal"
     case_is 2 '' 'number 6: the order does not name every row once and then only zeros' run p1.sheet 5 --order "${order// /,}"
 done
 case_is 0 'yes: the order is correct' '' judge p1.sheet 1 2 3 4 0 0
@@ -176,6 +184,167 @@ for sheet in p1.sheet p2.sheet rows64.sheet loading.sheet; do
     needs=$(awk 'NR == 1 { n = $2; k = $4 } NR > 1 { sum += k + int(($2 + n - 1) / n) } END { print sum }' "$sheet")
     [ "$(tail -n 1 report)" = "$(printf '%10s%10s' "$needs" 0)" ] || complain "report $sheet: not $needs slots and no late row"
 done
+
+# ---- least speeds ----
+# speeds_are STATUS SHEET: what the command says of the least speeds is the text on standard input; of a sheet from standard input too.
+speeds_are() {
+    cat >expected
+    case_is "$1" '*' '' speeds "$2"
+    cmp -s out expected || complain "speeds $2: not as it should be"
+    case_in=$2
+    case_is "$1" '*' '' speeds -
+    cmp -s out expected || complain "speeds -, from $2: not as it should be"
+    case_in=/dev/null
+}
+# plain_speeds_are STATUS SHEET: the same in figures.
+plain_speeds_are() {
+    local figures
+    while read -r -a figures; do line "${figures[@]}"; done >expected
+    case_is "$1" '*' '*' speeds --plain "$2"
+    cmp -s out expected || complain "speeds --plain $2: not as it should be"
+}
+speeds_are 0 cooler.sheet <<'SPEEDS'
+least degraded speed, with N = 20 work units per slot: G = 19 work units per slot
+a correct order of 2 rows, highest place first
+place 1: row 2 (LO), slack 9 slots
+place 2: row 1 (HI), slack 0 slots
+least normal speed, with G = 20 work units per slot: N = 20 work units per slot
+a correct order of 2 rows, highest place first
+place 1: row 2 (LO), slack 9 slots
+place 2: row 1 (HI), slack 1 slot
+SPEEDS
+lines '0 19 2' '1 2 9' '2 1 0' '0 20 2' '1 2 9' '2 1 1' | plain_speeds_are 0 cooler.sheet
+# The sheet has no correct order with its own speeds, and does with another of either.
+speeds_are 0 p3.sheet <<'SPEEDS'
+least degraded speed, with N = 2 work units per slot: G = 2 work units per slot
+a correct order of 2 rows, highest place first
+place 1: row 1 (LO), slack 1 slot
+place 2: row 2 (HI), slack 1 slot
+least normal speed, with G = 1 work unit per slot: N = 4 work units per slot
+a correct order of 2 rows, highest place first
+place 1: row 2 (HI), slack 0 slots
+place 2: row 1 (LO), slack 0 slots
+SPEEDS
+lines '0 2 2' '1 1 1' '2 2 1' '0 4 2' '1 2 0' '2 1 0' | plain_speeds_are 0 p3.sheet
+# What the sheet itself has for the speed sought does not matter.
+for own in 1 2 18 19 20; do
+    { line 2 20 "$own" 0 && tail -n 2 cooler.sheet; } >own.sheet
+    status=$([ "$own" -ge 10 ] && echo 0 || echo 1) # below 10 no N is enough for row 1
+    case_is "$status" 'least degraded speed, with N = 20 work units per slot: G = 19 work units per slot' '*' speeds own.sheet
+    case_is "$status" '       0      19       2' '*' speeds --plain own.sheet
+done
+for own in 1 3 4 5 1000; do
+    { line 2 "$own" 1 0 && tail -n 2 p3.sheet; } >own.sheet
+    status=$([ "$own" -gt 1 ] && echo 0 || echo 1) # with N 1 no G is enough
+    case_is "$status" 'least normal speed, with G = 1 work unit per slot: N = 4 work units per slot' '*' speeds own.sheet
+done
+# The ends of both ranges: 1 and N, G and 1,000.
+"$command" sheet 30 10 0 0,10,40,1 0,30,100,0 >ends.sheet
+case_is 0 'least degraded speed, with N = 30 work units per slot: G = 1 work unit per slot' '' speeds ends.sheet
+also_out 'least normal speed, with G = 10 work units per slot: N = 10 work units per slot'
+"$command" sheet 40 7 0 0,400,10,1 >ends.sheet
+speeds_are 1 ends.sheet <<'SPEEDS'
+least degraded speed, with N = 40 work units per slot: G = 40 work units per slot
+a correct order of 1 row, highest place first
+place 1: row 1 (HI), slack 0 slots
+least normal speed, with G = 7 work units per slot: none
+number 7: no N from 7 to 1000 work units per slot has a correct order
+rows left at N = 1000 work units per slot: 1
+remedy: give the rows left later deadlines or less work, or the processor a larger G
+SPEEDS
+lines '0 40 1' '1 1 0' '7 0 0' | plain_speeds_are 1 ends.sheet
+also_err 'number 7: no N from 7 to 1000 work units per slot has a correct order'
+! grep -q '^number 7: no G' err || complain "speeds --plain ends.sheet: a G that is there is missed"
+"$command" sheet 5 5 0 0,1000,1,0 0,1,9,0 >ends.sheet
+speeds_are 1 ends.sheet <<'SPEEDS'
+least degraded speed, with N = 5 work units per slot: none
+number 7: no G from 1 to 5 work units per slot has a correct order
+rows left at G = 5 work units per slot: 1 2
+remedy: give the rows left later deadlines or less work, or the processor a larger N
+least normal speed, with G = 5 work units per slot: N = 1000 work units per slot
+a correct order of 2 rows, highest place first
+place 1: row 1 (LO), slack 0 slots
+place 2: row 2 (LO), slack 7 slots
+SPEEDS
+lines '7 0 0' '0 1000 2' '1 1 0' '2 2 7' | plain_speeds_are 1 ends.sheet
+# A remedy is one that can help: a larger speed where there is one that is enough, a smaller K where that is, either, or both together.
+while IFS='|' read -r words remedy; do
+    # shellcheck disable=SC2086 # the words of a sheet
+    "$command" sheet $words >remedy.sheet
+    case_is 1 "remedy: give the rows left later deadlines or less work$remedy" '' speeds remedy.sheet
+done <<'REMEDIES'
+5 5 1 0,10,2,0|, the processor a larger N, or the table a smaller K
+5 1 1 0,1000,2,1|, or the processor a larger G
+5 5 2 0,5,2,0|, or the table a smaller K
+5 5 1 0,1001,2,0|, or the processor a larger N and the table a smaller K
+3 1 2 0,2000,1,0|
+5 5 0 0,1001,1,0|
+REMEDIES
+# No speed of either range.
+"$command" sheet 1000 1000 16 0,1000,16,1 0,9,9,0 >none.sheet
+speeds_are 1 none.sheet <<'SPEEDS'
+least degraded speed, with N = 1000 work units per slot: none
+number 7: no G from 1 to 1000 work units per slot has a correct order
+rows left at G = 1000 work units per slot: 1 2
+remedy: give the rows left later deadlines or less work, or the table a smaller K
+least normal speed, with G = 1000 work units per slot: none
+number 7: no N from 1000 to 1000 work units per slot has a correct order
+rows left at N = 1000 work units per slot: 1 2
+remedy: give the rows left later deadlines or less work, or the table a smaller K
+SPEEDS
+lines '7 0 0' '7 0 0' | plain_speeds_are 1 none.sheet
+also_err 'number 7: no G from 1 to 1000 work units per slot has a correct order'
+also_err 'number 7: no N from 1000 to 1000 work units per slot has a correct order'
+# The rows left are those at the largest speed of each range; with the sheet's own speeds all three are.
+"$command" sheet 10 1 0 0,100,5,1 0,50,30,1 0,60,20,0 >left.sheet
+case_is 1 '' 'rows left: 1 2 3' plan left.sheet
+case_is 1 'rows left at G = 10 work units per slot: 1' '' speeds left.sheet
+also_out 'rows left at N = 1000 work units per slot: 1 2'
+# Of each sample: the orders are those of plan at that speed, and one below it there is none.
+at_speeds() { sed "1s/^\(.\{8\}\).\{16\}/\1$(printf '%8s%8s' "$2" "$3")/" "$1"; } # SHEET N G: the sheet with these speeds
+for sheet in p1.sheet p2.sheet p3.sheet rows64.sheet loading.sheet cooler.sheet warm.sheet; do
+    read -r rows normal degraded _ <"$sheet"
+    case_is 0 '*' '' speeds --plain "$sheet"
+    cp out found
+    least_degraded=$(awk 'NR == 1 { print $2 }' found)
+    least_normal=$(awk -v line=$((rows + 2)) 'NR == line { print $2 }' found)
+    head -n $((rows + 1)) found | tail -n +2 >degraded.places
+    tail -n "$rows" found >normal.places
+    at_speeds "$sheet" "$normal" "$least_degraded" | "$command" plan --plain - | tail -n +2 | cmp -s - degraded.places ||
+        complain "speeds $sheet: not the order of plan at G $least_degraded"
+    at_speeds "$sheet" "$least_normal" "$degraded" | "$command" plan --plain - | tail -n +2 | cmp -s - normal.places ||
+        complain "speeds $sheet: not the order of plan at N $least_normal"
+    [ "$least_degraded" -eq 1 ] || { at_speeds "$sheet" "$normal" $((least_degraded - 1)) >less.sheet && case_is 1 '' '*' plan less.sheet; }
+    [ "$least_normal" -eq "$degraded" ] || { at_speeds "$sheet" $((least_normal - 1)) "$degraded" >less.sheet && case_is 1 '' '*' plan less.sheet; }
+    # Under the order at the least G: the judge's verdict at each G, yes from the least on.
+    order=$(awk '{ printf "%s%s", comma, $2; comma = "," }' degraded.places)
+    for given in '' "$order" "$(seq -s , "$rows" -1 1)"; do
+        taken=${given:-$order}
+        case_is 0 "$(line 0 "$rows")" '' speeds --slacks --plain "$sheet" ${given:+"$given"}
+        cp out plain
+        [ "$(wc -l <plain)" -eq $((1 + rows + normal)) ] || complain "speeds --slacks $sheet $given: not a line for each place and each G"
+        tr ',' '\n' <<<"$taken" | awk '{ printf "%8d%8d\n", NR, $1 }' >expected
+        head -n $((rows + 1)) plain | tail -n +2 | cmp -s - expected || complain "speeds --slacks $sheet $given: another order"
+        case_is 0 "order: ${taken//,/ }" '' speeds --slacks "$sheet" ${given:+"$given"}
+        tail -n +2 out >said
+        for speed in 1 "$least_degraded" "$normal"; do
+            at_speeds "$sheet" "$normal" "$speed" >one.sheet
+            "$command" judge --plain one.sheet "$taken" >judged || true
+            sed "s/^.\{16\}/$(printf '%8s' "$speed")/" judged >judged.slack
+            tail -n +$((rows + 1 + speed)) plain | head -n 1 | cmp -s - judged.slack || complain "speeds --slacks $sheet $given: not the judge's at G $speed"
+            { "$command" judge one.sheet "$taken" || true; } | sed 'N; s/^yes:.*\n/correct, /; s/^no:.*\n/not correct, /' >judged
+            sed -n "${speed}s/^G = $speed work units* per slot: //p" said | cmp -s - judged || complain "speeds --slacks $sheet $given: not the judge's words at G $speed"
+        done
+        if [ "$taken" = "$order" ]; then
+            [ "$(grep -n -m 1 ': correct, ' said | cut -d : -f 1)" -eq "$least_degraded" ] || complain "speeds --slacks $sheet: not correct from G $least_degraded on"
+            [ "$(grep -c ': correct, ' said)" -eq $((normal - least_degraded + 1)) ] || complain "speeds --slacks $sheet: correct, and then not"
+        fi
+    done
+done
+case_is 1 '' 'number 7: no G from 1 to 1000 work units per slot has a correct order' speeds --slacks none.sheet
+also_err 'rows left at G = 1000 work units per slot: 1 2'
+case_is 1 '       7       2' 'rows left at G = 1000 work units per slot: 1 2' speeds --slacks --plain none.sheet
+case_is 0 'G = 1 work unit per slot: not correct, least slack: row 1 (HI), -1017 slots' '' speeds --slacks none.sheet 2 1
 
 # ---- runs ----
 case_is 0 'slot 0: row 1, supply 1 work units, got 1 of 2 work units, dropped at clock 1' '' run p3.sheet --order 1,2 10x1
@@ -404,7 +573,8 @@ for sheet in p1.sheet p2.sheet p3.sheet rows64.sheet; do
     refused_at before.sheet 2 '0 4 25 1' "$at_loading"
     case_is 2 "$missing" '' explain before.sheet
     [ "$(tail -n 1 out)" = "$missing" ] || complain "explain before.sheet: the hint is not last"
-    for words in 'plan before.sheet' 'rows before.sheet' 'judge before.sheet 1' 'finishes before.sheet' 'report before.sheet' 'run before.sheet 5'; do
+    for words in 'plan before.sheet' 'rows before.sheet' 'judge before.sheet 1' 'finishes before.sheet' 'report before.sheet' 'run before.sheet 5' \
+        'speeds before.sheet' 'speeds --slacks before.sheet'; do
         # shellcheck disable=SC2086 # several words
         case_is 2 '' "$missing" $words
     done
@@ -840,6 +1010,7 @@ hinted() { # BYTE of the sheet that is at fault
     case_is 2 '' "$hint" judge given.csv 1
     case_is 2 '       2       0' "$hint" finishes --plain given.csv
     case_is 2 '' "$hint" report given.csv
+    case_is 2 '' "$hint" speeds given.csv
     case_is 2 '' "$hint" run given.csv 5
 }
 hinted 1 <p1.csv
@@ -892,10 +1063,15 @@ for name in plan explain rows; do
     also_err "usage: jasminebrace $name SHEET"
     case_is 3 '' "jasminebrace: $name takes 1 argument; 2 given" "$name" p1.sheet p2.sheet
 done
+case_is 3 '' 'jasminebrace: speeds takes 1 argument; 2 given' speeds p1.sheet 1,2,3,4
+also_err 'usage: jasminebrace speeds {SHEET | --slacks SHEET [ROW..]}'
+case_is 3 '' 'jasminebrace: speeds takes 1 argument; 0 given' speeds
+case_is 3 '' 'jasminebrace: speeds takes at least 1 argument; 0 given' speeds --slacks
+case_is 3 '' 'jasminebrace: --slacks belongs to speeds' plan --slacks p1.sheet
 case_is 3 '' 'jasminebrace: the name of the rows file is empty' sheet ''
 case_is 3 '' 'jasminebrace: . cannot be read: Is a directory' sheet .
 case_is 3 '' 'jasminebrace: nowhere.csv cannot be opened: No such file or directory' sheet nowhere.csv
-for name in plan explain finishes report rows; do
+for name in plan explain finishes report speeds rows; do
     case_is 3 '' 'jasminebrace: the name of the sheet is empty' "$name" ''
     case_is 3 '' 'jasminebrace: . cannot be read: Is a directory' "$name" .
     case_is 3 '' 'jasminebrace: nowhere.sheet cannot be opened: No such file or directory' "$name" nowhere.sheet
@@ -911,11 +1087,13 @@ also_err 'usage: jasminebrace report SHEET [ROW..]'
 case_is 3 '' 'jasminebrace: --order and --stretches belong to run' plan p1.sheet --stretches
 case_is 3 '' 'jasminebrace: --order and --stretches belong to run' judge p1.sheet --order 1,2,3,4 1
 case_is 3 '' 'jasminebrace: --order and --stretches belong to run' report p1.sheet --order 1,2,3,4
+case_is 3 '' 'jasminebrace: --order and --stretches belong to run' speeds p1.sheet --slacks --order 1,2,3,4
 case_is 3 '' 'jasminebrace: --order needs row numbers with commas between' run p1.sheet 5 --order
 for bad in x -1 1.5 '' '1,' ',1' '1,,2' ' 1' '1 2' 0x1 99999999999999999999; do
     case_is 3 '' "jasminebrace: not a row number: '$bad'" judge p1.sheet 1 2 "$bad"
     case_is 3 '' "jasminebrace: not a row number: '$bad'" finishes p1.sheet "$bad"
     case_is 3 '' "jasminebrace: not a row number: '$bad'" report --plain p1.sheet 1 "$bad"
+    case_is 3 '' "jasminebrace: not a row number: '$bad'" speeds --slacks p1.sheet "$bad"
     case_is 3 '' "jasminebrace: not a row number: '$bad'" run p1.sheet 5 --order "$bad"
 done
 for name in judge report; do
@@ -932,7 +1110,7 @@ if [ "$(id -u)" -ne 0 ]; then
     case_is 3 '' 'jasminebrace: shut.sheet cannot be opened: Permission denied' plan shut.sheet
 fi
 for words in 'plan p1.sheet' 'plan --plain p1.sheet' 'judge p1.sheet 1 2 3 4' 'finishes p1.sheet' 'report p1.sheet' \
-    'report --plain rows64.sheet' 'run p1.sheet 5' 'run p1.sheet 2000000x5' 'explain p1.sheet' 'explain p3.sheet' \
+    'report --plain rows64.sheet' 'speeds p1.sheet' 'speeds --slacks --plain p1.sheet' 'run p1.sheet 5' 'run p1.sheet 2000000x5' 'explain p1.sheet' 'explain p3.sheet' \
     'sheet 5 2 0 0,20,10,1' 'sheet p1.csv' 'rows p1.sheet' '--help' '--version'; do
     cases=$((cases + 1))
     for full in /dev/full closed; do
@@ -949,7 +1127,7 @@ done
 # ---- help and version ----
 case_is 0 'usage: jasminebrace COMMAND [--plain] ARGUMENTS' '' --help
 case_is 0 "jasminebrace, interface $(sed -n 's/^#define JB_VERSION \([0-9]*\)u$/\1/p' "$root/c/jasminebrace.h")" '' --version
-for name in plan judge finishes report run explain sheet rows; do
+for name in plan judge finishes report speeds run explain sheet rows; do
     case_is 0 '*' '' "$name" --help
     grep -q "^usage: jasminebrace $name " out || complain "$name --help: no usage"
     grep -q -- '--plain' out || complain "$name --help: nothing on --plain"

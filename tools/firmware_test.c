@@ -687,6 +687,105 @@ static void list_of_jobs(void) {
     puts("the list of all jobs: the same at any clock, no late row exactly if the order is correct; 10 writes nothing");
 }
 
+/* A search for a least speed: over a table and over a sheet, G if it is sought and not N, and the range of an accepted table. */
+typedef struct {
+    uint32_t (*least)(const jb_table *table, uint32_t *speed, uint8_t order[JB_ROWS]);
+    uint32_t (*of_sheet)(const uint8_t *sheet, size_t length, uint32_t *speed, uint8_t order[JB_ROWS]);
+    int degraded;
+} search;
+
+static const search searches[] = {{jb_least_degraded_speed, jb_read_least_degraded_speed, 1},
+                                  {jb_least_normal_speed, jb_read_least_normal_speed, 0}};
+
+static jb_table at_speed(const search *of, const jb_table *table, uint32_t speed) {
+    jb_table other = *table;
+    *(of->degraded ? &other.degraded : &other.normal) = speed;
+    return other;
+}
+
+static int is_correct(const jb_table *table, const uint8_t order[JB_ROWS]) {
+    uint32_t yes, row;
+    int32_t slack;
+    must(jb_judge_order(table, order, &yes, &row, &slack) == JB_OK, "an order is not judged");
+    return yes == 1;
+}
+
+/* What a search answers for a table, whatever that has for the speed sought, and for its sheet. */
+static uint32_t least_of(const search *of, const jb_table *table, uint8_t order[JB_ROWS]) {
+    const uint32_t own[] = {of->degraded ? 1 : table->degraded, of->degraded ? table->normal : JB_MOST_SPEED};
+    uint32_t speed, other, length;
+    uint8_t again[JB_ROWS], sheet[JB_LONGEST_SHEET];
+    must(of->least(table, &speed, order) == JB_OK, "a table with an order has no least speed");
+    for (int index = 0; index < 2; index++) {
+        jb_table changed = at_speed(of, table, own[index]);
+        must(of->least(&changed, &other, again) == JB_OK && other == speed, "the table's own figure matters");
+        must(memcmp(again, order, JB_ROWS) == 0, "the table's own figure changes the order");
+    }
+    must(jb_write_table(table, sheet, sizeof sheet, &length) == JB_OK, "the table has no sheet");
+    must(of->of_sheet(sheet, length, &other, again) == JB_OK && other == speed && memcmp(again, order, JB_ROWS) == 0, "not so of its sheet");
+    return speed;
+}
+
+/* The order at the least speed is the planner's, correct at that speed and at larger ones; one below, the planner answers 7. */
+static void least_speed_of(const search *of, const jb_table *table) {
+    const uint32_t first = of->degraded ? 1 : table->degraded, last = of->degraded ? table->normal : JB_MOST_SPEED;
+    uint8_t order[JB_ROWS], planned[JB_ROWS];
+    uint64_t left;
+    uint32_t speed = least_of(of, table, order);
+    jb_table at_least = at_speed(of, table, speed);
+    must(speed >= first && speed <= last, "the least speed is not of its range");
+    must(jb_plan_table(&at_least, planned, &left) == JB_OK && memcmp(planned, order, JB_ROWS) == 0, "the order is not the planner's");
+    for (uint32_t larger = speed; larger <= last; larger += 1 + (larger > 40 ? below(100) : 0)) {
+        jb_table faster = at_speed(of, table, larger);
+        must(is_correct(&faster, order), "the order is not correct at a larger speed");
+    }
+    jb_table fastest = at_speed(of, table, last), slower = at_speed(of, table, speed - 1);
+    must(is_correct(&fastest, order), "the order is not correct at the largest speed");
+    must(speed == first || jb_plan_table(&slower, planned, &left) == JB_NO_ORDER, "a smaller speed is enough");
+}
+
+/* A board that is at least as fast as the least G: with the order that was answered and no other planning, each HI job ends in time. */
+static void plot_at_least(const jb_table *table) {
+    uint8_t order[JB_ROWS];
+    uint32_t speed = least_of(&searches[0], table, order), measured = speed + below(table->normal - speed + 1);
+    jb_table faster = at_speed(&searches[0], table, measured);
+    new_board(&faster, measured, table->normal, 0);
+    jb_run run = true_run(&faster, order, 1000);
+    for (uint32_t row = 1; row <= table->n; row++) {
+        must(table->level[row - 1] == JB_LO || (jb_is_done(&run, row) && !jb_is_late(&run, row)), "a HI row is late above the least G");
+    }
+}
+
+/* Refused: the number, speed 0 and an order of zeros. */
+static void no_least_speed(const jb_table *table, const uint8_t *sheet, size_t length, uint32_t number) {
+    static const uint8_t zeros[JB_ROWS];
+    for (int index = 0; index < 2; index++) {
+        uint32_t speed = 7;
+        uint8_t order[JB_ROWS] = {7};
+        uint32_t got = sheet != NULL ? searches[index].of_sheet(sheet, length, &speed, order) : searches[index].least(table, &speed, order);
+        must(got == number, "a least speed is answered %u and not %u", got, number);
+        must(speed == 0 && memcmp(order, zeros, JB_ROWS) == 0, "%u leaves a speed or an order", number);
+    }
+}
+
+/* Least speeds: exact, whatever the table's own figure; orders that stay correct at larger speeds; zeros with every number but 0. */
+static void least_speeds(void) {
+    for (int trial = 0; trial < TABLES; trial++) {
+        uint8_t order[JB_ROWS];
+        jb_table table = planned_table(order);
+        least_speed_of(&searches[0], &table);
+        least_speed_of(&searches[1], &table);
+        plot_at_least(&table);
+    }
+    jb_table table = empty_table(5, 2, 16);
+    add_row(&table, 0, 1, 16, JB_HI);
+    no_least_speed(&table, NULL, 0, JB_NO_ORDER);
+    no_least_speed(NULL, (const uint8_t *)"no sheet", 8, JB_LENGTH);
+    table.loading = 17;
+    no_least_speed(&table, NULL, 0, JB_LOADING);
+    puts("least speeds: one less is answered 7, with more the order stays correct; with every number but 0, speed 0 and an order of zeros");
+}
+
 /* The end of the clock: 8, nothing changes, and the loop begins no slot. Missed slots reported as 0 drop a LO row. */
 static void clock_end(void) {
     static const uint8_t order[JB_ROWS] = {2, 1};
@@ -831,6 +930,7 @@ int main(void) {
     restored();
     sheet_of_record();
     list_of_jobs();
+    least_speeds();
     clock_end();
     started();
     fallen_counter();

@@ -2,25 +2,37 @@
 """Looks at pictures of tools/draw.py without a browser.
 
     picture_test.py PICTURE MARKS ROW LOADING RAN
+    picture_test.py PICTURE MARKS --speeds SHEET SLACKS SPEEDS
 
 PICTURE   an SVG file that draw.py wrote
 MARKS     most shapes and words that it may have
 ROW       the row that is marked, 0 for none
 LOADING   K of the sheet, in slots
 RAN       the lines of `jasminebrace run --plain --stretches` for the run that it shows, as a file
+SHEET     the sheet of a picture of speeds
+SLACKS    the lines of `jasminebrace speeds --slacks --plain` for the order that it shows, as a file
+SPEEDS    the lines of `jasminebrace speeds --plain`, as a file: the least G of the sheet is the second figure of the first
 
-Says what is wrong and ends with 1, or ends with 0: the picture is well formed and has a title and a description for screen readers, no two
-words overlap and none leaves the picture, every closing of the command is told once, each row's bars stand in the slots that it ran, as
-loading ones in its loading slots and nowhere else, loading is in the legend exactly if there is any, and the row asked about is marked.
+Says what is wrong and ends with 1, or ends with 0. Every picture is well formed and has a title and a description for screen readers, no two
+words overlap and none leaves the picture. In that of a run every closing of the command is told once, each row's bars stand in the slots that
+it ran, as loading ones in its loading slots and nowhere else, loading is in the legend exactly if there is any, and the row asked about is
+marked. In that of speeds the axes have their units and round ticks, the line has the command's slack at each G, or the G is said to be off the
+scale, the least workable G is marked with its figure, and so is the least G at which the order is correct if that is another, at which the
+ground of the G that are not enough ends, and the tightest rows stand in their speeds.
 """
 
-import importlib.util
 import os
+import re
 import sys
 import xml.etree.ElementTree as ElementTree
 from collections import namedtuple
 
-HERE = os.path.dirname(os.path.abspath(__file__))
+# The widths of letters are those of the pictures. Their package is beside this file, and no compiled files of it are left in the tree.
+sys.path.insert(0, os.path.dirname(os.path.abspath(__file__)))
+sys.dont_write_bytecode = True
+
+from pictures.measures import FONT, width_of
+
 SVG = "{http://www.w3.org/2000/svg}"
 OUTCOMES = {1: "done", 2: "dropped", 3: "late"}
 NEAR = 0.3  # pixels by which a place may differ, since coordinates are rounded
@@ -30,21 +42,12 @@ NARROWEST = 0.8  # width in pixels of a bar that would be narrower
 Stretch = namedtuple("Stretch", "first count row how loading")
 
 
-def drawing():
-    """tools/draw.py as a module, for its widths of letters."""
-    spec = importlib.util.spec_from_file_location("draw", os.path.join(HERE, "draw.py"))
-    module = importlib.util.module_from_spec(spec)
-    sys.dont_write_bytecode = True
-    spec.loader.exec_module(module)
-    return module
-
-
-def boxes(root, draw):
+def boxes(root):
     """Each text with its left, top, right and bottom, in pixels."""
     found = []
     for text in root.iter(SVG + "text"):
-        size = float(text.get("font-size", draw.FONT))
-        width = draw.width_of(text.text, text.get("font-weight") == "bold") * size / draw.FONT
+        size = float(text.get("font-size", FONT))
+        width = width_of(text.text, text.get("font-weight") == "bold") * size / FONT
         x, y = float(text.get("x")), float(text.get("y"))
         left = x - {"start": 0, "middle": width / 2, "end": width}[text.get("text-anchor", "start")]
         found.append((text.text, left, y - 0.76 * size, left + width, y + 0.2 * size))
@@ -55,10 +58,10 @@ def overlap(one, other):
     return one[1] < other[3] and other[1] < one[3] and one[2] < other[4] and other[2] < one[4]
 
 
-def faults(picture, most, asked, loading, ran):
-    root = ElementTree.parse(picture).getroot()
+def common_faults(root, most):
+    """What no picture may have."""
     width, height = float(root.get("width")), float(root.get("height"))
-    texts = boxes(root, drawing())
+    texts = boxes(root)
     for text in texts:
         if text[1] < 0 or text[2] < 0 or text[3] > width or text[4] > height:
             yield f"'{text[0]}' leaves the picture"
@@ -72,7 +75,10 @@ def faults(picture, most, asked, loading, ran):
     title, told = root.find(SVG + "title"), root.find(SVG + "desc")
     if root.get("role") != "img" or title is None or told is None or root.get("aria-labelledby") != f"{title.get('id')} {told.get('id')}":
         yield "no title and description for screen readers"
-        return
+
+
+def run_faults(root, asked, loading, ran):
+    told = root.find(SVG + "desc")
     lanes = [lane for lane in root.iter(SVG + "g") if lane.find(SVG + "title") is not None]
     stretches = stretches_of(ran)
     yield from closing_faults(stretches, told.text, lanes)
@@ -106,12 +112,17 @@ def closing_faults(stretches, told, lanes):
 
 
 def axis(root):
-    """Where a slot begins, in pixels, by the first and the last of the lowest tick labels."""
-    ticks = [text for text in root.iter(SVG + "text") if text.get("text-anchor") == "middle" and text.text.replace(",", "").isdigit()]
+    """Where a slot begins, or a G stands, in pixels, by the first and the last of the lowest tick labels."""
+    ticks = [text for text in root.findall(SVG + "text") if text.get("text-anchor") == "middle" and text.text.replace(",", "").isdigit()]
     lowest = max(float(tick.get("y")) for tick in ticks)
     places = {int(tick.text.replace(",", "")): float(tick.get("x")) for tick in ticks if float(tick.get("y")) == lowest}
+    return between(places)
+
+
+def between(places):
+    """Where a figure stands, in pixels, by the places of the least and the largest figure that have a label."""
     first, last = min(places), max(places)
-    return lambda slot: places[first] + (places[last] - places[first]) * (slot - first) / (last - first)
+    return lambda figure: places[first] + (places[last] - places[first]) * (figure - first) / max(1, last - first)
 
 
 def expected_bars(stretches, row, x):
@@ -157,9 +168,174 @@ def loading_faults(stretches, loading, root, lanes):
         yield f"with K {loading} the legend names loading {named} times, and there are {patterns} patterns for it"
 
 
+# ---- pictures of speeds ----
+
+# At one G, in work units per slot: the tightest row, and its slack in slots.
+Verdict = namedtuple("Verdict", "row slack")
+
+
+def verdicts_of(slacks):
+    """The command's verdict at each G: its lines of four fields of 8 bytes."""
+    with open(slacks, encoding="ascii") as file:
+        lines = [[int(line[at : at + 8]) for at in range(0, len(line), 8)] for line in file.read().splitlines()]
+    return {line[0]: Verdict(line[1], line[2] - line[3]) for line in lines if len(line) == 4}
+
+
+def number_of(words):
+    return int(words.replace(",", "").replace("\u2212", "-"))
+
+
+def slack_places(root):
+    """The height of each label of the scale of slacks."""
+    labels = [text for text in root.iter(SVG + "text") if text.get("text-anchor") == "end" and re.fullmatch("\u2212?[0-9,]+", text.text)]
+    return {number_of(label.text): float(label.get("y")) - 4 for label in labels}
+
+
+def is_round(step):
+    return step > 0 and re.fullmatch("[125]0*", str(step))
+
+
+def axis_faults(root, places):
+    words = [text.text for text in root.iter(SVG + "text")]
+    if "degraded speed G, work units per slot" not in words or "slack of the tightest row, slots" not in " ".join(words):
+        yield "an axis has no name or no unit"
+    figures = sorted(places)
+    steps = {after - before for before, after in zip(figures, figures[1:])}
+    if 0 not in places or len(steps) != 1 or not all(map(is_round, steps)):
+        yield f"the ticks of the slacks are {figures}"
+
+
+def level_lines(root):
+    """Left, right and height of each level piece of the line of slacks."""
+    path = next(path for path in root.iter(SVG + "path") if path.get("id") == "slacks")
+    points = [tuple(map(float, point.split(","))) for point in path.get("d")[1:].split(" ")]
+    return [(one[0], other[0], one[1]) for one, other in zip(points, points[1:]) if one[1] == other[1] and one[0] < other[0]]
+
+
+def cut_of(root):
+    """What the picture tells of slacks that are off its scale: the least that is on it, the least of all, and its G."""
+    told = root.find(SVG + "desc").text
+    return re.search("Slacks below (\u2212[0-9,]+) slots? are off the scale.* down to (\u2212[0-9,]+) slots at G = ([0-9,]+) work unit per slot\\.", told)
+
+
+def lowest_of(root, verdicts):
+    """The least slack on the scale."""
+    cut = cut_of(root)
+    return number_of(cut.group(1)) if cut else min(verdict.slack for verdict in verdicts.values())
+
+
+def line_faults(root, verdicts, x, y):
+    """The line against the slacks: those that are off the scale have no line and are told, and nothing else is."""
+    pieces = level_lines(root)
+    cut, lowest = cut_of(root), lowest_of(root, verdicts)
+    for speed, verdict in verdicts.items():
+        heights = {height for left, right, height in pieces if left < x(speed) < right}
+        expected = [y(verdict.slack)] if verdict.slack >= lowest else []
+        if len(heights) != len(expected) or any(abs(one - other) > NEAR for one, other in zip(heights, expected)):
+            yield f"at G = {speed} the line is at {heights} and not at {expected}"
+    if cut and (lowest > -10 or number_of(cut.group(3)) != 1 or number_of(cut.group(2)) != verdicts[1].slack):
+        yield f"it is not so: {cut.group(0)}"
+    zero = [line for line in root.iter(SVG + "line") if line.get("stroke-dasharray") and abs(float(line.get("y1")) - y(0)) < NEAR]
+    if len(zero) != 1 or float(zero[0].get("x1")) > x(1) or float(zero[0].get("x2")) < x(len(verdicts)):
+        yield "there is no line of slack 0 from side to side"
+
+
+def centre(mark):
+    """The middle of a circle or of a square mark."""
+    if mark.get("r"):
+        return float(mark.get("cx")), float(mark.get("cy"))
+    return float(mark.get("x")) + 5, float(mark.get("y")) + 5
+
+
+def mark_faults(root, name, tag, speed, words, place):
+    """One mark: its words stand above the plot exactly if there is such a G, and a mark on the line of slacks if its slack is on the scale."""
+    said = [text.text for text in root.iter(SVG + "text") if text.text.startswith(words) and text.text.endswith((" per slot", " on"))]
+    units = f"{speed:,} work unit{'' if speed == 1 else 's'} per slot"
+    expected = [f"{words}{units}" + (" on" if name == "order" else "")] if speed else []
+    if said != expected:
+        yield f"it names {said} and not {expected}"
+    marks = [centre(mark) for mark in root.iter(SVG + tag) if mark.get("stroke-width") == "2"]
+    if place and not any(abs(left - place[0]) <= NEAR and abs(top - place[1]) <= NEAR for left, top in marks):
+        yield f"no mark stands at G = {speed}"
+    if not speed and marks:
+        yield f"a mark of the {name}, and there is no such G"
+
+
+def least_faults(root, verdicts, best, x, y):
+    """The marks of the least workable G and of the least G for this order, their figures, and the ground of those that are not enough."""
+    least = min((speed for speed, verdict in verdicts.items() if verdict.slack >= 0), default=0)
+    lowest = lowest_of(root, verdicts)
+
+    def place(speed):
+        return (x(speed), y(verdicts[speed].slack)) if speed and verdicts[speed].slack >= lowest else None
+
+    other = least if least != best else 0
+    yield from mark_faults(root, "least", "circle", best, "least workable G: ", place(best))
+    yield from mark_faults(root, "order", "rect", other, "this order is correct from G = ", place(other))
+    ground = [(float(rect.get("x")), float(rect.get("width"))) for rect in root.iter(SVG + "rect") if rect.get("id") == "not-enough"]
+    end = x((least or len(verdicts) + 1) - 0.5)
+    expected = [(x(0.5), end - x(0.5))] if least != 1 else []
+    if len(ground) != len(expected) or any(abs(a - b) > NEAR for one, other in zip(ground, expected) for a, b in zip(one, other)):
+        yield f"the ground of what is not enough is {ground} and not {expected}"
+
+
+def strip_faults(root, verdicts, high, x):
+    """The bars of the tightest rows, one for each stretch of speeds, in the fill of their level, with their numbers if they have one."""
+    stretches = []
+    for speed, verdict in sorted(verdicts.items()):
+        if not stretches or stretches[-1][2] != verdict.row:
+            stretches.append([speed, speed, verdict.row])
+        stretches[-1][1] = speed
+    groups = [group for group in root.iter(SVG + "g") if group.find(SVG + "title") is not None]
+    if len(groups) != len(stretches):
+        yield f"{len(groups)} stretches of tightest rows and not {len(stretches)}"
+    for group, (first, last, row) in zip(groups, stretches):
+        bar = group.find(SVG + "rect")
+        left, width = float(bar.get("x")), float(bar.get("width"))
+        named = [text.text for text in group.iter(SVG + "text")]
+        if abs(left - x(first - 0.5)) > NEAR or abs(width - max(x(last + 0.5) - x(first - 0.5), NARROWEST)) > NEAR:
+            yield f"row {row} is the tightest from G = {first} to {last}, and its bar is at {left}, {width} wide"
+        if named not in ([], [str(row)]) or (width > 30 and not named) or f" row {row}, " not in group.find(SVG + "title").text:
+            yield f"row {row} is the tightest from G = {first} to {last}, and its bar is named {named}"
+        if (bar.get("fill") == "url(#low)") == high[row]:
+            yield f"row {row} is the tightest from G = {first} to {last}, and has the fill of the other level"
+
+
+def speed_faults(root, sheet, slacks, speeds):
+    verdicts = verdicts_of(slacks)
+    with open(speeds, encoding="ascii") as file:
+        best = int(file.readline()[8:16])
+    with open(sheet, encoding="ascii") as file:
+        high = {row: line.endswith("1") for row, line in enumerate(file.read().splitlines())}
+    places = slack_places(root)
+    yield from axis_faults(root, places)
+    x, y = columns(root, len(verdicts)), between(places)
+    yield from line_faults(root, verdicts, x, y)
+    yield from least_faults(root, verdicts, best, x, y)
+    yield from strip_faults(root, verdicts, high, x)
+
+
+def columns(root, normal):
+    """Where a G stands, in pixels: in the middle of its column, of which there are N."""
+    ground = next(rect for rect in root.iter(SVG + "rect") if rect.get("fill") == "#fafbfc")
+    left, width = float(ground.get("x")), float(ground.get("width"))
+    place = axis(root)
+    return place if normal > 1 else lambda speed: left + width * (speed - 0.5)
+
+
+def faults(picture, most, *rest):
+    root = ElementTree.parse(picture).getroot()
+    yield from common_faults(root, int(most))
+    if rest[0] == "--speeds":
+        yield from speed_faults(root, *rest[1:])
+    else:
+        asked, loading, ran = rest
+        yield from run_faults(root, int(asked), int(loading), ran)
+
+
 def main():
-    picture, most, asked, loading, ran = sys.argv[1:]
-    found = list(faults(picture, int(most), int(asked), int(loading), ran))
+    picture = sys.argv[1]
+    found = list(faults(*sys.argv[1:]))
     for fault in found:
         print(f"{picture}: {fault}", file=sys.stderr)
     return 1 if found else 0

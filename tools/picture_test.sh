@@ -25,6 +25,7 @@ stored_as worst-run.svg samples/p1.sheet --row 3
 stored_as warming-run.svg samples/p1.sheet --supplies 6x5 4 3 12x2
 stored_as wrong-order.svg samples/p1.sheet --row 1 --order 4,3,2,1
 stored_as loading-run.svg samples/loading.sheet --row 1
+stored_as least-speed.svg samples/warm.sheet --speeds
 
 # Other sizes. The shapes of a picture do not grow with its slots.
 looked=0
@@ -86,11 +87,45 @@ awk '{ printf "%8d%8d%8d%8d\n", $1, $2, NR == 1 ? $3 : $3 + 150, NR == 1 ? 1 : $
 rows64=$(planned "$made/rows64.sheet")
 looks_right 2300 30 "$rows64" 500x12 "$made/rows64.sheet" --row 30
 
+# How slow the processor may be, under the order at the least G or another one.
+speeds_look_right() { # most shapes and words, sheet, order to give, if any
+    local most=$1 sheet=$2
+    draw "$sheet" --speeds ${3:+--order "$3"} "$made/picture.svg"
+    "$command" speeds --slacks --plain "$sheet" ${3:+"$3"} >"$made/slacks"
+    "$command" speeds --plain "$sheet" >"$made/speeds" 2>"$made/said" || true # no least G is an answer too
+    python3 tools/picture_test.py "$made/picture.svg" "$most" --speeds "$sheet" "$made/slacks" "$made/speeds" || fail "draw.py $sheet --speeds ${3:-}"
+    looked=$((looked + 1))
+}
+# N 1, and so one G, enough and not; the least G 1, N, and one between; a thousand G; an order that is correct at no G, and one at few; the
+# largest figures; 64 rows.
+speeds_look_right 60 "$made/equal.sheet"
+"$command" sheet 1 1 0 0,5,9,1 >"$made/slow.sheet"
+speeds_look_right 60 "$made/slow.sheet"
+"$command" sheet 1 1 2 0,5,3,1 1,1,2,0 >"$made/never.sheet"
+speeds_look_right 60 "$made/never.sheet" 1,2
+speeds_look_right 150 "$made/one.sheet"
+"$command" sheet 1000 500 0 0,100000,400,1 50,80000,500,0 100,120000,900,1 >"$made/thousand.sheet"
+speeds_look_right 150 "$made/thousand.sheet"
+speeds_look_right 150 samples/p3.sheet
+speeds_look_right 150 samples/cooler.sheet
+speeds_look_right 150 samples/cooler.sheet 1,2
+grep -qF 'The order 2 1 is correct from G = 19 work units per slot on.' "$made/picture.svg" || fail "the order that does better is not named"
+speeds_look_right 150 samples/warm.sheet 5,6,1,3,4,2
+speeds_look_right 150 samples/warm.sheet 5,3,6,1,4,2
+speeds_look_right 200 samples/rows64.sheet
+speeds_look_right 200 samples/rows64.sheet "$(seq -s , 64)"
+largest=()
+for ((row = 0; row < 64; row++)); do largest+=("999999,1000000,1000000,1"); done
+"$command" sheet 1000 500 16 "${largest[@]}" >"$made/largest.sheet"
+speeds_look_right 150 "$made/largest.sheet" "$(seq -s , 64)"
+
 # What is wrong with the bars of a picture is noticed: a loading bar as another, another as loading, a bar in other slots, one too few; and
-# words that name other loading slots.
+# words that name other loading slots. Below, the same for a picture of speeds.
 spoilt=0
+spoilt_from=docs/loading-run.svg
+spoilt_test=(250 1 2 "$made/stretches") # what picture_test.py is told of it
 spoilt_is_noticed() { # what is replaced in the stored picture, once, and by what
-    python3 - docs/loading-run.svg "$made/spoilt.svg" "$1" "$2" <<'PYTHON'
+    python3 - "$spoilt_from" "$made/spoilt.svg" "$1" "$2" <<'PYTHON'
 import re
 import sys
 source, target, old, new = sys.argv[1:]
@@ -100,7 +135,7 @@ with open(target, "w", encoding="utf-8") as file:
     file.write(text)
 sys.exit(0 if count == 1 else f"the picture has no '{old}' to spoil")
 PYTHON
-    ! python3 tools/picture_test.py "$made/spoilt.svg" 250 1 2 "$made/stretches" 2>"$made/said" || fail "'$2' in place of '$1' is not noticed"
+    ! python3 tools/picture_test.py "$made/spoilt.svg" "${spoilt_test[@]}" 2>"$made/said" || fail "'$2' in place of '$1' is not noticed"
     grep -q "$3" "$made/said" || fail "'$2' in place of '$1' is noticed as $(cat "$made/said")"
     spoilt=$((spoilt + 1))
 }
@@ -113,6 +148,38 @@ spoilt_is_noticed 'width="[0-9.]*"( height="[0-9.]*" fill="url\(#high-loading)' 
 spoilt_is_noticed '<rect [^>]*high-loading[^>]*/>' '' '^.*: row 2 has 1 bars and not 2'
 spoilt_is_noticed '(<g><title>Place 1: .*)loads in slots 1 to 2' '\1loads in slots 1 to 3' '^.*: row 2 loads in'
 spoilt_is_noticed '<text [^>]*>loading: [^<]*</text>' '' '^.*: with K 2 the legend'
+spoilt_from=docs/least-speed.svg
+spoilt_test=(150 --speeds samples/warm.sheet "$made/slacks" "$made/speeds")
+"$command" speeds --slacks --plain samples/warm.sheet >"$made/slacks"
+"$command" speeds --plain samples/warm.sheet >"$made/speeds"
+python3 tools/picture_test.py docs/least-speed.svg "${spoilt_test[@]}" || fail "docs/least-speed.svg"
+spoilt_is_noticed 'G: 54 work units' 'G: 53 work units' '^.*: it names'
+spoilt_is_noticed '<circle cx="4' '<circle cx="3' '^.*: no mark stands at G = 54'
+spoilt_is_noticed '(<rect [^>]*) width="[0-9.]*"([^>]* id="not-enough")' '\1 width="392"\2' '^.*: the ground of what is not enough'
+spoilt_is_noticed '(<path d="M[0-9.,]* [0-9.,]* [0-9.,]* [0-9.]*,)([0-9.]*)' '\g<1>3\2' '^.*: at G = '
+spoilt_is_noticed 'they go down to −[0-9,]* slots' 'they go down to −2,739 slots' '^.*: it is not so'
+spoilt_is_noticed 'Slacks below [^<]*are off the scale' 'Slacks are off the scale' '^.*: at G = 1 the line'
+spoilt_is_noticed '(<g><title>[^<]*row 1, [^/]*/title>\s*<rect x=")' '\g<1>9' '^.*: row 1 is the tightest'
+spoilt_is_noticed '(row 3, [^/]*/title>[^/]*/>[^/]*/>\s*<text [^>]*>)3<' '\g<1>5<' '^.*: row 3 is the tightest'
+spoilt_is_noticed '(row 6, [^/]*/title>\s*<rect [^>]*fill=")[^"]*' '\1#a8481c' '^.*: row 6 is the tightest .* other level'
+spoilt_is_noticed '>degraded speed G, work units per slot<' '>degraded speed G<' '^.*: an axis has no name or no unit'
+spoilt_is_noticed '>−5<' '>−6<' '^.*: the ticks of the slacks'
+spoilt_is_noticed '<line [^>]*stroke-dasharray="7 3"/>' '' '^.*: there is no line of slack 0'
+
+# A picture of speeds asks the command once, or twice where an order is given, and never once for each G.
+mkdir "$made/counting"
+cp -r tools/draw.py tools/pictures "$made/counting"
+printf '#!/usr/bin/env bash\necho asked >>"%s"\nexec "%s" "$@"\n' "$made/asked" "$(realpath "$command")" >"$made/counting/jasminebrace"
+chmod +x "$made/counting/jasminebrace"
+asks() { # how often, arguments of draw.py before the output
+    local times=$1
+    shift
+    : >"$made/asked"
+    python3 "$made/counting/draw.py" "$@" "$made/picture.svg"
+    [ "$(wc -l <"$made/asked")" -eq "$times" ] || fail "draw.py $* asks $(wc -l <"$made/asked") times"
+}
+asks 1 "$made/thousand.sheet" --speeds
+asks 2 "$made/thousand.sheet" --speeds --order 1,2,3
 
 # A sheet from standard input or a pipe is the same sheet.
 draw - --row 3 "$made/input.svg" <samples/p1.sheet
@@ -145,6 +212,14 @@ refuses 2 "number 8" samples/p1.sheet --supplies 2000001x1
 refuses 3 "$(said_by plan --plain "$made/missing.sheet")" "$made/missing.sheet"
 refuses 3 "$(said_by run --plain samples/p1.sheet five)" samples/p1.sheet --supplies five
 refuses 3 "$(said_by finishes --plain samples/p1.sheet 1,two,3,4)" samples/p1.sheet --order 1,two,3,4
+refuses 1 "$(said_by speeds --slacks --plain "$made/never.sheet")" "$made/never.sheet" --speeds
+refuses 2 "$(said_by speeds --slacks --plain "$made/loading.sheet")" "$made/loading.sheet" --speeds
+refuses 2 "$(said_by speeds --slacks --plain samples/p1.sheet 1,1,2,3)" samples/p1.sheet --speeds --order 1,1,2,3
+refuses 3 "$(said_by speeds --slacks --plain samples/p1.sheet 1,two,3,4)" samples/p1.sheet --order 1,two,3,4 --speeds
+refuses 3 "do not go with it" samples/p1.sheet --speeds --row 1
+refuses 3 "do not go with it" samples/p1.sheet --supplies 5 --speeds
+refuses 3 "is given twice" samples/p1.sheet --speeds --speeds
+refuses 3 "nothing follows --order" samples/p1.sheet --order --speeds
 refuses 3 "no row 5" samples/p1.sheet --row 5
 refuses 3 "no row number" samples/p1.sheet --row third
 refuses 3 "nothing follows --supplies" samples/p1.sheet --supplies
@@ -159,7 +234,7 @@ draw samples/p1.sheet "$made/nowhere/picture.svg" 2>"$made/said" || got=$?
 
 # It has no run, order or finish but the command's: without the command nothing is drawn.
 mkdir "$made/alone"
-cp tools/draw.py "$made/alone"
+cp -r tools/draw.py tools/pictures "$made/alone"
 got=0
 python3 "$made/alone/draw.py" samples/p1.sheet --row 3 "$made/alone.svg" 2>"$made/said" || got=$?
 [ "$got" -eq 3 ] && [ ! -e "$made/alone.svg" ] || fail "it draws without the command"

@@ -1,0 +1,71 @@
+"""A run of a sheet, put together from what the command answers."""
+
+from collections import namedtuple
+
+from pictures.asking import NOT_USABLE, Stopped, places
+from pictures.measures import many
+from pictures.stretches import Supplied, merged
+
+LAST_CLOCK = 2_000_000  # slots; no run is longer
+
+# A run: speeds in work units per slot, K in slots, rows by number, order, worst finish and slack by row in slots, outcome by row,
+# stretches of rows and of supplies, slots worked.
+Run = namedtuple("Run", "normal degraded loading rows order finish slack outcome ran supplied slots")
+
+
+def supplied_by(words):
+    """The stretches of supplies that the words of a command line mean."""
+    found, clock = [], 0
+    for word in words:
+        count, supply = word.split("x") if "x" in word else ("1", word)
+        found.append(Supplied(clock, clock + int(count), int(supply)))
+        clock += int(count)
+    return merged(found)
+
+
+def own_run(command, order, words):
+    """The run over the words of a command line."""
+    ran, outcome = command.stretches(order, words)
+    return ran, outcome, supplied_by(words)
+
+
+def steady_run(command, order, supply, slots):
+    """The run in which every slot supplies the same, at least so many slots long, until every row is closed or the clock ends."""
+    while True:
+        slots = min(slots, LAST_CLOCK)
+        ran, outcome = command.stretches(order, [f"{slots}x{supply}"])
+        if slots == LAST_CLOCK or all(row.closing for row in outcome.values()):
+            break
+        slots *= 2
+    if all(row.closing for row in outcome.values()):
+        slots = max(row.closing for row in outcome.values())
+        ran = [stretch for stretch in ran if stretch.first < slots]
+    return ran, outcome, [Supplied(0, slots, supply)]
+
+
+def run_of(command, given):
+    """The run that the command line asks for, with its title."""
+    order = given.order or command.planned()
+    finishes = command.ask("finishes", order)
+    finish = {row: worst for row, worst, _, _, _ in finishes}
+    slack = {row: before - after for row, _, _, before, after in finishes}
+    normal, degraded, loading, rows = command.table()
+    if given.row and given.row not in rows:
+        raise Stopped(NOT_USABLE, f"the sheet has no row {given.row}; its rows are 1 to {len(rows)}")
+    if given.supplies:
+        title = "The run with the supplies given"
+        ran, outcome, supplied = own_run(command, order, given.supplies)
+    else:
+        name, speed = ("G", degraded) if given.row and rows[given.row].high else ("N", normal)
+        title = f"Worst run of row {given.row}" if given.row else "The run at normal speed"
+        title += f": every slot supplies exactly {name} = {many(speed, 'work unit')}"
+        ran, outcome, supplied = steady_run(command, order, speed, max(finish.values()))
+    return Run(normal, degraded, loading, rows, places(order), finish, slack, outcome, ran, supplied, supplied[-1].after), title
+
+
+def highest(run):
+    return max(stretch.supply for stretch in run.supplied)
+
+
+def lowest(run):
+    return min(stretch.supply for stretch in run.supplied)
