@@ -3,3 +3,5 @@ pub mod Figures
 pub mod Places
 pub mod Entries
 pub mod Products
+pub mod Dues
+pub mod Late

@@ -1,15 +1,17 @@
-// What check 9 asks of plain columns (rules 8.6, 8.7) and what a slot does to them (section 2 of the rules), one entry for each row, below
-// the type of the run record. Row i is at index i - 1. Releases, clocks, loading, slots used and closing slots are in slots; work and
-// supplies are in work units, speeds in work units per slot. Nothing here divides: a slot asks for no quotient.
+// What check 9 asks of plain columns (rules 8.6, 8.7) and what a slot and the clock after it do to them (sections 2 and 19 of the rules), one
+// entry for each row, below the type of the run record. Row i is at index i - 1. Releases, deadlines, clocks, loading, slots used and closing
+// slots are in slots; work and supplies are in work units, speeds in work units per slot. Nothing here divides: a slot asks for no quotient.
 ghost use mathlib.Core.Path.{_≡_};
-ghost use mathlib.Core.Bool.{cond, _&&_};
+ghost use mathlib.Core.Bool.{cond, _&&_, _||_};
 ghost use Prim.Native.Nat.{_+_, _≤_, _<_, min};
 ghost use lib.Dec.{eqb, leb};
 ghost use lib.ListN.{getD};
 ghost use Rattle.rules.specs.Lists.{rowsTo, all, first};
 ghost use Rattle.rules.specs.Need.{need};
+ghost use Rattle.rules.specs.Running.{closedFrom};
 ghost use Rattle.rules.specs.Slots.{brought};
-ghost use Rattle.columns.specs.Figures.{over, soundAt, rowSoundAt, readyAt};
+ghost use Rattle.columns.specs.Figures.{over, soundAt, rowSoundAt, readyAt, dueAt};
+ghost use Rattle.columns.specs.Dues.{dueClock, firstDue};
 ghost use Rattle.columns.specs.Places.{Placed};
 
 // Whether a row of this work has used its need at N, in slots (rules 1.8, 1.10): it has loaded, and at N work units each the slots after
@@ -60,9 +62,31 @@ pub fn closing_slot(
     }
 }
 
+// Whether the clock closes a row of this level and deadline if it is open: it is LO, and the clock has reached its deadline (rule 19.2).
+fn is_due(level: u32, deadline: u32, clock: u32) -> bool
+    ensures { λ b. ⌜ b ≡ (eqb level 0 && leb deadline clock) ⌝ }
+{
+    if level == 0 { deadline <= clock } else { false }
+}
+
+// Whether a closed row may be closed: it is over, or it is LO and its closing slot is its deadline (rules 8.7, 19.2).
+fn may_be_closed(level: u32, deadline: u32, closing: u32, over: bool) -> bool
+    ensures { λ b. ⌜ b ≡ (over || (eqb level 0 && eqb closing deadline)) ⌝ }
+{
+    if over {
+        return true;
+    }
+    if level == 0 {
+        closing == deadline
+    } else {
+        false
+    }
+}
+
 // Whether the figures of one row are sound at the clock (rules 8.6, 8.7).
 fn row_sound(
     work: u32,
+    deadline: u32,
     level: u32,
     normal: u32,
     loading: u32,
@@ -72,7 +96,7 @@ fn row_sound(
     closing: u32,
 ) -> bool
     requires { ⌜ (1 ≤ normal) × (normal ≤ 1000) × (clock ≤ 2000000) ⌝ }
-    ensures { λ b. ⌜ b ≡ soundAt work level normal loading clock got used closing ⌝ }
+    ensures { λ b. ⌜ b ≡ soundAt work deadline level normal loading clock got used closing ⌝ }
 {
     if work < got {
         return false;
@@ -84,7 +108,13 @@ fn row_sound(
         return false;
     }
     let over = is_over(work, level, normal, loading, got, used);
-    if closing == 0 { !over } else { over }
+    if closing != 0 {
+        return may_be_closed(level, deadline, closing, over);
+    }
+    if over {
+        return false;
+    }
+    !is_due(level, deadline, clock)
 }
 
 // Whether the figures of the first n rows are sound at the clock (rules 8.6, 8.7).
@@ -94,20 +124,22 @@ pub fn rows_sound<'a>(
     loading: u32,
     clock: u32,
     work: &'a [u32; 64],
+    deadline: &'a [u32; 64],
     level: &'a [u32; 64],
     got: &'a [u32; 64],
     used: &'a [u32; 64],
     closing: &'a [u32; 64],
 ) -> bool
     requires { ⌜ (n ≤ 64) × (1 ≤ normal) × (normal ≤ 1000) × (clock ≤ 2000000) ⌝ }
-    ensures { λ b. ⌜ b ≡ all (rowSoundAt normal loading clock (now (work .entry)) (now (level .entry)) (now (got .entry)) (now (used .entry))
-        (now (closing .entry))) (rowsTo n) ⌝ }
+    ensures { λ b. ⌜ b ≡ all (rowSoundAt normal loading clock (now (work .entry)) (now (deadline .entry)) (now (level .entry)) (now (got .entry))
+        (now (used .entry)) (now (closing .entry))) (rowsTo n) ⌝ }
 {
     let mut i: u32 = 0;
     while i < n {
         let k = i as usize;
         if !row_sound(
             work[k],
+            deadline[k],
             level[k],
             normal,
             loading,
@@ -188,4 +220,65 @@ pub fn grown(got: u32, used: u32, loading: u32, supply: u32, work: u32) -> u32
     } else {
         work
     }
+}
+
+// The closing slots once the clock has closed every one of the first n rows that is open and due (rule 19.2). A clock above 0 slots is meant:
+// a closing slot of 0 would leave a row open.
+pub fn closed_late<'a>(
+    n: u32,
+    clock: u32,
+    deadline: &'a [u32; 64],
+    level: &'a [u32; 64],
+    closing: [u32; 64],
+) -> [u32; 64]
+    requires { ⌜ n ≤ 64 ⌝ }
+    ensures { λ after. ⌜ after ≡ closedFrom (dueAt n clock (now (deadline .entry)) (now (level .entry))) clock 1 closing ⌝ }
+{
+    let mut after = closing;
+    let mut i: u32 = 0;
+    while i < n {
+        let k = i as usize;
+        if after[k] == 0 {
+            if is_due(level[k], deadline[k], clock) {
+                after[k] = clock;
+            }
+        }
+        i = i + 1;
+    }
+    after
+}
+
+// The first clock that may close one of the first n rows, in slots: the least deadline of those that are LO and open, and 4,294,967,295 if
+// there is none. Before it no open row is due (rule 19.7), so that a run need not look.
+pub fn first_due<'a>(
+    n: u32,
+    deadline: &'a [u32; 64],
+    level: &'a [u32; 64],
+    closing: &'a [u32; 64],
+) -> u32
+    requires { ⌜ n ≤ 64 ⌝ }
+    ensures { λ due. ⌜ due ≡ firstDue n (now (deadline .entry)) (now (level .entry)) (now (closing .entry)) ⌝ }
+{
+    let mut due: u32 = 4294967295;
+    let mut i: u32 = 0;
+    while i < n {
+        let k = i as usize;
+        due = earlier(deadline[k], level[k], closing[k], due);
+        i = i + 1;
+    }
+    due
+}
+
+// The earlier of this clock and the deadline of a row, if the row is LO and open.
+fn earlier(deadline: u32, level: u32, closing: u32, due: u32) -> u32
+    ensures { λ d. ⌜ d ≡ min due (dueClock deadline level closing) ⌝ }
+{
+    if level == 0 {
+        if closing == 0 {
+            if deadline < due {
+                return deadline;
+            }
+        }
+    }
+    due
 }

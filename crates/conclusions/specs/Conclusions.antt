@@ -204,13 +204,26 @@ pub record FreshRecord (table order : List ℕ) (said : Begun) : Type 0 where
 abbrev pub ReadyIn : List ℕ → List ℕ → ℕ → Type 0
 ReadyIn table state i = (1 ≤ i) × (i ≤ getD table 0 0) × (getD table (3 + i) 0 ≤ getD state 0 0) × (getD state (128 + i) 0 ≡ 0)
 
--- row j has the same work got, the same slots used and the same closing slot in both states
+-- row j has the same work got, the same slots used and the same closing slot in two states
 abbrev pub SameRow : List ℕ → List ℕ → ℕ → Type 0
 SameRow next state j =
     (getD next j 0 ≡ getD state j 0) × (getD next (64 + j) 0 ≡ getD state (64 + j) 0) × (getD next (128 + j) 0 ≡ getD state (128 + j) 0)
 
--- row i runs, because it is ready and no row of a higher place is (rule 2.3); its three figures follow rules 2.5 to 2.11 and
--- 2.14, and no other row's change
+-- row j is a LO row of the table whose deadline a clock has reached (rules 9.13, 19.2)
+abbrev pub DueIn : List ℕ → ℕ → ℕ → Type 0
+DueIn table clock j = (1 ≤ j) × (j ≤ getD table 0 0) × (getD table (195 + j) 0 ≡ 0) × (getD table (131 + j) 0 ≤ clock)
+
+-- row j does not run in the slot: its work got and its slots used stay, and so does its closing slot if it has one; if it is open it is closed
+-- by the clock after the slot just if it is due then (rules 2.12, 19.2)
+pub record RowWaits (table state next : List ℕ) (j : ℕ) : Type 0 where
+  pub got : getD next j 0 ≡ getD state j 0
+  pub used : getD next (64 + j) 0 ≡ getD state (64 + j) 0
+  pub closed : (getD state (128 + j) 0 ≡ 0 → ⊥) → getD next (128 + j) 0 ≡ getD state (128 + j) 0
+  pub late : getD state (128 + j) 0 ≡ 0 → DueIn table (getD state 0 0 + 1) j → getD next (128 + j) 0 ≡ getD state 0 0 + 1
+  pub still-open : getD state (128 + j) 0 ≡ 0 → (DueIn table (getD state 0 0 + 1) j → ⊥) → getD next (128 + j) 0 ≡ 0
+
+-- row i runs, because it is ready and no row of a higher place is (rule 2.3); its three figures follow rules 2.5 to 2.11, 2.14 and 19.2, and
+-- of the other rows the clock may close some
 pub record RowRuns (table order state : List ℕ) (supply i : ℕ) (next : List ℕ) : Type 0 where
   pub ready : ReadyIn table state i
   pub place : ℕ
@@ -223,10 +236,13 @@ pub record RowRuns (table order state : List ℕ) (supply i : ℕ) (next : List 
   pub done : getD next i 0 ≡ getD table (67 + i) 0 → getD next (128 + i) 0 ≡ getD state 0 0 + 1
   pub dropped : getD table (195 + i) 0 ≡ 0 → need (getD table 3 0) (getD table (67 + i) 0) (getD table 1 0) ≤ getD next (64 + i) 0
       → getD next (128 + i) 0 ≡ getD state 0 0 + 1
+  -- a LO row at its deadline is closed, done or not; what this slot brought it counts (rule 19.3)
+  pub late : getD table (195 + i) 0 ≡ 0 → getD table (131 + i) 0 ≤ getD state 0 0 + 1 → getD next (128 + i) 0 ≡ getD state 0 0 + 1
   pub still-open : (getD next i 0 ≡ getD table (67 + i) 0 → ⊥)
-      → (getD table (195 + i) 0 ≡ 0 → getD next (64 + i) 0 < need (getD table 3 0) (getD table (67 + i) 0) (getD table 1 0))
+      → (getD table (195 + i) 0 ≡ 0 → (getD next (64 + i) 0 < need (getD table 3 0) (getD table (67 + i) 0) (getD table 1 0))
+      × (getD state 0 0 + 1 < getD table (131 + i) 0))
       → getD next (128 + i) 0 ≡ 0
-  pub others : (j : ℕ) → 1 ≤ j → j ≤ 64 → (j ≡ i → ⊥) → SameRow next state j
+  pub others : (j : ℕ) → 1 ≤ j → j ≤ 64 → (j ≡ i → ⊥) → RowWaits table state next j
 
 pub record FirmwareWriter (table order state : List ℕ) (supply : ℕ) (said : Slots) : Type 0 where
   -- the coming slot was told as it came, whatever the supply (rule 8.15)
@@ -237,11 +253,12 @@ pub record FirmwareWriter (table order state : List ℕ) (supply : ℕ) (said : 
   pub eight : said .number ≡ 8 → getD state 0 0 ≡ 2000000
   -- 9 is said of an unsound record, and of no other (check 9, rules 8.3 to 8.8)
   pub nine : said .number ≡ 9 → isSound (runIn table order state) ≡ false
+  pub unsound : isSound (runIn table order state) ≡ false → said .number ≡ 9
   pub sound-early : isSound (runIn table order state) ≡ true → getD state 0 0 < 2000000 → said .number ≡ 0
   pub sound-last : isSound (runIn table order state) ≡ true → getD state 0 0 ≡ 2000000 → said .number ≡ 8
   pub early : said .number ≡ 0 → getD state 0 0 < 2000000
   pub clock : said .number ≡ 0 → getD (said .next) 0 0 ≡ getD state 0 0 + 1
-  -- an idle slot: no row is ready, and only the clock moves (rules 2.3, 2.12)
+  -- an idle slot: no row is ready, and only the clock moves; a row that it would drop would have been ready (rules 2.3, 2.12, 19.7)
   pub idle : said .number ≡ 0 → said .row ≡ 0 → ((i : ℕ) → ReadyIn table state i → ⊥) × ((k : ℕ) → 1 ≤ k → getD (said .next) k 0 ≡ getD state k 0)
   pub runs : said .number ≡ 0 → (said .row ≡ 0 → ⊥) → RowRuns table order state supply (said .row) (said .next)
 
@@ -260,6 +277,7 @@ pub record Forwarding (table order state supplies : List ℕ) (said : Forwards) 
   pub all-worked : said .number ≡ 0 → said .worked ≡ length supplies
   pub over : said .number ≡ 8 → (said .worked < length supplies) × (getD (said .next) 0 0 ≡ 2000000)
   pub damaged : said .number ≡ 9 → (said .worked ≡ 0) × (said .next ≡ state) × (isSound (runIn table order state) ≡ false)
+  pub unsound : isSound (runIn table order state) ≡ false → said .number ≡ 9
   -- the slots worked are the clock's gain, and they are all that the clock has room for (rules 8.10, 8.13)
   pub tally : getD (said .next) 0 0 ≡ getD state 0 0 + said .worked
   pub room : isSound (runIn table order state) ≡ true → getD state 0 0 + length supplies ≤ 2000000 → said .number ≡ 0
@@ -306,7 +324,8 @@ abbrev pub startOf : List ℕ → List ℕ → List ℕ
 startOf table order = stateWords (freshRun (tableIn table) order)
 
 -- From the start on, the answers are those of the run on paper, and each row whose deadline the clock has reached has kept it: a HI row if its
--- slots supplied at least G, a LO row if they supplied at least N (rules 9.10, 9.12).
+-- slots supplied at least G, a LO row if they supplied at least N (rules 9.10, 9.12). Whatever they supplied, a LO row is open only while its
+-- deadline is to come and was else closed by then, and a HI row is closed only when it is done (rules 19.2, 19.4).
 pub record PenEngineer (table order start : List ℕ) (cs : List Call) : Type 0 where
   pub said : listWords table order cs start .said ≡ tellAll (tableIn table) order cs fresh .said
   pub clock : getD (listWords table order cs start .state) 0 0 ≡ tellAll (tableIn table) order cs fresh .state .clock
@@ -314,6 +333,11 @@ pub record PenEngineer (table order start : List ℕ) (cs : List Call) : Type 0 
       → SuppliedIn table cs i (getD table 2 0) → KeptWords table (listWords table order cs start .state) i
   pub low : (i : ℕ) → 1 ≤ i → i ≤ getD table 0 0 → getD table (195 + i) 0 ≡ 0 → getD table (131 + i) 0 ≤ getD (listWords table order cs start .state) 0 0
       → SuppliedIn table cs i (getD table 1 0) → KeptWords table (listWords table order cs start .state) i
+  pub preview : (i : ℕ) → 1 ≤ i → i ≤ getD table 0 0 → getD table (195 + i) 0 ≡ 0
+      → (getD (listWords table order cs start .state) (128 + i) 0 ≡ 0 → getD (listWords table order cs start .state) 0 0 < getD table (131 + i) 0)
+      × (getD (listWords table order cs start .state) (128 + i) 0 ≤ getD table (131 + i) 0)
+  pub pen : (i : ℕ) → 1 ≤ i → i ≤ getD table 0 0 → (getD table (195 + i) 0 ≡ 0 → ⊥) → 1 ≤ getD (listWords table order cs start .state) (128 + i) 0
+      → getD (listWords table order cs start .state) i 0 ≡ getD table (67 + i) 0
 
 -- a number and a value as an answer (rules 9.7, 9.8)
 abbrev pub told : ℕ → ℕ → Said

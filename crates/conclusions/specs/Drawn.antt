@@ -1,5 +1,5 @@
 -- A list of calls over the words is the list of calls on records that the claim speaks of, and so the pen engineer's conclusion follows from it.
-use Prim.Native.Nat.{ℕ, _+_, _≤_}
+use Prim.Native.Nat.{ℕ, _+_, _≤_, _<_}
 use mathlib.Core.Bool.{true}
 use mathlib.Core.Logic.{inl}
 use mathlib.Core.List.{List, [], _∷_}
@@ -7,13 +7,17 @@ use mathlib.Core.Path.{_≡_, refl, sym, ap, _∙_}
 use native.Mathlib.Omega.{arith}
 use lib.Dec.{ltb}
 use lib.ListN.{length, getD}
+use borrow.Author.Tests.{eq-eqb, ne-eqb}
 use Rattle.rules.specs.declared.Table.{Table}
-use Rattle.rules.specs.Calls.{lastClock, Call, one, forward}
+use Rattle.rules.specs.Calls.{lastClock, Call, one, forward, supplyAt}
 use Rattle.rules.specs.Meaning.{Serves}
 use Rattle.rules.specs.Orders.{isOrder}
 use Rattle.rules.specs.Rows.{at}
+use Rattle.rules.specs.Running.{runAfter}
+use Rattle.rules.specs.Slots.{State}
 use Rattle.rules.specs.Tables.{Accepted}
-use Rattle.theory.specs.Facts.{facts}
+use Rattle.theory.specs.Facts.{facts, is-row}
+use Rattle.theory.specs.Results.{running-low, running-high}
 use Rattle.theory.specs.Tests.{by-bool}
 use Rattle.rules.specs.declared.Check.the-variants.{Passed}
 use Rattle.rules.specs.Choice.{planOf}
@@ -23,7 +27,7 @@ use Rattle.record.specs.declared.Run.{Run}
 use Rattle.record.specs.Fresh.{fresh-sized}
 use Rattle.record.specs.Kept.{Sized, sized-kept}
 use Rattle.record.specs.Records.{freshRun, freshOf, isSound, nextRun, oneSlot, workOn, forwardOver}
-use Rattle.guarantee.specs.Claim.{RunRight, Claim}
+use Rattle.guarantee.specs.Claim.{paper, RunRight, Claim}
 use Rattle.guarantee.specs.Concluded.{Supplied, Done, Deadlines, concluded}
 use Rattle.guarantee.specs.Playing.{make, makeAll}
 use Rattle.guarantee.specs.Proved.{demand-3}
@@ -127,6 +131,35 @@ module _ (table order : List ℕ) (tables : length table ≡ 260) where
     reached : (i : ℕ) → 1 ≤ i → i ≤ t .n → getD table (131 + i) 0 ≤ getD (listWords table order cs start .state) 0 0 → at (t .deadline) i ≤ end .clock
     reached i l h d = omega (arith, rw listed at d, clock-word end, table-words table i l (few i h) .deadline)
 
+    -- the record at the end holds the state of the run by the running rule
+    abbrev run-end : State
+    run-end = runAfter t order (supplyAt cs) (paper t order cs .state .clock)
+
+    closing-end : (i : ℕ) → at (end .closing) i ≡ at (run-end .closing) i
+    closing-end i = ap (λ (x : List ℕ). at x i) (right .closing) ∙ ap (λ (s : State). at (s .closing) i) (right .taken)
+
+    got-end : (i : ℕ) → at (end .got) i ≡ at (run-end .got) i
+    got-end i = ap (λ (x : List ℕ). at x i) (right .got) ∙ ap (λ (s : State). at (s .got) i) (right .taken)
+
+    previewed : (i : ℕ) → 1 ≤ i → i ≤ t .n → at (t .level) i ≡ 0
+        → (getD (stateWords end) (128 + i) 0 ≡ 0 → getD (stateWords end) 0 0 < getD table (131 + i) 0) × (getD (stateWords end) (128 + i) 0 ≤ getD table (131 + i) 0)
+    previewed i l h z =
+        let w = table-words table i l (few i h) in
+        let e = end-words i l (few i h) in
+        let timely = running-low t accepted order passes i (is-row t i (record { from = l; upTo = h })) (rw (eq-eqb (at (t .level) i) 0 z)) (supplyAt cs)
+        (paper t order cs .state .clock) in (
+          λ q. omega (arith, w .deadline, clock-word end, right .clock, timely .early (sym (closing-end i) ∙ sym (e .closing) ∙ q)),
+          omega (arith, w .deadline, e .closing, closing-end i, timely .by),
+        )
+
+    pens : (i : ℕ) → 1 ≤ i → i ≤ t .n → (at (t .level) i ≡ 0 → ⊥) → 1 ≤ getD (stateWords end) (128 + i) 0 → getD (stateWords end) i 0 ≡ getD table (67 + i) 0
+    pens i l h n c =
+        let w = table-words table i l (few i h) in
+        let e = end-words i l (few i h) in
+        let done = running-high t accepted order passes i (is-row t i (record { from = l; upTo = h })) (rw (ne-eqb (at (t .level) i) 0 n)) (supplyAt cs)
+        (paper t order cs .state .clock) (omega (arith, c, e .closing, closing-end i)) in
+        e .got ∙ got-end i ∙ done ∙ sym (w .work)
+
     pub penned : PenEngineer table order start cs
     unfolding tableIn
     penned =
@@ -137,6 +170,8 @@ module _ (table order : List ℕ) (tables : length table ≡ 260) where
               (kept-words i l h (deadlines .high serves i l h (λ z. n (table-words table i l (few i h) .level ∙ z)) (reached i l h d) (supplied i _ l h w)));
           low = λ i l h n d w. rw listed
               (kept-words i l h (deadlines .low serves i l h (sym (table-words table i l (few i h) .level) ∙ n) (reached i l h d) (supplied i _ l h w)));
+          preview = λ i l h n. rw listed (previewed i l h (sym (table-words table i l (few i h) .level) ∙ n));
+          pen = λ i l h n. rw listed (pens i l h (λ z. n (table-words table i l (few i h) .level ∙ z)));
         }
 
 -- ---- planned, started afresh and worked forward through the exported functions

@@ -1,11 +1,11 @@
 -- The firmware writer's conclusion, from the definition of one slot on a record and the words that hold one.
 use Prim.Native.Nat.{ℕ, zero, suc, _+_, _-_, _≤_, _<_, min}
-use mathlib.Core.Bool.{Bool, true, false}
+use mathlib.Core.Bool.{Bool, true, false, cond, _&&_}
 use mathlib.Core.Logic.{inl, inr}
 use mathlib.Core.List.{List, [], _∷_, _++_}
 use mathlib.Core.Path.{_≡_, refl, sym, ap, _∙_}
 use native.Mathlib.Omega.{arith}
-use borrow.Author.Tests.{ltb-true, ltb-false, le-leb, lt-leb, eq-eqb, ne-eqb}
+use borrow.Author.Tests.{ltb-true, ltb-false, lt-ltb, le-leb, lt-leb, eq-eqb, ne-eqb}
 use lib.Dec.{ltb, eqb}
 use lib.ListN.{length, getD, take, drop, take-append-drop}
 use Rattle.rules.specs.Calls.{lastClock}
@@ -13,27 +13,28 @@ use Rattle.rules.specs.Lists.{first}
 use Rattle.rules.specs.Need.{need}
 use Rattle.rules.specs.Numbers.{refusalNumber}
 use Rattle.rules.specs.Rows.{at}
+use Rattle.rules.specs.Running.{closeLate}
 use Rattle.rules.specs.Slots.{isReady, chosen}
-use Rattle.theory.specs.Cells.{brought-none, brought-all, Ready, ready-is, chosen-ready, chosen-above}
-use Rattle.theory.specs.Counts.{In}
-use Rattle.theory.specs.Facts.{Row, both-order, in-rows, is-row, count-zero}
-use Rattle.theory.specs.Places.{order-rows}
-use Rattle.theory.specs.Tests.{by-bool, by-eqb, not-both}
+use Rattle.theory.specs.Cells.{brought-none, brought-all, Ready, ready-is, chosen-ready}
+use Rattle.theory.specs.Facts.{Row, both-order, is-row}
+use Rattle.theory.specs.Late.{closed-at}
+use Rattle.theory.specs.Runs.{none-ready}
+use Rattle.theory.specs.Tests.{by-bool, by-eqb, by-leb, not-both}
 use Rattle.columns.specs.Entries.{put-same, put-other}
-use Rattle.columns.specs.Figures.{over, sound-facts}
+use Rattle.columns.specs.Figures.{over, sound-facts, dueAt}
 use Rattle.record.specs.declared.Run.{Run}
 use Rattle.record.specs.Answers.{slotSaid}
 use Rattle.record.specs.Checked.{limits}
-use Rattle.record.specs.Kept.{Sized, sized-kept}
-use Rattle.record.specs.Records.{stateOf, isSound, chosenRow, nextRun, comingSlot, oneSlot}
+use Rattle.record.specs.Kept.{Sized, next-idle, sized-worked, sized-kept}
+use Rattle.record.specs.Records.{stateOf, isSound, chosenRow, nextRun, workedRun, closedRun, comingSlot, oneSlot}
 use Rattle.record.specs.Sound.{sound-so, runs}
-use Rattle.record.specs.Stepping.{gotNext, closingNext, rested, served, next-idle, next-served}
-use Rattle.forward.specs.Forwarding.{next-clock}
+use Rattle.record.specs.Stepping.{gotNext, closingNext, rested, served, worked-served, next-looks}
+use Rattle.forward.specs.Forwarding.{worked-clock, next-clock}
 use Rattle.rules.specs.Tables.{FullTable}
 use Rattle.words.specs.Words.{tableIn, wordsOf, runIn, stateWords}
 use Rattle.words.specs.Inverse.{words-of-table-in, state-words-of-run-in, run-in-words}
 use Rattle.conclusions.specs.declared.Slots.{Slots}
-use Rattle.conclusions.specs.Conclusions.{ReadyIn, SameRow, RowRuns, FirmwareWriter}
+use Rattle.conclusions.specs.Conclusions.{ReadyIn, DueIn, RowWaits, RowRuns, FirmwareWriter}
 use Rattle.conclusions.specs.Entries.{column-full, full-table, TableWords, table-words, StateWords, state-words}
 
 -- ---- the first that passes stands at a place, and none before it passes
@@ -58,15 +59,15 @@ first-at p (x ∷ xs) h =
 
 -- ---- when a row is over, one way after another
 module _ (work level normal loading got used : ℕ) where
-  over-done : got ≡ work → over work level normal loading got used ≡ true
+  pub over-done : got ≡ work → over work level normal loading got used ≡ true
   unfolding over
   over-done e = rw (eq-eqb got work e)
 
-  over-dropped : level ≡ 0 → need loading work normal ≤ used → over work level normal loading got used ≡ true
+  pub over-dropped : level ≡ 0 → need loading work normal ≤ used → over work level normal loading got used ≡ true
   unfolding over
   over-dropped z h = by-bool (eqb got work) (λ e. rw e) (λ e. rw (e, eq-eqb level 0 z, le-leb (need loading work normal) used h))
 
-  over-open : (got ≡ work → ⊥) → (level ≡ 0 → used < need loading work normal) → over work level normal loading got used ≡ false
+  pub over-open : (got ≡ work → ⊥) → (level ≡ 0 → used < need loading work normal) → over work level normal loading got used ≡ false
   unfolding over
   over-open n h =
       by-eqb level 0
@@ -133,19 +134,13 @@ module _ (table order state : List ℕ) (tables : length table ≡ 260) (states 
     after-words : (i : ℕ) → 1 ≤ i → i ≤ 64 → StateWords next (nextRun r v) i
     after-words i l h = rw next-held at (state-words table order next i l h)
 
-    -- an idle slot: were a row ready, the slot would go to one of the first n places, which hold no 0
-    none-ready : chosenRow r ≡ 0 → (i : ℕ) → ReadyIn table state i → ⊥
+    -- an idle slot
+    not-ready : chosenRow r ≡ 0 → (i : ℕ) → ReadyIn table state i → ⊥
     unfolding chosenRow
-    none-ready z i h =
-        let t = r .table in
-        let o = r .order in
-        let n = t .n in
-        let row : Row t i = row-of i h in
-        let rows = order-rows t o (both-order t o (sound-so r sound .checked)) in
-        let above : In (chosen t (take n o ++ drop n o) (stateOf r)) (take n o) =
-        chosen-above t (stateOf r) (take n o) (drop n o) i (omega (arith, rows i, in-rows t i row)) (words-ready i h (omega (arith, few, row .upTo))) in
-        let zero-above : In 0 (take n o) = rw (take-append-drop n o, z) at above in
-        omega (arith, rows 0, count-zero n, zero-above)
+    not-ready z i h =
+        let row : Row (r .table) i = row-of i h in
+        none-ready (r .table) (r .order) (both-order (r .table) (r .order) (sound-so r sound .checked)) (stateOf r) z i row
+        (words-ready i h (omega (arith, few, row .upTo)))
 
     -- after the clock the words of the next record stand as they stood
     later : (k : ℕ) → getD (stateWords (rested r)) (suc k) 0 ≡ getD (stateWords r) (suc k) 0
@@ -155,9 +150,74 @@ module _ (table order state : List ℕ) (tables : length table ≡ 260) (states 
     idle-words : chosenRow r ≡ 0 → (k : ℕ) → 1 ≤ k → getD next k 0 ≡ getD state k 0
     idle-words z zero l = absurd (omega arith)
     idle-words z (suc k) l =
-        let e : stateWords (nextRun r v) ≡ stateWords (rested r) = ap stateWords (next-idle r v (chosenRow r) refl z) in
+        let e : stateWords (nextRun r v) ≡ stateWords (rested r) = ap stateWords (next-idle r v sound z) in
         let s = state-words-of-run-in table order state states in
         ap (λ (x : List ℕ). getD x (suc k) 0) e ∙ later k ∙ ap (λ (x : List ℕ). getD x (suc k) 0) s
+
+    -- the record after the slot, before the look at the clock
+    abbrev half : Run
+    half = workedRun r v
+
+    half-clock : half .clock ≡ getD state 0 0 + 1
+    unfolding runIn
+    half-clock = worked-clock r v
+
+    -- row j's work got and slots used are those that the slot left, and its closing slot the one that the look gives it
+    got-looked : (j : ℕ) → 1 ≤ j → j ≤ 64 → getD next j 0 ≡ at (half .got) j
+    unfolding closedRun closeLate
+    got-looked j l h = after-words j l h .got ∙ ap (λ (q : Run). at (q .got) j) (next-looks r v)
+
+    used-looked : (j : ℕ) → 1 ≤ j → j ≤ 64 → getD next (64 + j) 0 ≡ at (half .used) j
+    unfolding closedRun closeLate
+    used-looked j l h = after-words j l h .used ∙ ap (λ (q : Run). at (q .used) j) (next-looks r v)
+
+    abbrev due : ℕ → Bool
+    due = dueAt (half .table .n) (half .clock) (half .table .deadline) (half .table .level)
+
+    closing-looked : (j : ℕ) → 1 ≤ j → j ≤ 64 → getD next (128 + j) 0 ≡ cond (eqb (at (half .closing) j) 0 && due j) (half .clock) (at (half .closing) j)
+    unfolding closedRun closeLate
+    closing-looked j l h =
+        after-words j l h .closing
+        ∙ ap (λ (q : Run). at (q .closing) j) (next-looks r v)
+        ∙ closed-at due (half .clock) (half .closing) j l (omega (arith, h, sized-worked r v sized .closing))
+
+    -- a row is due over the words and over the record
+    due-words : (j : ℕ) → j ≤ 64 → DueIn table (getD state 0 0 + 1) j → due j ≡ true
+    unfolding workedRun runIn tableIn
+    due-words j few d =
+        let w = table-words table j (d .0) few in
+        rw (
+          is-row (tableIn table) j (record { from = d .0; upTo = d .1 }),
+          eq-eqb (at (tableIn table .level) j) 0 (sym (w .level) ∙ d .2),
+          le-leb (at (tableIn table .deadline) j) (half .clock) (omega (arith, w .deadline, d .3, half-clock)),
+        )
+
+    words-due : (j : ℕ) → 1 ≤ j → j ≤ 64 → (DueIn table (getD state 0 0 + 1) j → ⊥) → due j ≡ false
+    unfolding workedRun runIn tableIn
+    words-due j l few n =
+        let w = table-words table j l few in
+        by-leb j (tableIn table .n)
+        (λ _ h. by-eqb (at (tableIn table .level) j) 0
+        (λ _ q. by-leb (at (tableIn table .deadline) j) (half .clock)
+        (λ _ d. absurd (n (l, h, w .level ∙ q, omega (arith, w .deadline, d, half-clock))))
+        (λ e _. rw (is-row (tableIn table) j (record { from = l; upTo = h }), eq-eqb (at (tableIn table .level) j) 0 q, e)))
+        (λ e _. rw (is-row (tableIn table) j (record { from = l; upTo = h }), e)))
+        (λ e _. rw (lt-ltb 0 j l, e))
+
+    -- a row whose figures the slot left as they were
+    waits : (j : ℕ) → 1 ≤ j → j ≤ 64 → at (half .got) j ≡ at (r .got) j → at (half .used) j ≡ at (r .used) j → at (half .closing) j ≡ at (r .closing) j
+        → RowWaits table state next j
+    waits j l h g u c =
+        let s = state-words table order state j l h in
+        let k = closing-looked j l h in
+        let same = c ∙ sym (s .closing) in
+        record {
+          got = got-looked j l h ∙ g ∙ sym (s .got);
+          used = used-looked j l h ∙ u ∙ sym (s .used);
+          closed = λ n. k ∙ rw (ne-eqb (at (half .closing) j) 0 (λ z. n (sym same ∙ z))) same;
+          late = λ z d. k ∙ rw (eq-eqb (at (half .closing) j) 0 (same ∙ z), due-words j h d) half-clock;
+          still-open = λ z n. k ∙ rw (eq-eqb (at (half .closing) j) 0 (same ∙ z), words-due j l h n) (same ∙ z);
+        }
 
     moved : getD next 0 0 ≡ getD state 0 0 + 1
     unfolding stateWords runIn
@@ -185,45 +245,51 @@ module _ (table order state : List ℕ) (tables : length table ≡ 260) (states 
       sw : StateWords state r i
       sw = state-words table order state i low high
 
-      served-is : nextRun r v ≡ served r v i
-      served-is = next-served r v i e some
+      served-is : half ≡ served r v i
+      served-is = worked-served r v i e some
 
       got-is : getD next i 0 ≡ gotNext r v i
       got-is =
-          after-words i low high .got
+          got-looked i low high
           ∙ ap (λ (q : Run). at (q .got) i) served-is
           ∙ put-same (r .got) i (gotNext r v i) low (omega (arith, high, sized .got))
 
       used-is : getD next (64 + i) 0 ≡ at (r .used) i + 1
       used-is =
-          after-words i low high .used
+          used-looked i low high
           ∙ ap (λ (q : Run). at (q .used) i) served-is
           ∙ put-same (r .used) i (at (r .used) i + 1) low (omega (arith, high, sized .used))
 
-      closing-is : getD next (128 + i) 0 ≡ closingNext r v i
-      closing-is =
-          after-words i low high .closing
-          ∙ ap (λ (q : Run). at (q .closing) i) served-is
-          ∙ put-same (r .closing) i (closingNext r v i) low (omega (arith, high, sized .closing))
+      -- the closing slot that the slot left
+      closing-half : at (half .closing) i ≡ closingNext r v i
+      closing-half = ap (λ (q : Run). at (q .closing) i) served-is ∙ put-same (r .closing) i (closingNext r v i) low (omega (arith, high, sized .closing))
 
       abbrev is-over : Bool
       is-over = over (at (r .table .work) i) (at (r .table .level) i) (r .table .normal) (r .table .loading) (gotNext r v i) (at (r .used) i + 1)
 
-      -- the closing slot, by whether the row is over
-      closed : is-over ≡ true → getD next (128 + i) 0 ≡ r .clock + 1
-      closed o = closing-is ∙ rw o
+      -- the closing slot, by whether the row is over, and due
+      closed : is-over ≡ true → getD next (128 + i) 0 ≡ getD state 0 0 + 1
+      unfolding runIn
+      closed o =
+          let c : at (half .closing) i ≡ r .clock + 1 = closing-half ∙ rw o in
+          closing-looked i low high ∙ rw (ne-eqb (at (half .closing) i) 0 (λ z. omega arith)) c
 
-      not-closed : is-over ≡ false → getD next (128 + i) 0 ≡ 0
-      not-closed o = closing-is ∙ rw o
+      late-closed : is-over ≡ false → DueIn table (getD state 0 0 + 1) i → getD next (128 + i) 0 ≡ getD state 0 0 + 1
+      late-closed o d =
+          let c : at (half .closing) i ≡ 0 = closing-half ∙ rw o in
+          closing-looked i low high ∙ rw (eq-eqb (at (half .closing) i) 0 c, due-words i high d) half-clock
 
-      other : (j : ℕ) → 1 ≤ j → j ≤ 64 → (j ≡ i → ⊥) → SameRow next state j
+      not-closed : is-over ≡ false → (DueIn table (getD state 0 0 + 1) i → ⊥) → getD next (128 + i) 0 ≡ 0
+      not-closed o n =
+          let c : at (half .closing) i ≡ 0 = closing-half ∙ rw o in
+          closing-looked i low high ∙ rw (eq-eqb (at (half .closing) i) 0 c, words-due i low high n) c
+
+      other : (j : ℕ) → 1 ≤ j → j ≤ 64 → (j ≡ i → ⊥) → RowWaits table state next j
       other j l h n =
-          let a = after-words j l h in
-          let b = state-words table order state j l h in (
-            a .got ∙ ap (λ (q : Run). at (q .got) j) served-is ∙ put-other (r .got) i j (gotNext r v i) low l n ∙ sym (b .got),
-            a .used ∙ ap (λ (q : Run). at (q .used) j) served-is ∙ put-other (r .used) i j (at (r .used) i + 1) low l n ∙ sym (b .used),
-            a .closing ∙ ap (λ (q : Run). at (q .closing) j) served-is ∙ put-other (r .closing) i j (closingNext r v i) low l n ∙ sym (b .closing),
-          )
+          waits j l h
+          (ap (λ (q : Run). at (q .got) j) served-is ∙ put-other (r .got) i j (gotNext r v i) low l n)
+          (ap (λ (q : Run). at (q .used) j) served-is ∙ put-other (r .used) i j (at (r .used) i + 1) low l n)
+          (ap (λ (q : Run). at (q .closing) j) served-is ∙ put-other (r .closing) i j (closingNext r v i) low l n)
 
       first-place : FirstAt (isReady (r .table) (stateOf r)) order i
       unfolding chosenRow chosen runIn
@@ -245,7 +311,7 @@ module _ (table order state : List ℕ) (tables : length table ≡ 260) (states 
       loads : getD state (64 + i) 0 < getD table 3 0 → getD next i 0 ≡ getD state i 0
       unfolding runIn tableIn
       loads h =
-          let most = sound-facts _ _ _ _ _ _ _ _ (sound-so r sound .rows i low (ready .row .upTo)) .most in
+          let most = sound-facts _ _ _ _ _ _ _ _ _ (sound-so r sound .rows i low (ready .row .upTo)) .most in
           let none = brought-none (r .table .loading) (at (r .used) i) v (omega (arith, sw .used, h)) in
           omega (arith, got-is, sw .got, most, none)
 
@@ -268,7 +334,9 @@ module _ (table order state : List ℕ) (tables : length table ≡ 260) (states 
             used = rw (sw .used) used-is;
             done = λ q. closed (over-done _ _ _ _ _ _ (sym got-is ∙ q ∙ tw .work));
             dropped = λ z h. closed (over-dropped _ _ _ _ _ _ (sym (tw .level) ∙ z) (least-need h));
-            still-open = λ n h. not-closed (over-open _ _ _ _ _ _ (λ q. n (got-is ∙ q ∙ sym (tw .work))) (λ z. below-need (h (tw .level ∙ z))));
+            late = λ z d. by-bool is-over closed (λ o. late-closed o (low, ready .row .upTo, z, d));
+            still-open = λ n h. not-closed (over-open _ _ _ _ _ _ (λ q. n (got-is ∙ q ∙ sym (tw .work))) (λ z. below-need (h (tw .level ∙ z) .0)))
+                (λ d. omega (arith, h (d .2) .1, d .3));
             others = other;
           }
 
@@ -303,11 +371,12 @@ module _ (table order state : List ℕ) (tables : length table ≡ 260) (states 
           refused = λ n. absurd (n refl);
           eight = λ e. absurd (omega arith);
           nine = λ e. absurd (omega arith);
+          unsound = λ s. absurd (not-both (isSound r) sound s);
           sound-early = λ _ _. refl;
           sound-last = λ _ h. absurd (omega (arith, clock-below early));
           early = λ _. clock-below early;
           clock = λ _. moved v sound;
-          idle = λ _ z. (none-ready v sound z, idle-words v sound z);
+          idle = λ _ z. (not-ready v sound z, idle-words v sound z);
           runs = λ _ n. row-runs v sound (chosenRow r) refl n;
         })
 
@@ -321,6 +390,7 @@ module _ (table order state : List ℕ) (tables : length table ≡ 260) (states 
           refused = λ n. (inl refl, refl, state-words-of-run-in table order state states);
           eight = λ _. clock-last sound late;
           nine = λ e. absurd (omega arith);
+          unsound = λ s. absurd (not-both (isSound r) sound s);
           sound-early = λ _ h. absurd (omega (arith, clock-last sound late));
           sound-last = λ _ _. refl;
           early = λ e. absurd (omega arith);
@@ -339,6 +409,7 @@ module _ (table order state : List ℕ) (tables : length table ≡ 260) (states 
           refused = λ n. (inr refl, refl, state-words-of-run-in table order state states);
           eight = λ e. absurd (omega arith);
           nine = λ _. damaged;
+          unsound = λ _. refl;
           sound-early = λ s _. absurd (not-both (isSound r) s damaged);
           sound-last = λ s _. absurd (not-both (isSound r) s damaged);
           early = λ e. absurd (omega arith);

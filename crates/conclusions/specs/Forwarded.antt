@@ -113,9 +113,9 @@ module _ (table order : List ℕ) (tables : length table ≡ 260) where
     unfolding runIn
     gain w f = clock-word (w .run) ∙ f .gained
 
-    worked : (w : Forwarded) → Went table order vs state 0 w → Forwarding table order state vs (said w)
+    worked : isSound (runIn table order state) ≡ true → (w : Forwarded) → Went table order vs state 0 w → Forwarding table order state vs (said w)
     unfolding forwardSaid
-    worked w f =
+    worked sound w f =
         ⊎-elim
         (λ a.
         let slots : 0 + f .m ≡ f .m = omega arith in
@@ -126,6 +126,7 @@ module _ (table order : List ℕ) (tables : length table ≡ 260) where
           all-worked = λ _. a .1;
           over = λ e. absurd (omega arith);
           damaged = λ e. absurd (omega arith);
+          unsound = λ e. absurd (not-both (isSound (runIn table order state)) sound e);
           tally = gain w f;
           room = λ _ _. refl;
           no-room = λ _ h. absurd (omega (arith, gain w f, clock-word (w .run), f .within, a .1));
@@ -139,6 +140,7 @@ module _ (table order : List ℕ) (tables : length table ≡ 260) where
           all-worked = λ e. absurd (omega arith);
           over = λ _. (a .1, clock-word (w .run) ∙ a .2);
           damaged = λ e. absurd (omega arith);
+          unsound = λ e. absurd (not-both (isSound (runIn table order state)) sound e);
           tally = gain w f;
           room = λ _ h. absurd (omega (arith, gain w f, clock-word (w .run), a .1, a .2));
           no-room = λ _ _. refl;
@@ -159,6 +161,7 @@ module _ (table order : List ℕ) (tables : length table ≡ 260) where
           all-worked = λ n. absurd (omega arith);
           over = λ n. absurd (omega arith);
           damaged = λ _. (refl, state-words-of-run-in table order state states, e);
+          unsound = λ _. refl;
           tally = still;
           room = λ s _. absurd (not-both (isSound (runIn table order state)) s e);
           no-room = λ s _. absurd (not-both (isSound (runIn table order state)) s e);
@@ -168,5 +171,5 @@ module _ (table order : List ℕ) (tables : length table ≡ 260) where
     unfolding forwardOver
     forwarded states =
         by-bool (isSound (runIn table order state))
-        (λ e. rw e (worked (workOn 0 vs (runIn table order state)) (went vs state 0 states e)))
+        (λ e. rw e (worked e (workOn 0 vs (runIn table order state)) (went vs state 0 states e)))
         (unsound states)

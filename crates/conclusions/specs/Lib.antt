@@ -17,3 +17,5 @@ pub mod ListedExact
 pub mod Written
 pub mod Begins
 pub mod Settled
+pub mod Previews
+pub mod Soundness

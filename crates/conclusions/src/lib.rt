@@ -265,7 +265,7 @@ pub fn job_list(table: [u32; 260], order: [u8; 64], report: &mut [u8], size: &mu
 
 // Whoever links the archive asks which interface it has.
 pub fn interface() -> u32
-    ensures { λ r. ⌜ r ≡ 2 ⌝ }
+    ensures { λ r. ⌜ r ≡ 3 ⌝ }
 {
     jasminebrace::jb_version()
 }

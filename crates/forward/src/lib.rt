@@ -1,5 +1,6 @@
 // Forward, the second entry (rule 8.10): a lent run record is worked over lent supplies, one slot for each, by the record's own by-value
-// step, `Run::next`. Supplies are in work units, the clock and the slots worked in slots. What it means stands in record/specs/Records.
+// halves of a step, `Run::work` and `Run::close_late`. It keeps a clock that no open LO row's deadline is before; from there on the rows are
+// looked through for late ones, and the clock is asked for anew. Supplies are in work units, the clock and the slots worked in slots. What it means stands in record/specs/Records.
 ghost use mathlib.Core.Path.{_≡_};
 ghost use mathlib.Core.Bool.{true};
 ghost use Rattle.record.specs.Records.{isSound, workOn, forwardOver};
@@ -14,6 +15,7 @@ fn worked(start: Run, supplies: &[u32]) -> Forwarded
     ensures { λ r. ⌜ r ≡ workOn 0 (now (supplies .entry)) start ⌝ }
 {
     let mut run = start;
+    let mut due = run.due();
     let mut slots: u32 = 0;
     let mut k = 0;
     while k < supplies.len() {
@@ -24,7 +26,11 @@ fn worked(start: Run, supplies: &[u32]) -> Forwarded
                 run: run,
             };
         }
-        run = run.next(supply);
+        run = run.work(supply);
+        if due <= run.clock {
+            run = run.close_late();
+            due = run.due();
+        }
         slots = slots + 1;
         k = k + 1;
     }

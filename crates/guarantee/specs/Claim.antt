@@ -18,7 +18,8 @@ use Rattle.rules.specs.Lists.{all}
 use Rattle.rules.specs.Orders.{isOrder}
 use Rattle.rules.specs.Rows.{isRow, deadlineOf}
 use Rattle.rules.specs.Numbers.{plannedNumber, rowsLeft}
-use Rattle.rules.specs.Slots.{fresh, after}
+use Rattle.rules.specs.Running.{runAfter}
+use Rattle.rules.specs.Slots.{fresh}
 use Rattle.rules.specs.Tables.{Accepted}
 use Rattle.rules.specs.Worst.{worstSpeed}
 use Rattle.guarantee.specs.Playing.{AllMade, makeAll}
@@ -29,11 +30,11 @@ paper t o cs = tellAll t o cs fresh
 
 -- With an order of the table, what the calls said and left is the run on paper's, field by field (rule 9.10); 9 never comes up (rule 9.11);
 -- and under a correct order each row whose deadline the clock has reached kept it, if each slot of its window supplied at least
--- N (LO) or G (HI), whatever came before and later (rule 9.12).
+-- N (LO) or G (HI), whatever came before and later (rules 9.12, 19.5): correct is meant by the planning rule, and the run is by the running rule.
 pub record RunRight (t : Table) (o : List ℕ) (cs : List Call) (made : AllMade) : Type 0 where
   pub said : made .said ≡ paper t o cs .said
-  -- slot u of the run on paper takes the supply `supplyAt cs u` (rule 9.15)
-  pub taken : paper t o cs .state ≡ after t o (supplyAt cs) (paper t o cs .state .clock)
+  -- slot u of the run on paper takes the supply `supplyAt cs u` (rule 9.15), and its steps are by the running rule (rules 9.6, 19.2)
+  pub taken : paper t o cs .state ≡ runAfter t o (supplyAt cs) (paper t o cs .state .clock)
   pub clock : made .run .clock ≡ paper t o cs .state .clock
   pub got : made .run .got ≡ paper t o cs .state .got
   pub used : made .run .used ≡ paper t o cs .state .used

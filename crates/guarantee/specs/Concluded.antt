@@ -23,7 +23,8 @@ use Rattle.rules.specs.Meaning.{Serves, correct-serves, serves-correct, has-cor
 use Rattle.rules.specs.Numbers.{plannedNumber, rowsLeft}
 use Rattle.rules.specs.Orders.{isOrder}
 use Rattle.rules.specs.Rows.{at, rowsOf, releaseOf}
-use Rattle.rules.specs.Slots.{State, fresh, slot, after}
+use Rattle.rules.specs.Running.{runSlot, runAfter}
+use Rattle.rules.specs.Slots.{State, fresh}
 use Rattle.rules.specs.Tables.{Accepted}
 use Rattle.rules.specs.Worst.{worstSpeed}
 use Rattle.theory.specs.Counts.{In, in-head, in-tail}
@@ -71,7 +72,7 @@ pub record Answers (t : Table) (o : List ℕ) (cs : List Call) (said : List Said
 -- The record after the calls: its clock in slots, and each row's work units got, slots used and closing slot, are those on paper; its table and
 -- order are the first ones.
 pub record Entries (t : Table) (o : List ℕ) (cs : List Call) (made : AllMade) : Type 0 where
-  pub taken : tellAll t o cs fresh .state ≡ after t o (supplyAt cs) (tellAll t o cs fresh .state .clock)
+  pub taken : tellAll t o cs fresh .state ≡ runAfter t o (supplyAt cs) (tellAll t o cs fresh .state .clock)
   pub clock : made .run .clock ≡ tellAll t o cs fresh .state .clock
   pub got : (i : ℕ) → at (made .run .got) i ≡ at (tellAll t o cs fresh .state .got) i
   pub used : (i : ℕ) → at (made .run .used) i ≡ at (tellAll t o cs fresh .state .used) i
@@ -155,7 +156,7 @@ told-many t o (c ∷ cs) s = ap suc (told-many t o cs (tell t o c s .state))
 told-forward : (t : Table) (o : List ℕ) (k : ℕ) (vs : List ℕ) (s : State) → ZeroOrEight (tellForward t o k vs s .said .number)
 unfolding tellForward
 told-forward t o k [] s = inl refl
-told-forward t o k (v ∷ vs) s = by-bool (ltb (s .clock) lastClock) (λ e. rw e (told-forward t o (k + 1) vs (slot t o v s))) (λ e. rw e (inr refl))
+told-forward t o k (v ∷ vs) s = by-bool (ltb (s .clock) lastClock) (λ e. rw e (told-forward t o (k + 1) vs (runSlot t o v s))) (λ e. rw e (inr refl))
 
 -- On paper either call says 0 or 8.
 told-call : (t : Table) (o : List ℕ) (c : Call) (s : State) → ZeroOrEight (tell t o c s .said .number)

@@ -9,7 +9,8 @@ use Rattle.record.specs.Records.{recordOf, isSound, nextRun, chosenRow, oneSlot
 use Rattle.record.specs.Kept.{Sized, sized-kept, sound-kept}
 use Rattle.rules.specs.declared.Table.{Table}
 use Rattle.rules.specs.Calls.{lastClock, Call, one, forward, Told, tellOne, tellForward, tell, tellAll}
-use Rattle.rules.specs.Slots.{State, slot}
+use Rattle.rules.specs.Running.{runSlot}
+use Rattle.rules.specs.Slots.{State}
 use Rattle.theory.specs.Tests.{by-bool}
 use Rattle.guarantee.specs.Playing.{Made, make, makeAll}
 
@@ -23,7 +24,7 @@ module _ (t : Table) (o : List ℕ) where
   abbrev toldMade : Told → Made
   toldMade x = record { said = x .said; run = recordOf t o (x .state) }
 
-  holding-next : (s : State) (v : ℕ) → Holding t o s → ltb (s .clock) lastClock ≡ true → Holding t o (slot t o v s)
+  holding-next : (s : State) (v : ℕ) → Holding t o s → ltb (s .clock) lastClock ≡ true → Holding t o (runSlot t o v s)
   unfolding nextRun
   holding-next s v h e = record { sound = sound-kept (recordOf t o s) v (h .sized) (h .sound) e; sized = sized-kept (recordOf t o s) v (h .sized) }
 
@@ -37,12 +38,12 @@ module _ (t : Table) (o : List ℕ) where
       (toldMade (tellForward t o k vs s))
   unfolding workOn tellForward forwardSaid nextRun
   forward-told k [] s = refl
-  forward-told k (v ∷ vs) s = by-bool (ltb (s .clock) lastClock) (λ e. rw e (forward-told (k + 1) vs (slot t o v s))) (λ e. rw e)
+  forward-told k (v ∷ vs) s = by-bool (ltb (s .clock) lastClock) (λ e. rw e (forward-told (k + 1) vs (runSlot t o v s))) (λ e. rw e)
 
   forward-holds : (k : ℕ) (vs : List ℕ) (s : State) → Holding t o s → Holding t o (tellForward t o k vs s .state)
   unfolding tellForward
   forward-holds k [] s h = h
-  forward-holds k (v ∷ vs) s h = by-bool (ltb (s .clock) lastClock) (λ e. rw e (forward-holds (k + 1) vs (slot t o v s) (holding-next s v h e))) (λ e. rw e h)
+  forward-holds k (v ∷ vs) s h = by-bool (ltb (s .clock) lastClock) (λ e. rw e (forward-holds (k + 1) vs (runSlot t o v s) (holding-next s v h e))) (λ e. rw e h)
 
   call-told : (c : Call) (s : State) → Holding t o s → make c (recordOf t o s) ≡ toldMade (tell t o c s)
   unfolding forwardOver

@@ -18,11 +18,12 @@ use Rattle.rules.specs.Lists.{all}
 use Rattle.rules.specs.Numbers.{plannedNumber, rowsLeft}
 use Rattle.rules.specs.Orders.{isOrder, checkOrder, checkBoth}
 use Rattle.rules.specs.Rows.{isRow, deadlineOf}
-use Rattle.rules.specs.Slots.{State, fresh, slot}
+use Rattle.rules.specs.Running.{runSlot}
+use Rattle.rules.specs.Slots.{State, fresh}
 use Rattle.rules.specs.Tables.{Accepted}
 use Rattle.rules.specs.Worst.{worstSpeed}
 use Rattle.theory.specs.Counts.{in-head}
-use Rattle.theory.specs.Results.{sustainable-worst, verdict, choice-order, choice-correct, choice-none}
+use Rattle.theory.specs.Results.{running-sustainable, verdict, choice-order, choice-correct, choice-none}
 use Rattle.theory.specs.Tests.{by-bool, by-eqb, and-both}
 use Rattle.guarantee.specs.Playing.{makeAll}
 use Rattle.guarantee.specs.Claim.{paper, RunRight, Demand3}
@@ -37,7 +38,7 @@ module _ (t : Table) (o : List ℕ) where
   forward-number : (k : ℕ) (vs : List ℕ) (s : State) → not-nine (tellForward t o k vs s .said) ≡ true
   unfolding tellForward
   forward-number k [] s = refl
-  forward-number k (v ∷ vs) s = by-bool (ltb (s .clock) lastClock) (λ e. rw e (forward-number (k + 1) vs (slot t o v s))) (λ e. rw e)
+  forward-number k (v ∷ vs) s = by-bool (ltb (s .clock) lastClock) (λ e. rw e (forward-number (k + 1) vs (runSlot t o v s))) (λ e. rw e)
 
   call-number : (c : Call) (s : State) → not-nine (tell t o c s .said) ≡ true
   unfolding tellOne
@@ -73,7 +74,7 @@ module _ (t : Table) (accepted : Accepted t) where
         → Window t (supplyAt cs) i (worstSpeed t i) → KeptIn t (paper t o cs .state) i
     kept-paper correct i r d w =
         subst (λ (s : State). KeptIn t s i) (sym (paper-run t o cs))
-        (sustainable-worst t accepted o order i r (verdict t accepted o order .0 correct i r) (supplyAt cs) w (paper t o cs .state .clock) d)
+        (running-sustainable t accepted o order i r (verdict t accepted o order .0 correct i r) (supplyAt cs) w (paper t o cs .state .clock) d)
 
     run-right : RunRight t o cs (makeAll cs (freshRun t o))
     run-right =

@@ -416,5 +416,5 @@ pub extern "C" fn jb_program(input: &[u8], text: &mut [u8; 1617]) -> u32
 pub extern "C" fn jb_version() -> u32
     ensures { λ r. ⌜ r ≡ version ⌝ }
 {
-    2
+    3
 }

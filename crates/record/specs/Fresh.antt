@@ -1,4 +1,4 @@
--- The fresh record of a checked table and order (rule 8.2) is sound: every row is open, and needs a slot at least.
+-- The fresh record of a checked table and order (rule 8.2) is sound: every row is open, needs a slot at least, and has its deadline before it.
 use Prim.Native.Nat.{ℕ, zero, suc, _-_, _≤_}
 use mathlib.Core.Bool.{true, false}
 use mathlib.Core.List.{List}
@@ -10,14 +10,14 @@ use borrow.Author.Tests.{ne-eqb, lt-leb}
 use Rattle.rules.specs.declared.Table.{Table}
 use Rattle.rules.specs.declared.Check.the-variants.{Passed}
 use Rattle.rules.specs.Need.{need}
-use Rattle.rules.specs.Rows.{at, workOf}
+use Rattle.rules.specs.Rows.{at, workOf, deadlineOf}
 use Rattle.rules.specs.Orders.{checkBoth}
 use Rattle.rules.specs.Slots.{fresh}
 use Rattle.record.specs.Records.{tailSound, isSound, freshRun}
 use Rattle.theory.specs.Caps.{slots-above}
 use Rattle.theory.specs.Tests.{by-bool}
 use Rattle.columns.specs.AllRows.{zeros-of}
-use Rattle.columns.specs.Figures.{over, sound-test}
+use Rattle.columns.specs.Figures.{over, sound-test, open-early}
 use Rattle.record.specs.Checked.{limits, works}
 use Rattle.record.specs.Sound.{soundRow, is-sound}
 use Rattle.record.specs.Kept.{Sized}
@@ -37,12 +37,13 @@ module _ (t : Table) (o : List ℕ) (e : checkBoth t o ≡ Passed) where
   unfolding fresh
   row-fresh i l h =
       rw (zero-at 64 (i - 1))
-      (sound-test (workOf t i) (at (t .level) i) (t .normal) (t .loading) 0 0 0 0
+      (sound-test (workOf t i) (deadlineOf t i) (at (t .level) i) (t .normal) (t .loading) 0 0 0 0
       (record {
         most = omega arith;
         used-by = omega arith;
         closed-by = omega arith;
-        open-or-over = rw (not-over (workOf t i) (at (t .level) i) (t .normal) (t .loading) (works t o e i l h) (limits t o e .runs));
+        open-or-closed = rw (not-over (workOf t i) (at (t .level) i) (t .normal) (t .loading) (works t o e i l h) (limits t o e .runs))
+            (open-early (deadlineOf t i) (at (t .level) i) 0 (omega (arith, limits t o e .row i (record { from = l; upTo = h }) .before)));
       }))
 
   pub fresh-sound : isSound (freshRun t o) ≡ true

@@ -1,5 +1,6 @@
 -- Cases on run records, computed from the definitions and checked by one theorem: numbers 8 and 9, the clock's last slots (rules 8.5, 8.12,
--- 8.13, 13.9), a sound record that no run reaches (rule 8.7), and records that check 9 refuses for one fault each (rules 8.4 to 8.8).
+-- 8.13, 13.9), sound records that no run reaches (rule 8.7), records that check 9 refuses for one fault each (rules 8.4 to 8.8), and LO rows
+-- around their deadlines (rules 8.7, 19.2, 19.3).
 use Prim.Native.Nat.{ℕ}
 use mathlib.Core.Bool.{Bool, true, cond, _&&_}
 use mathlib.Core.List.{List, [], _∷_}
@@ -14,8 +15,10 @@ use Rattle.rules.specs.Lists.{same}
 use Rattle.rules.specs.Need.{workSlots}
 use Rattle.rules.specs.Numbers.{refusalNumber, checkNumber}
 use Rattle.rules.specs.Orders.{isOrder, checkOrder, checkBoth}
+use Rattle.rules.specs.Running.{closeLate, runSlot}
 use Rattle.rules.specs.Slots.{fresh, isReady, chosen, isOver, brought, serve, slot}
 use Rattle.rules.specs.Tables.{rowOk, tailOk, checkTable}
+use Rattle.rules.specs.declared.Row.{Row}
 use Rattle.rules.specs.declared.Table.{Table}
 
 pub data Case : Type 0 where
@@ -52,48 +55,50 @@ holds (begun t o number) =
     && shows (freshOf t (padded o) .run) 0 [] [] []
 holds (coming r number row) = sameSaid (slotSaid (comingSlot r)) number row
 
--- P3's table: N 2, G 1 work units per slot; a LO row of 2 work units (allowance 1 slot) and a HI row of 4
+-- a row: release and deadline in slots, work in work units, level
+abbrev job : ℕ → ℕ → ℕ → ℕ → Row
+job a c d level = record { release = a; work = c; deadline = d; level = level }
+
+-- N 2, G 1 work units per slot; a LO row of 2 work units (allowance 1 slot), due at 20, and a HI row of 4
 abbrev two : Table
-two =
-    tableOf
-    (record { release = 0; work = 2; deadline = 2; level = 0 } ∷ record { release = 0; work = 4; deadline = 4; level = 1 } ∷ [])
-    2
-    1
-    0
+two = tableOf (job 0 2 20 0 ∷ job 0 4 4 1 ∷ []) 2 1 0
 
 -- that table with 3 slots of loading: the LO row's allowance is 4 slots
 abbrev loaded : Table
-loaded =
-    tableOf
-    (record { release = 0; work = 2; deadline = 2; level = 0 } ∷ record { release = 0; work = 4; deadline = 4; level = 1 } ∷ [])
-    2
-    1
-    3
+loaded = tableOf (job 0 2 20 0 ∷ job 0 4 4 1 ∷ []) 2 1 3
+
+-- a LO row of 6 work units (allowance 3 slots), due at this clock, and a HI row of 8 with deadline 9
+abbrev due : ℕ → Table
+due d = tableOf (job 0 6 d 0 ∷ job 0 8 9 1 ∷ []) 2 1 0
 
 -- a record of a table: order, clock, work units got, slots used, closing slots
 abbrev of : Table → List ℕ → ℕ → List ℕ → List ℕ → List ℕ → Run
 of t o clock got used closing = recordOf t (padded o) (record { clock = clock; got = padded got; used = padded used; closing = padded closing })
 
--- a record of P3's table: order, clock, work units got, slots used, closing slots
+-- a record of `two`: order, clock, work units got, slots used, closing slots
 abbrev at : List ℕ → ℕ → List ℕ → List ℕ → List ℕ → Run
 at = of two
 
 abbrev order : List ℕ
 order = 1 ∷ 2 ∷ []
 
+-- a record of `two` whose LO row is done since clock 1
+abbrev past : ℕ → Run
+past clock = at order clock (2 ∷ []) (1 ∷ []) (1 ∷ [])
+
 -- a fresh record of one row, these speeds (work units per slot) and this loading (slots)
 abbrev one : ℕ → ℕ → ℕ → ℕ → ℕ → Run
 one work deadline normal degraded loading =
-    of (tableOf (record { release = 0; work = work; deadline = deadline; level = 1 } ∷ []) normal degraded loading) (1 ∷ []) 0 [] [] []
+    of (tableOf (job 0 work deadline 1 ∷ []) normal degraded loading) (1 ∷ []) 0 [] [] []
 
 abbrev cases : List Case
 cases =
-    stepped (at order 1999999 [] [] []) 5 0 1
-    ∷ stepped (at order 2000000 [] [] []) 5 8 0
-    ∷ stepped (at order 2000001 [] [] []) 5 9 0
-    ∷ forwarded (at order 1999998 [] [] []) (1 ∷ 1 ∷ 1 ∷ []) 8 2
-    ∷ forwarded (at order 2000000 [] [] []) [] 0 0
-    ∷ forwarded (at order 2000001 [] [] []) [] 9 0
+    stepped (past 1999999) 5 0 2
+    ∷ stepped (past 2000000) 5 8 0
+    ∷ stepped (past 2000001) 5 9 0
+    ∷ forwarded (past 1999998) (1 ∷ 1 ∷ 1 ∷ []) 8 2
+    ∷ forwarded (past 2000000) [] 0 0
+    ∷ forwarded (past 2000001) [] 9 0
     -- row 1 stands in the order twice (rule 8.4)
     ∷ stepped (at (1 ∷ 1 ∷ []) 0 [] [] []) 5 9 0
     -- sound, and reached by no run: the LO row has used more slots than its allowance, and the HI row used slots and got nothing (rule 8.7)
@@ -128,8 +133,8 @@ cases =
     ∷ leaves (at order 0 [] [] []) 1 1 (1 ∷ []) (1 ∷ []) (1 ∷ [])
     ∷ leaves (at order 1 (1 ∷ []) (1 ∷ []) (1 ∷ [])) 3 2 (1 ∷ 3 ∷ []) (1 ∷ 1 ∷ []) (1 ∷ [])
     ∷ leaves (at order 9 (2 ∷ 4 ∷ []) (1 ∷ 2 ∷ []) (1 ∷ 3 ∷ [])) 5 10 (2 ∷ 4 ∷ []) (1 ∷ 2 ∷ []) (1 ∷ 3 ∷ [])
-    ∷ leaves (at order 2000000 [] [] []) 5 2000000 [] [] []
-    ∷ leaves (at order 2000001 [] [] []) 5 2000001 [] [] []
+    ∷ leaves (past 2000000) 5 2000000 (2 ∷ []) (1 ∷ []) (1 ∷ [])
+    ∷ leaves (past 2000001) 5 2000001 (2 ∷ []) (1 ∷ []) (1 ∷ [])
     -- with loading (rules 2.14, 8.7): a loading slot counts as used and brings nothing; the LO row with 3 of its 4 slots used is open, and
     -- closes with the fourth; open with 4 it is refused, closed with 3 too; so is a HI row that is closed with work missing
     ∷ leaves (of loaded order 2 [] (2 ∷ []) []) 9 3 [] (3 ∷ []) []
@@ -151,16 +156,44 @@ cases =
     ∷ begun two order 0
     ∷ begun two (1 ∷ 1 ∷ []) 6
     ∷ begun (tableOf [] 2 1 17) [] 3
-    ∷ begun (tableOf (record { release = 0; work = 1; deadline = 1; level = 0 } ∷ []) 2 3 17) (1 ∷ []) 4
-    ∷ begun (tableOf (record { release = 1; work = 1; deadline = 1; level = 0 } ∷ []) 2 1 16) (1 ∷ []) 5
-    ∷ begun (tableOf (record { release = 1; work = 1; deadline = 1; level = 0 } ∷ []) 2 1 17) (1 ∷ []) 11
+    ∷ begun (tableOf (job 0 1 1 0 ∷ []) 2 3 17) (1 ∷ []) 4
+    ∷ begun (tableOf (job 1 1 1 0 ∷ []) 2 1 16) (1 ∷ []) 5
+    ∷ begun (tableOf (job 1 1 1 0 ∷ []) 2 1 17) (1 ∷ []) 11
     ∷ begun loaded order 0
-    ∷ begun (tableOf (record { release = 0; work = 1; deadline = 1; level = 0 } ∷ []) 2 1 17) (1 ∷ 1 ∷ []) 11
+    ∷ begun (tableOf (job 0 1 1 0 ∷ []) 2 1 17) (1 ∷ 1 ∷ []) 11
     -- the coming slot (rule 8.15)
     ∷ coming (at order 0 [] [] []) 0 1
     ∷ coming (at order 9 (2 ∷ 4 ∷ []) (1 ∷ 2 ∷ []) (1 ∷ 3 ∷ [])) 0 0
-    ∷ coming (at order 2000000 [] [] []) 8 0
-    ∷ coming (at order 2000001 [] [] []) 9 0
+    ∷ coming (past 2000000) 8 0
+    ∷ coming (past 2000001) 9 0
+    -- a LO row due at 4 (rule 8.7): open before that clock, refused open at it and after it
+    ∷ stepped (of (due 4) (2 ∷ 1 ∷ []) 3 [] [] []) 5 0 2
+    ∷ stepped (of (due 4) (2 ∷ 1 ∷ []) 4 [] [] []) 5 9 0
+    ∷ stepped (of (due 4) (2 ∷ 1 ∷ []) 5 [] [] []) 5 9 0
+    ∷ forwarded (of (due 4) (2 ∷ 1 ∷ []) 4 [] [] []) [] 9 0
+    ∷ coming (of (due 4) (2 ∷ 1 ∷ []) 4 [] [] []) 9 0
+    -- closed at 4 with work missing and allowance left, by its deadline; closed so before or after it is refused
+    ∷ stepped (of (due 4) order 4 (5 ∷ []) (2 ∷ []) (4 ∷ [])) 5 0 2
+    ∷ stepped (of (due 4) order 9 [] [] (4 ∷ [])) 5 0 2
+    ∷ stepped (of (due 4) order 9 (5 ∷ []) (2 ∷ []) (3 ∷ [])) 5 9 0
+    ∷ stepped (of (due 4) order 9 (5 ∷ []) (2 ∷ []) (5 ∷ [])) 5 9 0
+    -- closed after its deadline, done or with its allowance used up: sound, and reached by no run
+    ∷ stepped (of (due 4) order 9 (6 ∷ []) (2 ∷ []) (5 ∷ [])) 5 0 2
+    ∷ stepped (of (due 4) order 9 (5 ∷ []) (3 ∷ []) (5 ∷ [])) 5 0 2
+    -- a HI row is not closed by its deadline 9, and is open after it
+    ∷ stepped (of (due 4) order 9 [] [] (4 ∷ 9 ∷ [])) 5 9 0
+    ∷ stepped (of (due 4) order 12 [] [] (4 ∷ [])) 5 0 2
+    -- the slot before the deadline: the waiting row is closed; the running row is done, or short of one work unit and closed, or out of slots
+    ∷ leaves (of (due 4) (2 ∷ 1 ∷ []) 3 (2 ∷ []) (1 ∷ []) []) 1 4 (2 ∷ 1 ∷ []) (1 ∷ 1 ∷ []) (4 ∷ [])
+    ∷ leaves (of (due 4) order 3 (4 ∷ []) (1 ∷ []) []) 2 4 (6 ∷ []) (2 ∷ []) (4 ∷ [])
+    ∷ leaves (of (due 4) order 3 (4 ∷ []) (1 ∷ []) []) 1 4 (5 ∷ []) (2 ∷ []) (4 ∷ [])
+    ∷ leaves (of (due 4) order 3 (4 ∷ []) (2 ∷ []) []) 1 4 (5 ∷ []) (3 ∷ []) (4 ∷ [])
+    ∷ leaves (of (due 4) order 2 (4 ∷ []) (1 ∷ []) []) 1 3 (5 ∷ []) (2 ∷ []) []
+    ∷ leaves (of (due 9) (2 ∷ 1 ∷ []) 8 [] [] []) 0 9 [] (0 ∷ 1 ∷ []) (9 ∷ [])
+    -- the latest deadline there is
+    ∷ leaves (of (due 1000000) (2 ∷ 1 ∷ []) 999998 [] [] []) 1 999999 (0 ∷ 1 ∷ []) (0 ∷ 1 ∷ []) []
+    ∷ leaves (of (due 1000000) (2 ∷ 1 ∷ []) 999999 [] [] []) 1 1000000 (0 ∷ 1 ∷ []) (0 ∷ 1 ∷ []) (1000000 ∷ [])
+    ∷ stepped (of (due 1000000) (2 ∷ 1 ∷ []) 1000000 [] [] []) 5 9 0
     ∷ []
 
 -- every case of a list holds
@@ -170,5 +203,5 @@ allHold (c ∷ cs) = holds c && allHold cs
 
 pub cases-hold : T (allHold cases)
 unfolding slotSaid forwardSaid rowSound tailSound isSound nextRun chosenRow comingSlot oneSlot workOn forwardOver freshOf checkNumber fresh
-    padded tableOf workSlots refusalNumber isOrder checkOrder checkBoth isReady chosen isOver brought serve slot rowOk tailOk checkTable
+    padded tableOf workSlots refusalNumber isOrder checkOrder checkBoth isReady chosen isOver brought serve slot closeLate runSlot rowOk tailOk checkTable
 cases-hold = tt

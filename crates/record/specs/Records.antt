@@ -1,7 +1,8 @@
 -- Run records (rule 8.1): which of them are sound (rules 8.3 to 8.8), the fresh record (rule 8.2), one slot (rule 8.9), forward (rule 8.10)
--- and the coming slot (rule 8.15). What a slot does is not said here once more: it is `slot` of the rules, on the state held (rule 9.16).
+-- and the coming slot (rule 8.15). What a slot does is not said here once more: it is `runSlot` of the rules, on the state held (rules 9.16,
+-- 19.2), and its two halves are `slot` and `closeLate`.
 use Prim.Native.Nat.{ℕ, _+_}
-use mathlib.Core.Bool.{Bool, cond, not, _&&_}
+use mathlib.Core.Bool.{Bool, cond, not, _&&_, _||_}
 use mathlib.Core.List.{List, [], _∷_}
 use lib.Dec.{eqb, ltb, leb}
 use lib.ListN.{drop, replicate}
@@ -17,10 +18,12 @@ use Rattle.record.specs.declared.Stepped.{Stepped}
 use Rattle.record.specs.declared.ForwardAnswer.the-variants as Forwards
 use Rattle.record.specs.declared.Forwarded.{Forwarded}
 use Rattle.rules.specs.Lists.{all, allZero}
-use Rattle.rules.specs.Rows.{at, rowsOf, workOf}
+use Rattle.rules.specs.Rows.{at, isLow, rowsOf, workOf, deadlineOf}
 use Rattle.rules.specs.Tables.{passed, zeroTable}
 use Rattle.rules.specs.Orders.{checkBoth}
+use Rattle.rules.specs.Running.{isDue, closeLate, runSlot}
 use Rattle.rules.specs.Slots.{State, fresh, isOver, chosen, slot}
+use Rattle.columns.specs.Dues.{firstDue}
 use Rattle.rules.specs.Calls.{lastClock}
 
 -- the state that a record holds (rules 2.13, 8.1)
@@ -31,16 +34,17 @@ stateOf r = record { clock = r .clock; got = r .got; used = r .used; closing = r
 abbrev pub recordOf : Table → List ℕ → State → Run
 recordOf t o s = record { table = t; order = o; clock = s .clock; got = s .got; used = s .used; closing = s .closing }
 
--- Row i's figures are sound: its work got is at most c, its slots used and its closing slot are at most the clock (rule 8.6), and it is
--- over, as `isOver` says, exactly if it has a closing slot (rule 8.7).
+-- Row i's figures are sound: its work got is at most c, its slots used and its closing slot are at most the clock (rule 8.6). If it is open, it
+-- is not over, as `isOver` says, and the clock has not to close it, as `isDue` says. If it is closed, it is over, or it is LO and its closing
+-- slot is its deadline (rules 8.7, 19.2).
 unfoldable pub rowSound : Run → ℕ → Bool
 rowSound r i =
     leb (at (r .got) i) (workOf (r .table) i)
     && leb (at (r .used) i) (r .clock)
     && leb (at (r .closing) i) (r .clock)
     && cond (eqb (at (r .closing) i) 0)
-    (not (isOver (r .table) i (at (r .got) i) (at (r .used) i)))
-    (isOver (r .table) i (at (r .got) i) (at (r .used) i))
+    (not (isOver (r .table) i (at (r .got) i) (at (r .used) i)) && not (isDue (r .table) (r .clock) i))
+    (isOver (r .table) i (at (r .got) i) (at (r .used) i) || (isLow (r .table) i && eqb (at (r .closing) i) (deadlineOf (r .table) i)))
 
 -- after row n the columns of the state hold zeros only (rule 8.8)
 unfoldable pub tailSound : Run → Bool
@@ -70,7 +74,18 @@ freshOf t o = freshChecked (checkBoth t o) t o
 
 -- the record with its coming slot worked, with supply v in work units; table and order stay (rules 8.9, 9.10)
 unfoldable pub nextRun : Run → ℕ → Run
-nextRun r v = recordOf (r .table) (r .order) (slot (r .table) (r .order) v (stateOf r))
+nextRun r v = recordOf (r .table) (r .order) (runSlot (r .table) (r .order) v (stateOf r))
+
+-- the two halves of that step: the slot by the planning rule, and the look at the clock (rule 19.2)
+unfoldable pub workedRun : Run → ℕ → Run
+workedRun r v = recordOf (r .table) (r .order) (slot (r .table) (r .order) v (stateOf r))
+
+unfoldable pub closedRun : Run → Run
+closedRun r = recordOf (r .table) (r .order) (closeLate (r .table) (stateOf r))
+
+-- the first clock, in slots, at which the look may close a row of the record: the least deadline of its LO rows that are open (rule 19.7)
+abbrev pub dueOf : Run → ℕ
+dueOf r = firstDue (r .table .n) (r .table .deadline) (r .table .level) (r .closing)
 
 -- the row that the coming slot runs, 0 for an idle slot; it is the same for every supply, since none is asked for (rules 2.3, 2.4)
 unfoldable pub chosenRow : Run → ℕ

@@ -4,7 +4,7 @@ use mathlib.Core.Bool.{Bool, true, _&&_}
 use mathlib.Core.Path.{_≡_, refl, sym, _∙_}
 use native.Mathlib.Omega.{arith}
 use lib.Dec.{eqb, ltb, leb}
-use borrow.Author.Tests.{leb-true, le-leb, ltb-true}
+use borrow.Author.Tests.{leb-true, le-leb, ltb-true, eqb-true}
 use Rattle.rules.specs.declared.Check.the-variants.{Passed}
 use Rattle.rules.specs.Calls.{lastClock}
 use Rattle.rules.specs.Lists.{all}
@@ -24,7 +24,7 @@ use Rattle.record.specs.Checked.{passed-true, limits, places}
 
 -- row i's soundness over the record's columns
 abbrev pub soundRow : Run → ℕ → Bool
-soundRow r i = rowSoundAt (r .table .normal) (r .table .loading) (r .clock) (r .table .work) (r .table .level) (r .got) (r .used) (r .closing) i
+soundRow r i = rowSoundAt (r .table .normal) (r .table .loading) (r .clock) (r .table .work) (r .table .deadline) (r .table .level) (r .got) (r .used) (r .closing) i
 
 row-figures : (r : Run) (i : ℕ) → rowSound r i ≡ soundRow r i
 unfolding rowSound soundAt isOver over
@@ -72,10 +72,11 @@ speeds r e = limits (r .table) (r .order) (sound-so r e .checked)
 pub order-placed : (r : Run) → isSound r ≡ true → Placed (r .table .n) (r .order)
 order-placed r e = places (r .table) (r .order) (sound-so r e .checked)
 
--- the row that the coming slot runs, if any, is one of the table's
+-- the row that the coming slot runs, if any, is one of the table's, and open
 pub record Runs (r : Run) (i : ℕ) : Type 0 where
   pub low : 1 ≤ i
   pub high : i ≤ r .table .n
+  pub still : at (r .closing) i ≡ 0
 
 pub runs : (r : Run) → (chosenRow r ≡ 0 → ⊥) → Runs r (chosenRow r)
 unfolding chosenRow chosen isReady
@@ -87,6 +88,7 @@ runs r h =
     record {
       low = ltb-true 0 i (and-left (ltb 0 i) (leb i (t .n)) f);
       high = leb-true i (t .n) (and-right (ltb 0 i) (leb i (t .n)) f);
+      still = eqb-true (at (r .closing) i) 0 (and-right (isRow t i && leb (releaseOf t i) (r .clock)) (eqb (at (r .closing) i) 0) e);
     }
 
 -- what the code needs of that row: it stands in the columns, has got its work at most, and its slots used are at most the clock
@@ -100,7 +102,7 @@ pub serving : (r : Run) (i : ℕ) → isSound r ≡ true → i ≡ chosenRow r �
 serving r i e q h =
     let f = sound-so r e in
     let c : Runs r i = rw q (runs r (rw q at h)) in
-    let s = sound-facts _ _ _ _ _ _ _ _ (f .rows i (c .low) (c .high)) in
+    let s = sound-facts _ _ _ _ _ _ _ _ _ (f .rows i (c .low) (c .high)) in
     record {
       low = c .low;
       high = omega (arith, limits (r .table) (r .order) (f .checked) .few, c .high);

@@ -1,13 +1,19 @@
--- The next record, apart: after an idle slot (rule 2.12), or with the chosen row served (rule 2.5).
-use Prim.Native.Nat.{ℕ, _+_, min}
-use mathlib.Core.Bool.{cond}
-use mathlib.Core.Path.{_≡_, sym}
+-- The next record, apart: after an idle slot (rule 2.12), or with the chosen row served (rule 2.5), and then after the look at the clock
+-- (rule 19.2), row by row.
+use Prim.Native.Nat.{ℕ, _+_, _≤_, _<_, min}
+use mathlib.Core.Bool.{Bool, cond}
+use mathlib.Core.Path.{_≡_, refl, sym}
+use lib.ListN.{length, drop}
 use borrow.Author.Tests.{ne-eqb}
 use Rattle.rules.specs.Rows.{at, put, workOf}
+use Rattle.rules.specs.Running.{closeLate, runSlot}
 use Rattle.rules.specs.Slots.{isOver, brought, serve, slot}
 use Rattle.record.specs.declared.Run.{Run}
-use Rattle.record.specs.Records.{chosenRow, nextRun}
-use Rattle.columns.specs.Figures.{over}
+use Rattle.record.specs.Records.{chosenRow, nextRun, workedRun, closedRun, dueOf}
+use Rattle.theory.specs.Late.{closed-length, closed-none}
+use Rattle.columns.specs.Dues.{not-due}
+use Rattle.columns.specs.Figures.{over, looked, dueAt, due-beyond}
+use Rattle.columns.specs.Late.{closed-drop, looked-row}
 
 -- row i's work units after a slot that supplies v: at most its work (rules 2.5, 2.14)
 abbrev pub gotNext : Run → ℕ → ℕ → ℕ
@@ -51,10 +57,44 @@ pub served-from : (r : Run) (v i work level got closing : ℕ) → work ≡ work
 served-from r v i work level got closing w l g c = rw (c, g, w, l)
 
 module _ (r : Run) (v i : ℕ) (e : i ≡ chosenRow r) where
-  pub next-idle : i ≡ 0 → nextRun r v ≡ rested r
-  unfolding nextRun slot chosenRow
-  next-idle z = rw (sym e, z)
+  pub worked-idle : i ≡ 0 → workedRun r v ≡ rested r
+  unfolding workedRun slot chosenRow
+  worked-idle z = rw (sym e, z)
 
-  pub next-served : (i ≡ 0 → ⊥) → nextRun r v ≡ served r v i
-  unfolding nextRun slot chosenRow serve isOver over
-  next-served z = rw (sym e, ne-eqb i 0 z)
+  pub worked-served : (i ≡ 0 → ⊥) → workedRun r v ≡ served r v i
+  unfolding workedRun slot chosenRow serve isOver over
+  worked-served z = rw (sym e, ne-eqb i 0 z)
+
+-- a step is a slot and the look at the clock after it
+pub next-looks : (r : Run) (v : ℕ) → nextRun r v ≡ closedRun (workedRun r v)
+unfolding nextRun runSlot workedRun closedRun
+next-looks r v = refl
+
+-- what the look makes of a record: row i's closing slot, the columns' lengths, and the entries after row n
+module _ (r : Run) where
+  abbrev due : ℕ → Bool
+  due = dueAt (r .table .n) (r .clock) (r .table .deadline) (r .table .level)
+
+  pub closed-row : (i : ℕ) → 1 ≤ i → i ≤ r .table .n → i ≤ length (r .closing)
+      → at (closedRun r .closing) i ≡ looked (at (r .table .deadline) i) (at (r .table .level) i) (r .clock) (at (r .closing) i)
+  unfolding closedRun closeLate
+  closed-row i l h s = looked-row (r .table .n) (r .clock) (r .table .deadline) (r .table .level) (r .closing) i l h s
+
+  pub closed-size : length (closedRun r .closing) ≡ length (r .closing)
+  unfolding closedRun closeLate
+  closed-size = closed-length due (r .clock) 1 (r .closing)
+
+  pub closed-tail : drop (r .table .n) (closedRun r .closing) ≡ drop (r .table .n) (r .closing)
+  unfolding closedRun closeLate
+  closed-tail = closed-drop due (r .clock) (r .table .n) (r .closing) (λ j l. due-beyond (r .table .n) (r .clock) (r .table .deadline) (r .table .level) j l)
+
+  -- before the first clock that may close a row it changes nothing (rule 19.7)
+  pub closed-early : r .clock < dueOf r → closedRun r ≡ r
+  unfolding closedRun closeLate
+  closed-early early =
+      rw (closed-none due (r .clock) (r .closing) (λ j l _ e. not-due (r .table .deadline) (r .table .level) (r .table .n) (r .clock) (r .closing) early j l e))
+
+-- its other fields stay
+pub closed-fields : (r : Run) → closedRun r ≡ record { table = r .table; order = r .order; clock = r .clock; got = r .got; used = r .used; closing = closedRun r .closing }
+unfolding closedRun closeLate
+closed-fields r = refl

@@ -3,10 +3,10 @@
 // in work units.
 ghost use mathlib.Core.Path.{_≡_};
 ghost use mathlib.Core.Bool.{true};
-ghost use Prim.Native.Nat.{_<_};
+ghost use Prim.Native.Nat.{_≤_, _<_};
 ghost use Rattle.rules.specs.Tables.{passed, zeroTable};
 ghost use Rattle.rules.specs.Orders.{checkBoth};
-ghost use Rattle.record.specs.Records.{tailSound, isSound, freshRun, freshOf, nextRun, comingSlot, oneSlot};
+ghost use Rattle.record.specs.Records.{tailSound, isSound, freshRun, freshOf, workedRun, closedRun, dueOf, comingSlot, oneSlot};
 use rules::Check;
 use rules::Refusal;
 use rules::Table;
@@ -105,6 +105,7 @@ pub fn is_sound(r: Run) -> bool
         loading,
         clock,
         &r.table.work,
+        &r.table.deadline,
         &r.table.level,
         &r.got,
         &r.used,
@@ -173,11 +174,12 @@ pub fn fresh(t: Table, order: [u8; 64]) -> FreshRun
 }
 
 impl Run {
-    // The next record of a sound one whose clock is below 2,000,000 slots: one slot worked, with this supply in work units. This is the one
-    // place where a record is worked (rules 8.9, 9.16); `slot` and the crate `forward` go through it.
-    pub fn next(mut self, supply: u32) -> Run
+    // A sound record whose clock is below 2,000,000 slots after one slot by the planning rule, with this supply in work units: the first half
+    // of a step (rule 19.2). By itself it may leave a late row open, which check 9 refuses; `close_late` has to follow wherever it can close a
+    // row. The two are the one place where a slot is worked and the one where the clock closes rows (rules 8.9, 9.16).
+    pub fn work(mut self, supply: u32) -> Run
         requires { ⌜ (isSound self ≡ true) × (self .clock < 2000000) ⌝ }
-        ensures { λ r. ⌜ r ≡ nextRun self supply ⌝ }
+        ensures { λ r. ⌜ r ≡ workedRun self supply ⌝ }
     {
         let n = self.table.n;
         let clock = self.clock;
@@ -200,6 +202,33 @@ impl Run {
         self.used[i] = used;
         self.closing[i] = closing;
         self
+    }
+
+    // The record once its clock has closed every LO row that is open and whose deadline it has reached: the second half of a step (rule 19.2).
+    pub fn close_late(mut self) -> Run
+        requires { ⌜ self .table .n ≤ 64 ⌝ }
+        ensures { λ r. ⌜ r ≡ closedRun self ⌝ }
+    {
+        let n = self.table.n;
+        let clock = self.clock;
+        let closing = columns::closed_late(
+            n,
+            clock,
+            &self.table.deadline,
+            &self.table.level,
+            self.closing,
+        );
+        self.closing = closing;
+        self
+    }
+
+    // The first clock, in slots, at which `close_late` may close a row: before it there is nothing to close (rule 19.7).
+    pub fn due(self) -> u32
+        requires { ⌜ self .table .n ≤ 64 ⌝ }
+        ensures { λ d. ⌜ d ≡ dueOf self ⌝ }
+    {
+        let n = self.table.n;
+        columns::first_due(n, &self.table.deadline, &self.table.level, &self.closing)
     }
 
     // The answer for the coming slot, before its supply is known: the row that it runs, or 9, or 8 at clock 2,000,000 slots (rule 8.15).
@@ -225,7 +254,8 @@ impl Run {
         let answer = self.coming();
         match answer {
             SlotAnswer::Worked(row) => {
-                let next = self.next(supply);
+                let worked = self.work(supply);
+                let next = worked.close_late();
                 Stepped {
                     answer: SlotAnswer::Worked(row),
                     run: next,

@@ -5,7 +5,8 @@ use mathlib.Core.List.{List, [], _∷_, _++_}
 use lib.Dec.{ltb}
 use lib.ListN.{getD}
 use Rattle.rules.specs.declared.Table.{Table}
-use Rattle.rules.specs.Slots.{State, chosen, slot}
+use Rattle.rules.specs.Running.{runSlot}
+use Rattle.rules.specs.Slots.{State, chosen}
 
 -- the clock, in slots, at which a supply is refused (rule 8.13)
 abbrev pub lastClock : ℕ
@@ -30,15 +31,15 @@ pub record Told : Type 0 where
 abbrev pub told : ℕ → ℕ → State → Told
 told number value s = record { said = record { number = number; value = value }; state = s }
 
--- One slot makes one step and says 0 and the row that ran; at the last clock it says 8 and row 0, and the state stays (rule 9.7).
+-- One slot makes one step, by the running rule, and says 0 and the row that ran; at the last clock it says 8 and row 0, and the state stays (rule 9.7).
 unfoldable pub tellOne : Table → List ℕ → ℕ → State → Told
-tellOne t o v s = cond (ltb (s .clock) lastClock) (told 0 (chosen t o s) (slot t o v s)) (told 8 0 s)
+tellOne t o v s = cond (ltb (s .clock) lastClock) (told 0 (chosen t o s) (runSlot t o v s)) (told 8 0 s)
 
--- Forward makes a step for each supply and says 0 and the count of steps; a supply at the last clock ends it with 8 and the
+-- Forward makes such a step for each supply and says 0 and the count of steps; a supply at the last clock ends it with 8 and the
 -- count so far, and the state stays (rule 9.8). Of these steps k are made already.
 unfoldable pub tellForward : Table → List ℕ → ℕ → List ℕ → State → Told
 tellForward t o k [] s = told 0 k s
-tellForward t o k (v ∷ vs) s = cond (ltb (s .clock) lastClock) (tellForward t o (k + 1) vs (slot t o v s)) (told 8 k s)
+tellForward t o k (v ∷ vs) s = cond (ltb (s .clock) lastClock) (tellForward t o (k + 1) vs (runSlot t o v s)) (told 8 k s)
 
 -- either call on paper (rules 9.7, 9.8)
 abbrev pub tell : Table → List ℕ → Call → State → Told

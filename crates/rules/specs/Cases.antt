@@ -1,7 +1,7 @@
 -- The starred cases P1 to P8 (rules 13.1 to 13.8) and tables at the limits (rule 13.9) as one table, computed from the definitions and
 -- checked by one theorem, with cases of our own beside them: on the planner's choice, the judge, checks 3 to 6, calls on paper, and parts of
 -- definitions. Here no job loads; LoadingCases has tables in which jobs do. Each of the faults 14.1 to 14.5 of the rules meets one here, and
--- each from 14.6 on one there; not every change of a definition does.
+-- each from 14.6 on one there, in SpeedCases, in LateCases or in record/specs/RecordCases; not every change of a definition does.
 use Prim.Native.Nat.{ℕ, suc, _+_, _-_, _≤_, _<_}
 use mathlib.Core.Bool.{Bool, true, false, not, _&&_}
 use mathlib.Core.List.{List, [], _∷_, _++_, map}
@@ -24,6 +24,7 @@ use Rattle.rules.specs.Need.{workSlots, need}
 use Rattle.rules.specs.Numbers.{refusalNumber, checkNumber, plannedNumber, rowsLeft, verdictNumber, verdictYes, verdictRow, verdictSlack}
 use Rattle.rules.specs.Orders.{isOrder, checkOrder, checkBoth}
 use Rattle.rules.specs.Rows.{at, isRow, rowsOf, workOf, deadlineOf, isLow, isHigh}
+use Rattle.rules.specs.Running.{closeLate, runSlot}
 use Rattle.rules.specs.Slots.{State, fresh, isReady, chosen, isOver, brought, serve, slot, after}
 use Rattle.rules.specs.Tables.{rowOk, tailOk, checkTable, Accepted, passed}
 use Rattle.rules.specs.Worst.{horizon, worstFinish, slack, meets}
@@ -52,7 +53,7 @@ pub data Case : Type 0 where
   stopped : Table → ℕ → Case
   -- this row fails at the lowest place, with all other rows above it
   fails : Table → ℕ → Case
-  -- under this order and these supplies the rows end so
+  -- under this order and these supplies the rows end so, by the running rule
   ran : Table → List ℕ → List ℕ → List End → Case
   -- the judge says yes or no, this row and this slack in slots
   judged : Table → List ℕ → Bool → ℕ → ℤ → Case
@@ -108,7 +109,7 @@ figuresOf s [] = []
 figuresOf s (i ∷ is) = at (s .got) i ∷ at (s .used) i ∷ at (s .closing) i ∷ figuresOf s is
 
 -- the clock, and for each row its work got, its slots used and its closing slot
-abbrev figures : Table → State → List ℕ
+abbrev pub figures : Table → State → List ℕ
 figures t s = s .clock ∷ figuresOf s (rowsOf t)
 
 abbrev numberOf : Said → ℕ
@@ -331,7 +332,7 @@ checks =
 abbrev runs : List Case
 runs =
     told p3 (1 ∷ 2 ∷ []) 0 (one 1 ∷ forward (5 ∷ 0 ∷ []) ∷ one 7 ∷ []) (0 ∷ 0 ∷ 0 ∷ []) (1 ∷ 2 ∷ 0 ∷ []) (4 ∷ 1 ∷ 1 ∷ 1 ∷ 4 ∷ 1 ∷ 2 ∷ [])
-    ∷ told p3 (2 ∷ 1 ∷ []) 0 (one 1 ∷ forward [] ∷ one 0 ∷ []) (0 ∷ 0 ∷ 0 ∷ []) (2 ∷ 0 ∷ 2 ∷ []) (2 ∷ 0 ∷ 0 ∷ 0 ∷ 1 ∷ 2 ∷ 0 ∷ [])
+    ∷ told p3 (2 ∷ 1 ∷ []) 0 (one 1 ∷ forward [] ∷ one 0 ∷ []) (0 ∷ 0 ∷ 0 ∷ []) (2 ∷ 0 ∷ 2 ∷ []) (2 ∷ 0 ∷ 0 ∷ 2 ∷ 1 ∷ 2 ∷ 0 ∷ [])
     ∷ told gaps (1 ∷ 2 ∷ []) 0 (one 1 ∷ one 1 ∷ one 1 ∷ one 1 ∷ one 9 ∷ []) (replicate 5 0) (0 ∷ 0 ∷ 2 ∷ 0 ∷ 1 ∷ []) (5 ∷ 1 ∷ 1 ∷ 5 ∷ 1 ∷ 1 ∷ 3 ∷ [])
     ∷ told p3 (1 ∷ 2 ∷ []) 1999999 (one 1 ∷ one 1 ∷ forward (1 ∷ []) ∷ forward [] ∷ []) (0 ∷ 8 ∷ 8 ∷ 0 ∷ []) (1 ∷ 0 ∷ 0 ∷ 0 ∷ []) (2000000 ∷ 1 ∷ 1 ∷ 2000000 ∷ 0 ∷ 0 ∷ 0 ∷ [])
     ∷ told p3 (1 ∷ 2 ∷ []) 1999998 (forward (2 ∷ 3 ∷ 4 ∷ 5 ∷ []) ∷ one 1 ∷ []) (8 ∷ 8 ∷ []) (2 ∷ 0 ∷ []) (2000000 ∷ 2 ∷ 1 ∷ 1999999 ∷ 3 ∷ 1 ∷ 0 ∷ [])
@@ -384,7 +385,7 @@ allHold [] = true
 allHold (c ∷ cs) = holds c && allHold cs
 
 pub cases-hold : T (allHold (starred ++ choices ++ judgements ++ checks ++ runs ++ parts))
-unfolding planOf padded passes sequence choice fill taker word tableOf judgeOf tightest workSlots refusalNumber checkNumber plannedNumber rowsLeft verdictNumber verdictYes verdictRow verdictSlack isOrder checkOrder checkBoth fresh isReady chosen isOver brought serve slot after rowOk tailOk checkTable horizon worstFinish slack meets tellOne tellForward tellAll allSupplies supplyAt earliest
+unfolding planOf padded passes sequence choice fill taker word tableOf judgeOf tightest workSlots refusalNumber checkNumber plannedNumber rowsLeft verdictNumber verdictYes verdictRow verdictSlack isOrder checkOrder checkBoth fresh isReady chosen isOver brought serve slot rowOk tailOk checkTable horizon worstFinish slack meets tellOne tellForward tellAll closeLate runSlot allSupplies supplyAt earliest
 cases-hold = tt
 
 -- an accepted table is one that the checks of a table pass, and no other (rule 5.5)

@@ -1,4 +1,4 @@
--- When an order is correct, over all courses of speed (rules 3.1 to 3.4), and a row's window (rule 9.14).
+-- When an order is correct, over all courses of speed (rules 3.1 to 3.4) and by the planning rule (rule 19.1), and a row's window (rule 9.14).
 use Prim.Native.Nat.{ℕ, _≤_, _<_}
 use mathlib.Core.Path.{_≡_}
 use mathlib.Core.Bool.{true}

@@ -6,6 +6,7 @@ pub mod Orders
 pub mod Slots
 pub mod Correct
 pub mod Meaning
+pub mod Running
 pub mod Worst
 pub mod Choice
 pub mod Judge
@@ -20,4 +21,5 @@ pub mod Speeds
 pub mod Cases
 pub mod LoadingCases
 pub mod SpeedCases
+pub mod LateCases
 pub mod TextCases

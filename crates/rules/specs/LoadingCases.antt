@@ -15,6 +15,7 @@ use Rattle.rules.specs.Need.{workSlots}
 use Rattle.rules.specs.Numbers.{refusalNumber, checkNumber, plannedNumber, rowsLeft, verdictNumber, verdictYes, verdictRow, verdictSlack}
 use Rattle.rules.specs.Orders.{isOrder, checkOrder, checkBoth}
 use Rattle.rules.specs.Rows.{needOf, needFor, rowsOf}
+use Rattle.rules.specs.Running.{closeLate, runSlot}
 use Rattle.rules.specs.Slots.{fresh, isReady, chosen, allowance, isOver, brought, serve, slot, after}
 use Rattle.rules.specs.Tables.{rowOk, tailOk, checkTable}
 use Rattle.rules.specs.Worst.{horizon, worstFinish, slack, meets}
@@ -23,9 +24,9 @@ use Rattle.rules.specs.Worst.{horizon, worstFinish, slack, meets}
 abbrev preempted : ℕ → Table
 preempted a = tableOf (job a 2 9 1 ∷ job 0 4 9 0 ∷ []) 2 1 2
 
--- one LO row of two working slots at N, and k slots of loading
+-- one LO row of two working slots at N, and k slots of loading; its deadline is after its allowance, however long it loads
 abbrev low : ℕ → Table
-low k = tableOf (job 0 4 9 0 ∷ []) 2 1 k
+low k = tableOf (job 0 4 30 0 ∷ []) 2 1 k
 
 -- one HI row of three working slots at G, and k slots of loading
 abbrev high : ℕ → Table
@@ -74,7 +75,7 @@ runs =
     ∷ ran (low 3) (1 ∷ []) (1 ∷ 1 ∷ 1 ∷ 1 ∷ 1 ∷ []) (end 5 false false ∷ [])
     ∷ told (low 3) (1 ∷ []) 0 (forward (replicate 9 1) ∷ []) (0 ∷ []) (9 ∷ []) (9 ∷ 2 ∷ 5 ∷ 5 ∷ [])
     ∷ ran (low 0) (1 ∷ []) (1 ∷ 1 ∷ 1 ∷ 1 ∷ 1 ∷ []) (end 2 false false ∷ [])
-    ∷ ran (low 16) (1 ∷ []) (replicate 18 1) (end 18 false true ∷ [])
+    ∷ ran (low 16) (1 ∷ []) (replicate 18 1) (end 18 false false ∷ [])
     ∷ told (low 16) (1 ∷ []) 0 (forward (replicate 17 1) ∷ []) (0 ∷ []) (17 ∷ []) (17 ∷ 1 ∷ 17 ∷ 0 ∷ [])
     ∷ ran (high 2) (1 ∷ []) (1 ∷ 1 ∷ 1 ∷ 1 ∷ 1 ∷ []) (end 5 true false ∷ [])
     ∷ told (high 2) (1 ∷ []) 0 (forward (0 ∷ 0 ∷ 0 ∷ 0 ∷ 0 ∷ 3 ∷ []) ∷ []) (0 ∷ []) (6 ∷ []) (6 ∷ 3 ∷ 6 ∷ 6 ∷ [])
@@ -139,5 +140,5 @@ checks =
     ∷ []
 
 pub loading-cases-hold : T (allHold (starred ++ runs ++ times ++ verdicts ++ checks))
-unfolding planOf padded passes sequence choice fill taker word tableOf judgeOf tightest workSlots refusalNumber checkNumber plannedNumber rowsLeft verdictNumber verdictYes verdictRow verdictSlack isOrder checkOrder checkBoth fresh isReady chosen isOver brought serve slot after rowOk tailOk checkTable horizon worstFinish slack meets tellOne tellForward tellAll
+unfolding planOf padded passes sequence choice fill taker word tableOf judgeOf tightest workSlots refusalNumber checkNumber plannedNumber rowsLeft verdictNumber verdictYes verdictRow verdictSlack isOrder checkOrder checkBoth fresh isReady chosen isOver brought serve slot rowOk tailOk checkTable horizon worstFinish slack meets tellOne tellForward tellAll closeLate runSlot
 loading-cases-hold = tt

@@ -1,5 +1,6 @@
 -- What a correct order is (rules 3.1 to 3.4), said once more in plain terms and proved to be the same: nothing of it can be left out of the
--- definition unseen.
+-- definition unseen. The runs here are by the planning rule; an order that keeps as much in runs by the running rule serves in runs
+-- (`RunServes` in Running, rule 19.5), and that says less.
 use Prim.Native.Nat.{ℕ, _≤_}
 use mathlib.Core.Path.{_≡_, refl, sym, _∙_}
 use mathlib.Core.Bool.{Bool, true, false, true≢false, _&&_}

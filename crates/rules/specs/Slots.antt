@@ -1,4 +1,4 @@
--- The run on paper, slot by slot (section 2 of the rules, and rule 9.6). At clock t the coming slot is slot t (rule 1.4).
+-- What a slot does (section 2 of the rules): the planning rule (rule 19.1), slot by slot. At clock t the coming slot is slot t (rule 1.4).
 use Prim.Native.Nat.{ℕ, zero, suc, _+_, min}
 use mathlib.Core.Bool.{Bool, cond, _&&_, _||_}
 use mathlib.Core.List.{List}
@@ -33,7 +33,7 @@ abbrev pub allowance : Table → ℕ → ℕ
 allowance t i = needOf t i
 
 -- Row i with g work units got and u slots used is over: it is done, having got c, or it is LO and has used up its allowance
--- (rules 2.6, 2.7, 2.8). Its deadline does not come into it (rules 2.9, 14.3). Where both hold it is done and not dropped, since a row that
+-- (rules 2.6, 2.7, 2.8). Its deadline does not come into it (rules 2.9, 14.3): that is the clock's (rule 19.2). Where both hold it is done and not dropped, since a row that
 -- is over was dropped just if it has not got c (rule 2.11).
 unfoldable pub isOver : Table → ℕ → ℕ → ℕ → Bool
 isOver t i g u = eqb g (workOf t i) || (isLow t i && leb (allowance t i) u)
@@ -64,11 +64,17 @@ serve t v i s =
 abbrev pub serveOrIdle : Table → ℕ → ℕ → State → State
 serveOrIdle t v i s = cond (eqb i 0) (idle s) (serve t v i s)
 
--- the step on paper, with supply v in work units (rules 2.3, 9.6); the last clock stands in Calls, since worst runs have none (rule 3.5)
+-- A slot by the planning rule, with supply v in work units (rules 2.3, 19.1): a late row goes on (rule 2.9). The running rule goes on from here
+-- (Running). The last clock stands in Calls, since worst runs have none (rule 3.5).
 unfoldable pub slot : Table → List ℕ → ℕ → State → State
 slot t o v s = serveOrIdle t v (chosen t o s) s
 
--- the state after k slots from the fresh state, under the course of speed in which slot u supplies σ u work units (rule 3.4)
-unfoldable pub after : Table → List ℕ → (ℕ → ℕ) → ℕ → State
-after t o σ zero = fresh
-after t o σ (suc k) = slot t o (σ k) (after t o σ k)
+-- The state after k steps from the fresh state, where slot u supplies σ u work units: a step takes the supply of its slot and the state before
+-- it (rule 2.13). Both rules of a slot make their runs so: the planning rule here, the running rule in Running (rule 19.1).
+abbrev pub course : (ℕ → State → State) → (ℕ → ℕ) → ℕ → State
+course step σ zero = fresh
+course step σ (suc k) = step (σ k) (course step σ k)
+
+-- the state after k slots by the planning rule, under the course of speed in which slot u supplies σ u work units (rule 3.4)
+abbrev pub after : Table → List ℕ → (ℕ → ℕ) → ℕ → State
+after t o σ k = course (slot t o) σ k

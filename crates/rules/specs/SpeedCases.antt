@@ -128,5 +128,5 @@ sheets =
     ∷ []
 
 pub speed-cases-hold : T (allHold (degraded ++ normal ++ refusals ++ sheets))
-unfolding planOf padded passes sequence choice fill taker word tableOf judgeOf tightest workSlots refusalNumber checkNumber plannedNumber rowsLeft searchedNumber searchedSpeed verdictNumber verdictYes verdictRow verdictSlack isOrder checkOrder checkBoth fresh isReady chosen isOver brought serve slot after rowOk tailOk checkTable horizon worstFinish slack meets makesOrder leastSpeed searchOf searchSheet digitAt written digitOf valueOf isField isLine numberAt columnOf tableIn checkSheet readOf rowLine sheetOf
+unfolding planOf padded passes sequence choice fill taker word tableOf judgeOf tightest workSlots refusalNumber checkNumber plannedNumber rowsLeft searchedNumber searchedSpeed verdictNumber verdictYes verdictRow verdictSlack isOrder checkOrder checkBoth fresh isReady chosen isOver brought serve slot rowOk tailOk checkTable horizon worstFinish slack meets makesOrder leastSpeed searchOf searchSheet digitAt written digitOf valueOf isField isLine numberAt columnOf tableIn checkSheet readOf rowLine sheetOf
 speed-cases-hold = tt

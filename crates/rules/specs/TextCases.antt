@@ -275,7 +275,7 @@ allHold [] = true
 allHold (x ∷ xs) = holds x && allHold xs
 
 pub texts-hold : T (allHold (texts ++ readings ++ fields ++ writings ++ tens ++ reports))
-unfolding isOrder checkOrder checkBoth slack figureAt figure jobLine needsOf lateRows lastLine reportText checkReport reportOf planOf padded passes sequence choice fill taker word digitAt written digitOf valueOf isField workSlots refusalNumber checkNumber placeLine programText isLine numberAt columnOf tableIn checkSheet readOf rowLine sheetOf checkRoom checkWrite writeOf fresh isReady chosen isOver brought serve slot after rowOk tailOk checkTable horizon worstFinish meets ones onesIn
+unfolding isOrder checkOrder checkBoth slack figureAt figure jobLine needsOf lateRows lastLine reportText checkReport reportOf planOf padded passes sequence choice fill taker word digitAt written digitOf valueOf isField workSlots refusalNumber checkNumber placeLine programText isLine numberAt columnOf tableIn checkSheet readOf rowLine sheetOf checkRoom checkWrite writeOf fresh isReady chosen isOver brought serve slot rowOk tailOk checkTable horizon worstFinish meets ones onesIn
 texts-hold = tt
 
 -- a planner's refusal (rule 12.4), which the checks of a sheet that is read leave no table for

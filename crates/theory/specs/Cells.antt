@@ -11,7 +11,7 @@ use borrow.Author.Tests.{lt-ltb, le-ltb, leb-true, eqb-true, ne-eqb}
 use Rattle.rules.specs.declared.Table.{Table}
 use Rattle.rules.specs.Lists.{first}
 use Rattle.rules.specs.Rows.{at, put, isRow, releaseOf, workOf}
-use Rattle.rules.specs.Slots.{State, fresh, isReady, chosen, isOver, brought, serve, slot, after}
+use Rattle.rules.specs.Slots.{State, fresh, isReady, chosen, isOver, brought, serve, slot}
 use Rattle.theory.specs.Tests.{by-bool, by-eqb, by-leb, and-left, and-right}
 use Rattle.theory.specs.Counts.{In, first-in, first-passes, first-above}
 use Rattle.theory.specs.Facts.{Row, row-is}
@@ -145,15 +145,3 @@ module _ (t : Table) (o : List ℕ) (s : State) where
 pub chosen-above : (t : Table) (s : State) (a b : List ℕ) (x : ℕ) → In x a → isReady t s x ≡ true → In (chosen t (a ++ b) s) a
 unfolding chosen
 chosen-above t s a b x i e = first-above (isReady t s) a b x i e
-
--- runs
-
-pub sized-after : (t : Table) (o : List ℕ) (σ : ℕ → ℕ) (k : ℕ) → Sized (after t o σ k)
-unfolding after
-sized-after t o σ zero = sized-fresh
-sized-after t o σ (suc k) = sized-slot t o (σ k) (after t o σ k) (sized-after t o σ k)
-
-pub clock-after : (t : Table) (o : List ℕ) (σ : ℕ → ℕ) (k : ℕ) → after t o σ k .clock ≡ k
-unfolding after fresh
-clock-after t o σ zero = refl
-clock-after t o σ (suc k) = clock-slot t o (σ k) (after t o σ k) ∙ ap suc (clock-after t o σ k)

@@ -5,9 +5,11 @@
 --   calm:  no row's demand grows by more than the row brings with the slot, and
 --   works: after the slot either no demand is left at all, or some row's demand fell by a slot.
 -- `works` is what priority gives: while a row of the list is ready, the slot goes to a row of the list.
--- A later rule (late rows closed, a promised part, waits, a start at another clock) supplies these two facts for
--- its own demand and its own `bring`, and the demand at the start; what follows below stays.
--- The instance in this crate is the step on paper at supplies of at least s work units (`slot-serves` in Sustain).
+-- A later rule (a promised part, waits, a start at another clock) supplies these two facts for its own demand and its own `bring`, and the
+-- demand at the start; what follows below stays. A rule that closes rows after the slot only takes demand away, and stays an instance
+-- (`served-less`).
+-- The instances in this crate are the two rules of a slot at supplies of at least s work units: `planning-serves` and `running-serves` in
+-- Sustain.
 use Prim.Native.Nat.{ℕ, zero, suc, _+_, _-_, _≤_, _<_}
 use mathlib.Core.Path.{_≡_, refl}
 use mathlib.Core.List.{List, [], _∷_}
@@ -32,7 +34,16 @@ pub sum-both : (f g : ℕ → ℕ) (l : List ℕ) → sum (λ x. f x + g x) l �
 sum-both f g [] = refl
 sum-both f g (x ∷ l) = omega (arith, sum-both f g l)
 
-served-sum : (rows : List ℕ) (bring before after : ℕ → ℕ) → Served rows bring before after → sum after rows ≤ sum before rows + sum bring rows - 1
+-- demand that is taken away after a slot, from any row, leaves the two facts standing
+pub served-less : (rows : List ℕ) (bring before after less : ℕ → ℕ) → Served rows bring before after → ((x : ℕ) → In x rows → less x ≤ after x)
+    → Served rows bring before less
+served-less rows bring before after less s h = record { calm = λ x i. omega (arith, s .calm x i, h x i); works = go (s .works) }
+  where
+    go : ((x : ℕ) → In x rows → after x ≡ 0) ⊎ Lowered rows bring before after → ((x : ℕ) → In x rows → less x ≡ 0) ⊎ Lowered rows bring before less
+    go (inl z) = inl (λ x i. omega (arith, z x i, h x i))
+    go (inr l) = inr (record { row = l .row; among = l .among; falls = omega (arith, l .falls, h (l .row) (l .among)) })
+
+pub served-sum : (rows : List ℕ) (bring before after : ℕ → ℕ) → Served rows bring before after → sum after rows ≤ sum before rows + sum bring rows - 1
 served-sum rows bring before after s = go (s .works)
   where
     go : ((x : ℕ) → In x rows → after x ≡ 0) ⊎ Lowered rows bring before after → sum after rows ≤ sum before rows + sum bring rows - 1

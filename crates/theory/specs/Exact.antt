@@ -1,4 +1,4 @@
--- Supplies of exactly s: what the rows at the top of an order have left is their backlog, and the lowest of them closes at its finish.
+-- Supplies of exactly s, by the planning rule: what the rows at the top of an order have left is their backlog, and the lowest of them closes at its finish.
 use Prim.Native.Nat.{ℕ, zero, suc, _+_, _-_, _*_, _≤_, _<_, min}
 use mathlib.Core.Path.{_≡_, refl, sym, ap, subst, _∙_}
 use mathlib.Core.List.{List, [], _∷_, _++_, append-assoc}
@@ -15,6 +15,7 @@ use Rattle.theory.specs.Caps.{cap, cap-done, cap-dropped}
 use Rattle.theory.specs.Facts.{Row, TableFacts}
 use Rattle.theory.specs.Cells.{Cell, cellAt, grown, served, fresh-cell}
 use Rattle.theory.specs.Demand.{sum-both}
+use Rattle.theory.specs.Ends.{planning}
 use Rattle.theory.specs.Invariant.{Held, Over, by-brought, none-beyond, cell-served, cell-other, ran, held, under}
 use Rattle.theory.specs.Left.{left, bring, left-open, left-late, left-closed, left-waits, left-served-one}
 use Rattle.theory.specs.Sustain.{none-left}
@@ -31,13 +32,12 @@ brought-more t s k i x e =
     (λ b q z. omega (arith, b, z))
 
 got-exact : (t : Table) (f : TableFacts t) (o : List ℕ) (s k i : ℕ) → Row t i → Brought t s i (cellAt (after t o (λ _. s) k) i)
-unfolding after
 got-exact t f o s zero i r = subst (Brought t s i) (sym (fresh-cell i (r .from) (omega (arith, f .few, r .upTo)))) (omega (arith, none-beyond (t .loading) s))
 got-exact t f o s (suc k) i r =
     let h = got-exact t f o s k i r in
     by-eqb (chosen t o (after t o (λ _. s) k)) i
-    (λ _ q. subst (Brought t s i) (sym (cell-served t f o (λ _. s) k i r q)) (brought-more t s k i (cellAt (after t o (λ _. s) k) i) h))
-    (λ _ q. subst (Brought t s i) (sym (cell-other t f o (λ _. s) k i r q)) h)
+    (λ _ q. subst (Brought t s i) (sym (cell-served t f (planning t) o (λ _. s) k i r q)) (brought-more t s k i (cellAt (after t o (λ _. s) k) i) h))
+    (λ _ q. subst (Brought t s i) (sym (cell-other t f (planning t) o (λ _. s) k i r q)) h)
 
 module _ (t : Table) (f : TableFacts t) (a b : List ℕ) (rows : (x : ℕ) → In x a → Row t x) (once : Once a) (s : ℕ) (s1 : 1 ≤ s) (sn : s ≤ t .normal) where
   abbrev worstAt : ℕ → State
@@ -46,18 +46,18 @@ module _ (t : Table) (f : TableFacts t) (a b : List ℕ) (rows : (x : ℕ) → I
   abbrev leftAt : ℕ → ℕ → ℕ
   leftAt u x = left t s u x (cellAt (worstAt u) x)
 
-  hold : (u x : ℕ) → Row t x → Held t s u x (cellAt (worstAt u) x)
-  hold u x r = held t f (a ++ b) (λ _. s) s 0 u (λ j q. omega arith) (λ v p q. omega arith) u (omega arith) x r
+  hold : (u x : ℕ) → Row t x → Held t (planning t) s u x (cellAt (worstAt u) x)
+  hold u x r = held t f (planning t) (a ++ b) (λ _. s) s 0 u (λ j q. omega arith) (λ v p q. omega arith) u (omega arith) x r
 
   waits : (u x : ℕ) → Row t x → (chosen t (a ++ b) (worstAt u) ≡ x → ⊥) → leftAt (suc u) x ≡ leftAt u x + bring t s u x
-  waits u x r q = rw (cell-other t f (a ++ b) (λ _. s) u x r q) (left-waits t s u x (cellAt (worstAt u) x) (hold u x r))
+  waits u x r q = rw (cell-other t f (planning t) (a ++ b) (λ _. s) u x r q) (left-waits t (planning t) s u x (cellAt (worstAt u) x) (hold u x r))
 
   serves : (u x : ℕ) → Row t x → chosen t (a ++ b) (worstAt u) ≡ x → suc (leftAt (suc u) x) ≡ leftAt u x + bring t s u x
   serves u x r q =
-      let z = ran t f (a ++ b) (λ _. s) u x r q in
+      let z = ran t f (planning t) (a ++ b) (λ _. s) u x r q in
       let y = cellAt (worstAt u) x in
-      rw (cell-served t f (a ++ b) (λ _. s) u x r q)
-      (left-served-one t s u x y (hold u x r) s (z .still) (z .released) (under t s u x y (f .runs) s1 (hold u x r) (z .still))
+      rw (cell-served t f (planning t) (a ++ b) (λ _. s) u x r q)
+      (left-served-one t (planning t) s u x y (hold u x r) s (z .still) (z .released) (under t (planning t) s u x y (f .runs) s1 (hold u x r) (z .still))
       (spent y (got-exact t f (a ++ b) s u x r)))
     where
       spent : (y : Cell) → Brought t s x y → Over t x (grown t s x y) (suc (y .used)) → cap t s x ≤ suc (y .used)
@@ -91,7 +91,7 @@ module _ (t : Table) (f : TableFacts t) (a b : List ℕ) (rows : (x : ℕ) → I
       ))
     where
       gone : (u x : ℕ) → (In (chosen t (a ++ b) (worstAt u)) a → ⊥) → In x a → leftAt (suc u) x ≡ 0
-      gone u x out j = none-left t f (a ++ b) a b refl rows (λ _. s) s u x out j
+      gone u x out j = none-left t f (planning t) (a ++ b) a b refl rows (λ _. s) s u x out j
 
   pub left-exact : (u : ℕ) → sum (leftAt u) a ≡ backlog (arrivals (releaseOf t) (cap t s) a) u
   left-exact zero = sum-zero (leftAt 0) a (λ x i. left-late t s 0 x (cellAt (worstAt 0) x) (omega arith))
@@ -105,7 +105,7 @@ module _ (t : Table) (f : TableFacts t) (a b : List ℕ) (rows : (x : ℕ) → I
         left-exact u,
         sum-part (leftAt u) i a j,
         left-open t s u i (cellAt (worstAt u) i) z r,
-        under t s u i (cellAt (worstAt u) i) (f .runs) s1 (hold u i (rows i j)) z,
+        under t (planning t) s u i (cellAt (worstAt u) i) (f .runs) s1 (hold u i (rows i j)) z,
       )
 
 -- the lowest row i of a list, with a above it
@@ -155,7 +155,7 @@ module _ (t : Table) (f : TableFacts t) (a b : List ℕ) (i : ℕ) (rows : (x : 
       gone x j =
           by-eqb x i
           (λ _ q. rw q (left-closed t s (suc u) i (cellAt (after t (a ++ (i ∷ []) ++ b) (λ _. s) (suc u)) i) z))
-          (λ _ q. none-left t f (a ++ (i ∷ []) ++ b) a ((i ∷ []) ++ b) (append-assoc a (i ∷ []) b)
+          (λ _ q. none-left t f (planning t) (a ++ (i ∷ []) ++ b) a ((i ∷ []) ++ b) (append-assoc a (i ∷ []) b)
           (λ y k. rows y (omega (arith, count-append y a (i ∷ [])))) (λ _. s) s u x
           (λ k. not-above (rw e at k)) (omega (arith, count-append x a (i ∷ []), count-other x i [] q)))
 
@@ -163,9 +163,9 @@ module _ (t : Table) (f : TableFacts t) (a b : List ℕ) (i : ℕ) (rows : (x : 
   unfolding served
   closing-slot u h =
       by-eqb (chosen t (a ++ (i ∷ []) ++ b) (after t (a ++ (i ∷ []) ++ b) (λ _. s) u)) i
-      (λ _ q. let z = ran t f (a ++ (i ∷ []) ++ b) (λ _. s) u i own-row q in
+      (λ _ q. let z = ran t f (planning t) (a ++ (i ∷ []) ++ b) (λ _. s) u i own-row q in
       let y = cellAt (after t (a ++ (i ∷ []) ++ b) (λ _. s) u) i in
-      let e : closingAt (suc u) ≡ served t s u i y .closing = ap (λ (x : Cell). x .closing) (cell-served t f (a ++ (i ∷ []) ++ b) (λ _. s) u i own-row q) in
+      let e : closingAt (suc u) ≡ served t s u i y .closing = ap (λ (x : Cell). x .closing) (cell-served t f (planning t) (a ++ (i ∷ []) ++ b) (λ _. s) u i own-row q) in
       by-bool (isOver t i (grown t s i y) (y .used + 1))
       (λ d. let c : closingAt (suc u) ≡ suc u = e ∙ rw d (omega arith) in
       inr (record {
@@ -177,17 +177,16 @@ module _ (t : Table) (f : TableFacts t) (a b : List ℕ) (i : ℕ) (rows : (x : 
         by = omega arith;
       }))
       (λ d. inl (stays-open u h (e ∙ rw d))))
-      (λ _ q. inl (stays-open u h (ap (λ (x : Cell). x .closing) (cell-other t f (a ++ (i ∷ []) ++ b) (λ _. s) u i own-row q) ∙ h .still)))
+      (λ _ q. inl (stays-open u h (ap (λ (x : Cell). x .closing) (cell-other t f (planning t) (a ++ (i ∷ []) ++ b) (λ _. s) u i own-row q) ∙ h .still)))
 
   closing-stays : (u : ℕ) → ClosedAt u → ClosedAt (suc u)
   closing-stays u h =
       let e : closingAt (suc u) ≡ closingAt u =
-      ap (λ (x : Cell). x .closing) (cell-other t f (a ++ (i ∷ []) ++ b) (λ _. s) u i own-row
-      (λ q. let z = ran t f (a ++ (i ∷ []) ++ b) (λ _. s) u i own-row q in omega (arith, z .still, h .finish .after))) in
+      ap (λ (x : Cell). x .closing) (cell-other t f (planning t) (a ++ (i ∷ []) ++ b) (λ _. s) u i own-row
+      (λ q. let z = ran t f (planning t) (a ++ (i ∷ []) ++ b) (λ _. s) u i own-row q in omega (arith, z .still, h .finish .after))) in
       record { finish = rw e (h .finish); by = omega (arith, h .by) }
 
   pub closing-cases : (u : ℕ) → StillOpen u ⊎ ClosedAt u
-  unfolding after
   closing-cases zero =
       inl (record {
         still = ap (λ (x : Cell). x .closing) (fresh-cell i (own-row .from) (omega (arith, f .few, own-row .upTo)));

@@ -11,6 +11,7 @@ use Rattle.theory.specs.Tests.{gate, by-bool, by-eqb, by-ltb}
 use Rattle.theory.specs.Backlog.{brings}
 use Rattle.theory.specs.Caps.{cap}
 use Rattle.theory.specs.Cells.{Cell, grown, served}
+use Rattle.theory.specs.Ends.{Rule}
 use Rattle.theory.specs.Invariant.{Held, Over, by-over}
 
 -- in slots, at clock u, of row i with cell x
@@ -44,7 +45,7 @@ module _ (t : Table) (s u i : ℕ) (x : Cell) where
   bring-none : (releaseOf t i ≡ u → ⊥) → bring t s u i ≡ 0
   bring-none q = rw (ne-eqb (releaseOf t i) u q)
 
-module _ (t : Table) (s u i : ℕ) (x : Cell) (h : Held t s u i x) where
+module _ (t : Table) (r : Rule t) (s u i : ℕ) (x : Cell) (h : Held t r s u i x) where
   -- a slot that goes elsewhere
   pub left-waits : left t s (suc u) i x ≡ left t s u i x + bring t s u i
   left-waits =

@@ -8,6 +8,8 @@ pub mod Caps
 pub mod Facts
 pub mod Room
 pub mod Cells
+pub mod Late
+pub mod Ends
 pub mod Demand
 pub mod Invariant
 pub mod Left
@@ -18,6 +20,9 @@ pub mod Finishes
 pub mod Verdict
 pub mod Choosing
 pub mod Speeds
+pub mod Runs
 pub mod Results
 pub mod Agree
 pub mod Lost
+pub mod Seven
+pub mod Serving

@@ -1,11 +1,11 @@
 -- The results of this crate, to be cited by name. Each is a statement about the definitions of `rules` and is preceded by what it says.
 -- Lists of rows are compared by how often each row stands in them (Counts): `In x l`, row x stands in l; `Within a b`, what stands in a
 -- stands in b; `Same a b`, the two hold the same rows. A list that is within the table's rows holds each row at most once.
-use Prim.Native.Nat.{ℕ, _+_, _-_, _≤_}
+use Prim.Native.Nat.{ℕ, _+_, _-_, _≤_, _<_}
 use mathlib.Core.Bool.{true, false}
 use mathlib.Core.Path.{_≡_, sym, subst}
 use mathlib.Core.List.{List, [], _∷_, _++_}
-use mathlib.Core.Logic.{_↔_}
+use mathlib.Core.Logic.{_↔_, _⊎_}
 use native.Mathlib.Omega.{arith}
 use lib.IntN.{pos}
 use lib.Signed.{ltZ}
@@ -13,11 +13,12 @@ use borrow.Author.Tests.{leb-true}
 use Rattle.rules.specs.declared.Sought.{Sought}
 use Rattle.rules.specs.declared.Table.{Table}
 use Rattle.rules.specs.Lists.{sum, greatest, erase}
-use Rattle.rules.specs.Rows.{isRow, isLow, isHigh, rowsOf, releaseOf, deadlineOf}
+use Rattle.rules.specs.Rows.{at, isRow, isLow, isHigh, rowsOf, releaseOf, workOf, deadlineOf}
 use Rattle.rules.specs.Tables.{Accepted}
 use Rattle.rules.specs.Orders.{isOrder}
-use Rattle.rules.specs.Slots.{after}
-use Rattle.rules.specs.Correct.{KeptIn, Correct, CorrectOrder, Window}
+use Rattle.rules.specs.Slots.{State, allowance, after}
+use Rattle.rules.specs.Correct.{KeptIn, Correct, CorrectOrder, earliest, Window}
+use Rattle.rules.specs.Running.{runAfter, RunServes}
 use Rattle.rules.specs.Worst.{worstSpeed, horizon, worstFinish, slack, meets}
 use Rattle.rules.specs.Choice.{passes, choice, padded}
 use Rattle.rules.specs.Speeds.{withSpeeds, atSpeed, slowest, fastest, InRange, LeastSpeed}
@@ -27,14 +28,23 @@ use Rattle.theory.specs.Backlog.{finish-set, finish-only}
 use Rattle.theory.specs.Sorting.{Sorted}
 use Rattle.theory.specs.Sweep.{sweep}
 use Rattle.theory.specs.Caps.{cap, cap-most}
+use Rattle.theory.specs.Cells.{cellAt}
+use Rattle.theory.specs.Ends.{running, running-is}
 use Rattle.theory.specs.Facts.{Row, TableFacts, row-is, is-row, rows-in, facts}
+use Rattle.theory.specs.Runs.{Timely, timely, high-done, dropped, one-run}
 use Rattle.theory.specs.Places.{placed, length-rows}
 use Rattle.theory.specs.Finishes.{worst-runs, worst-slower, worst-finish, worst-bound, within-rows}
 use Rattle.theory.specs.Finishes as Finishes
-use Rattle.theory.specs.Verdict.{Finished, finished, slack-difference, less-left, slack-meets, meets-slack, kept, all-meet, correct}
+use Rattle.theory.specs.Verdict.{Finished, finished, slack-difference, less-left, slack-meets, meets-slack, kept-by, kept, all-meet, correct}
 use Rattle.theory.specs.Speeds.{accepted-speeds, finish-falls, correct-faster, correct-at, least-parts}
 use Rattle.theory.specs.Choosing.{rows-of, once-of, moved, choice-filled, no-order}
 use Rattle.theory.specs.Choosing as Choosing
+
+-- row i is LO and dropped in this state: with its allowance used up, at its deadline or before, or with slots left, at its deadline (rule 19.9)
+abbrev pub DroppedIn : Table → State → ℕ → Type 0
+DroppedIn t s i =
+    (isLow t i ≡ true)
+    × (((at (s .used) i ≡ allowance t i) × (at (s .closing) i ≤ deadlineOf t i)) ⊎ ((at (s .used) i < allowance t i) × (at (s .closing) i ≡ deadlineOf t i)))
 
 module _ (t : Table) (accepted : Accepted t) where
   abbrev f : TableFacts t
@@ -188,3 +198,52 @@ module _ (t : Table) (accepted : Accepted t) where
   pub larger-at : (q : Sought) (s r : ℕ) → slowest q t ≤ s → s ≤ r → r ≤ fastest q t → (o : List ℕ) → isOrder t o ≡ true → Correct (atSpeed q t s) o
       → Correct (atSpeed q t r) o
   larger-at q = correct-at q t accepted
+
+  -- 9. RUNNING RULE. What planner and judge promise by the planning rule is kept in runs by the running rule. A row whose slack is not below
+  -- zero has kept its deadline at every clock from d on, if every slot from the earliest release to d-1 supplied at least N for a LO row, or
+  -- G for a HI row, whatever the other slots supplied and whatever became of the other rows.
+  module _ (o : List ℕ) (order : isOrder t o ≡ true) where
+    pub running-sustainable : (i : ℕ) → isRow t i ≡ true → ltZ (slack t o i) (pos 0) ≡ false → (σ : ℕ → ℕ) → Window t σ i (worstSpeed t i)
+        → (k : ℕ) → deadlineOf t i ≤ k → KeptIn t (runAfter t o σ k) i
+    running-sustainable i r s σ w k q =
+        subst (λ (x : State). KeptIn t x i) (running-is t o σ k) (kept-by t f o order (running t) i (row-is t i r) (slack-meets t o i s) σ w k q)
+
+    -- In particular every row does under a correct order.
+    pub correct-window : Correct t o → (i : ℕ) → isRow t i ≡ true → (σ : ℕ → ℕ) → Window t σ i (worstSpeed t i) → (k : ℕ) → deadlineOf t i ≤ k
+        → KeptIn t (runAfter t o σ k) i
+    correct-window c i r = running-sustainable i r (verdict o order .0 c i r)
+
+    -- A correct order serves in runs.
+    pub correct-runs : Correct t o → RunServes t o
+    correct-runs c =
+        record {
+          normal = λ σ enough i r. running-sustainable i r (verdict o order .0 c i r) σ
+              (λ u p l. omega (arith, enough u, worst-slower t f i)) (deadlineOf t i) (omega arith);
+          degraded = λ σ enough i r h. running-sustainable i r (verdict o order .0 c i r) σ
+              (λ u p l. rw (not-is (isLow t i) h) (enough u)) (deadlineOf t i) (omega arith);
+        }
+
+    -- Under a correct order the two rules make one run up to clock m, if every slot from the earliest release to m-1 supplied at least N.
+    pub rules-agree : Correct t o → (σ : ℕ → ℕ) (m : ℕ) → ((u : ℕ) → earliest t ≤ u → u < m → t .normal ≤ σ u)
+        → (k : ℕ) → k ≤ m → runAfter t o σ k ≡ after t o σ k
+    rules-agree c σ m enough k p = one-run t f o order c σ m enough k p
+
+    -- In a run by the running rule, whatever the slots supply, an open LO row has its deadline still before it, and a closed one was closed
+    -- by then;
+    pub running-low : (i : ℕ) → isRow t i ≡ true → isLow t i ≡ true → (σ : ℕ → ℕ) (k : ℕ) → Timely t k i (cellAt (runAfter t o σ k) i)
+    running-low i r l σ k = subst (λ (x : State). Timely t k i (cellAt x i)) (running-is t o σ k) (timely t f o σ i (row-is t i r) l k)
+
+    -- a HI row that is closed is done;
+    pub running-high : (i : ℕ) → isRow t i ≡ true → isHigh t i ≡ true → (σ : ℕ → ℕ) (k : ℕ) → 1 ≤ at (runAfter t o σ k .closing) i
+        → at (runAfter t o σ k .got) i ≡ workOf t i
+    running-high i r h σ k =
+        subst (λ (x : State). 1 ≤ at (x .closing) i → at (x .got) i ≡ workOf t i) (running-is t o σ k)
+        (λ c. high-done t f o σ i (row-is t i r) k (not-is (isLow t i) h) c)
+
+    -- and a row that is closed and not done is LO, and has used just its allowance and was closed at its deadline or before, or has used less
+    -- and was closed at its deadline.
+    pub running-dropped : (i : ℕ) → isRow t i ≡ true → (σ : ℕ → ℕ) (k : ℕ) → 1 ≤ at (runAfter t o σ k .closing) i
+        → (at (runAfter t o σ k .got) i ≡ workOf t i → ⊥) → DroppedIn t (runAfter t o σ k) i
+    running-dropped i r σ k =
+        subst (λ (x : State). 1 ≤ at (x .closing) i → (at (x .got) i ≡ workOf t i → ⊥) → DroppedIn t x i)
+        (running-is t o σ k) (λ c n. let d = dropped t f o σ i (row-is t i r) k c n in (d .low, d .why))

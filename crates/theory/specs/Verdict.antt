@@ -1,9 +1,10 @@
--- A row whose worst finish is in time keeps its deadline in every run that supplies as much; an order is correct exactly if all rows do
--- (rules 3.4 and 3.6).
+-- A row whose worst finish is in time keeps its deadline in every run that supplies as much, by either rule of a slot (rule 19.5); an order is
+-- correct exactly if all rows do (rules 3.4 and 3.6).
 use Prim.Native.Nat.{ℕ, zero, suc, _+_, _-_, _≤_, _<_}
-use mathlib.Core.Bool.{true, false}
+use mathlib.Core.Bool.{true, false, true≢false}
 use mathlib.Core.Path.{_≡_, sym, ap, subst, _∙_}
 use mathlib.Core.List.{List, [], _∷_, _++_, append-assoc}
+use mathlib.Core.Logic.{_⊎_, inl, inr}
 use native.Mathlib.Omega.{arith}
 use lib.Dec.{ltb, leb}
 use lib.IntN.{pos, _-ℤ_}
@@ -19,8 +20,9 @@ use Rattle.theory.specs.Tests.{by-bool, by-ltb, not-is}
 use Rattle.theory.specs.Counts.{In, in-last}
 use Rattle.theory.specs.Facts.{Row, row-is, is-row, TableFacts}
 use Rattle.theory.specs.Cells.{Cell, cellAt}
-use Rattle.theory.specs.Invariant.{Held, held, got-high, got-normal}
-use Rattle.theory.specs.Sustain.{closed-by, closed-stays}
+use Rattle.theory.specs.Ends.{Rule, planning, stateBy}
+use Rattle.theory.specs.Invariant.{Held, Over, workedBy, held, held-worked, got-high, got-normal}
+use Rattle.theory.specs.Sustain.{closed-by, over-by, look-stays, closed-stays}
 use Rattle.theory.specs.Exact.{closed-finish}
 use Rattle.theory.specs.Places.{placed}
 use Rattle.theory.specs.Finishes.{earliest-first, worst-runs, worst-slower, worst-finish, worst-lasts, Clear, meets-clear}
@@ -72,52 +74,76 @@ pub record Finished (t : Table) (o : List ℕ) (i k : ℕ) : Type 0 where
   pub got : at (after t o (λ _. worstSpeed t i) k .got) i ≡ workOf t i
 
 module _ (t : Table) (f : TableFacts t) where
-  -- a closed row has got its work where its slots supplied its worst speed
-  got-all : (u i : ℕ) (x : Cell) → Held t (worstSpeed t i) u i x → 1 ≤ x .closing → x .got ≡ workOf t i
-  got-all u i x h c =
+  -- a row that is over has got its work where its slots supplied its worst speed
+  got-all : (r : Rule t) (u i : ℕ) (x : Cell) → Held t r (worstSpeed t i) u i x → Over t i (x .got) (x .used) → x .got ≡ workOf t i
+  got-all r u i x h c =
       by-bool (isLow t i)
-      (λ e. got-normal t u i x (f .runs) (subst (λ (s : ℕ). Held t s u i x) (rw e) h) c)
-      (λ e. got-high t (worstSpeed t i) u i x h e c)
+      (λ e. got-normal t r u i x (f .runs) (subst (λ (s : ℕ). Held t r s u i x) (rw e) h) c)
+      (λ e. got-high t i x e c)
 
-  -- row i below the rows of a, with b below it
-  kept-below : (a b : List ℕ) (i : ℕ) → ((x : ℕ) → In x (a ++ (i ∷ [])) → Row t x) → Clear t (a ++ (i ∷ [])) i → (σ : ℕ → ℕ) → Window t σ i (worstSpeed t i)
-      → (k : ℕ) → deadlineOf t i ≤ k → KeptIn t (after t (a ++ (i ∷ []) ++ b) σ k) i
-  kept-below a b i rows c σ w k q =
-      let x : KeptCell t i (cellAt (after t (a ++ (i ∷ []) ++ b) σ k) i) =
-      subst (KeptCell t i) (sym later) (record { done = got-all (c .at) i now hold closed; closed = closed; inTime = omega (arith, hold .past, c .by) }) in
+  -- Row i below the rows of a, with b below it, by either rule: the slot before its finish makes it done, and no look at a clock up to
+  -- its deadline can have closed it before (rule 19.3).
+  kept-below : (rule : Rule t) (a b : List ℕ) (i : ℕ) → ((x : ℕ) → In x (a ++ (i ∷ [])) → Row t x) → Clear t (a ++ (i ∷ [])) i → (σ : ℕ → ℕ)
+      → Window t σ i (worstSpeed t i) → (k : ℕ) → deadlineOf t i ≤ k → KeptIn t (stateBy rule (a ++ (i ∷ []) ++ b) σ k) i
+  kept-below rule a b i rows c σ w k q =
+      let x : KeptCell t i (cellAt (stateBy rule (a ++ (i ∷ []) ++ b) σ k) i) =
+      subst (KeptCell t i) (sym later)
+      (record { done = got-all rule (suc last) i now hold over; closed = closed; inTime = omega (arith, hold .past, c .by) }) in
       record { done = x .done; closed = x .closed; inTime = x .inTime }
     where
       own : Row t i
       own = rows i (in-last a i)
 
+      -- the slot before the finish
+      last : ℕ
+      last = c .at - 1
+
+      next : c .at ≡ suc last
+      next = omega (arith, c .after)
+
       now : Cell
-      now = cellAt (after t (a ++ (i ∷ []) ++ b) σ (c .at)) i
+      now = cellAt (workedBy t f rule (a ++ (i ∷ []) ++ b) σ last) i
 
-      enough : (u : ℕ) → earliest t ≤ u → u < c .at → worstSpeed t i ≤ σ u
-      enough u p r = w u p (omega (arith, c .by))
+      enough : (u : ℕ) → earliest t ≤ u → u < suc last → worstSpeed t i ≤ σ u
+      enough u p r = w u p (omega (arith, next, c .by))
 
-      hold : Held t (worstSpeed t i) (c .at) i now
-      hold = held t f (a ++ (i ∷ []) ++ b) σ (worstSpeed t i) (earliest t) (c .at) (earliest-first t) enough (c .at) (omega arith) i own
+      hold : Held t rule (worstSpeed t i) (suc last) i now
+      hold =
+          held-worked t f rule (a ++ (i ∷ []) ++ b) σ (worstSpeed t i) last i own (λ l. enough last (omega (arith, earliest-first t i own, l)) (omega arith))
+          (held t f rule (a ++ (i ∷ []) ++ b) σ (worstSpeed t i) (earliest t) (suc last) (earliest-first t) enough last (omega arith) i own)
 
       closed : 1 ≤ now .closing
       closed =
-          closed-by t f (a ++ (i ∷ [])) b rows σ (worstSpeed t i) (earliest t) (c .at) (worst-runs t f i) (earliest-first t) enough
-          (c .clear) i (in-last a i) (c .after)
+          closed-by t f rule (a ++ (i ∷ [])) b rows σ (worstSpeed t i) (earliest t) (suc last) (worst-runs t f i) (earliest-first t) enough
+          last (omega arith) (rw next at (c .clear)) i (in-last a i) (omega (arith, c .after))
 
-      later : cellAt (after t (a ++ (i ∷ []) ++ b) σ k) i ≡ now
+      over : Over t i (now .got) (now .used)
+      over =
+          over-by t f rule (a ++ (i ∷ [])) b rows σ (worstSpeed t i) (earliest t) (suc last) (worst-runs t f i) (earliest-first t) enough
+          last (omega arith) i own (omega (arith, next, c .by)) closed
+
+      looked : cellAt (stateBy rule (a ++ (i ∷ []) ++ b) σ (suc last)) i ≡ now
+      looked = look-stays t f rule (a ++ (i ∷ []) ++ b) σ i own last closed
+
+      later : cellAt (stateBy rule (a ++ (i ∷ []) ++ b) σ k) i ≡ now
       later =
-          ap (λ (u : ℕ). cellAt (after t (a ++ (i ∷ []) ++ b) σ u) i) (let e : k ≡ k - c .at + c .at = omega (arith, c .by) in e)
-          ∙ closed-stays t f (a ++ (i ∷ []) ++ b) σ i own (c .at) (k - c .at) closed
+          ap (λ (u : ℕ). cellAt (stateBy rule (a ++ (i ∷ []) ++ b) σ u) i) (let e : k ≡ k - suc last + suc last = omega (arith, next, c .by) in e)
+          ∙ closed-stays t f rule (a ++ (i ∷ []) ++ b) σ i own (suc last) (k - suc last) (rw (ap (λ (x : Cell). x .closing) looked) closed)
+          ∙ looked
 
   -- an order under check 6
   module _ (o : List ℕ) (e : isOrder t o ≡ true) where
-    -- every clock from the deadline on
-    pub kept : (i : ℕ) → Row t i → meets t o i ≡ true → (σ : ℕ → ℕ) → Window t σ i (worstSpeed t i) → (k : ℕ) → deadlineOf t i ≤ k → KeptIn t (after t o σ k) i
-    kept i r m σ w k q =
+    -- by either rule, at every clock from the deadline on
+    pub kept-by : (rule : Rule t) (i : ℕ) → Row t i → meets t o i ≡ true → (σ : ℕ → ℕ) → Window t σ i (worstSpeed t i) → (k : ℕ) → deadlineOf t i ≤ k
+        → KeptIn t (stateBy rule o σ k) i
+    kept-by rule i r m σ w k q =
         let p = placed t o e i r in
         let whole : o ≡ p .above ++ (i ∷ []) ++ p .below = p .whole ∙ sym (append-assoc (p .above) (i ∷ []) (p .below)) in
         let c = meets-clear t f (p .above) (p .below) i (p .rows) (p .once) (subst (λ (l : List ℕ). meets t l i ≡ true) (p .whole) m) in
-        subst (λ (l : List ℕ). KeptIn t (after t l σ k) i) (sym whole) (kept-below (p .above) (p .below) i (p .rows) c σ w k q)
+        subst (λ (l : List ℕ). KeptIn t (stateBy rule l σ k) i) (sym whole) (kept-below rule (p .above) (p .below) i (p .rows) c σ w k q)
+
+    pub kept : (i : ℕ) → Row t i → meets t o i ≡ true → (σ : ℕ → ℕ) → Window t σ i (worstSpeed t i) → (k : ℕ) → deadlineOf t i ≤ k → KeptIn t (after t o σ k) i
+    kept = kept-by (planning t)
 
     -- row i's worst run at a clock k that is not before the horizon
     pub finished : (i : ℕ) → Row t i → (k : ℕ) → horizon t (worstSpeed t i) ≤ k → Finished t o i k
@@ -132,10 +158,18 @@ module _ (t : Table) (f : TableFacts t) where
         record {
           closing = closing;
           from = omega (arith, w, same);
-          got = got-all k i (cellAt (after t o (λ _. worstSpeed t i) k) i)
-              (held t f o (λ _. worstSpeed t i) (worstSpeed t i) (earliest t) k (earliest-first t) (λ u p q. omega arith) k (omega arith) i r)
+          got = got-closed (held t f (planning t) o (λ _. worstSpeed t i) (worstSpeed t i) (earliest t) k (earliest-first t) (λ u p q. omega arith) k (omega arith) i r)
               (omega (arith, closing, w, same));
         }
+      where
+        got-closed : Held t (planning t) (worstSpeed t i) k i (cellAt (after t o (λ _. worstSpeed t i) k) i) → 0 < at (after t o (λ _. worstSpeed t i) k .closing) i
+            → at (after t o (λ _. worstSpeed t i) k .got) i ≡ workOf t i
+        got-closed h p = go (h .ended p)
+          where
+            go : Over t i (at (after t o (λ _. worstSpeed t i) k .got) i) (at (after t o (λ _. worstSpeed t i) k .used) i) ⊎ (false ≡ true)
+                → at (after t o (λ _. worstSpeed t i) k .got) i ≡ workOf t i
+            go (inl c) = got-all (planning t) k i (cellAt (after t o (λ _. worstSpeed t i) k) i) h c
+            go (inr c) = absurd (true≢false (sym c))
 
     -- the run at exactly a row's worst speed is itself a course of speed
     kept-worst : Correct t o → (i : ℕ) → Row t i → Kept t o (λ _. worstSpeed t i) i

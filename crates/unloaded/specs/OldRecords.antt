@@ -1,13 +1,15 @@
--- What the rules said of run records before jobs could load. As in Unloaded, K is not looked at.
+-- What the rules say of run records where jobs do not load. As in Unloaded, K is not looked at, and the clock closes LO rows as in the rules'
+-- own definition (rule 19.2).
 use Prim.Native.Nat.{ℕ, _+_}
-use mathlib.Core.Bool.{Bool, cond, not, _&&_}
+use mathlib.Core.Bool.{Bool, cond, not, _&&_, _||_}
 use mathlib.Core.List.{List, [], _∷_}
 use lib.Dec.{eqb, ltb, leb}
 use Rattle.rules.specs.declared.Table.{Table}
 use Rattle.rules.specs.declared.Refusal.the-variants as Refusals
 use Rattle.rules.specs.Calls.{lastClock}
 use Rattle.rules.specs.Lists.{all}
-use Rattle.rules.specs.Rows.{at, rowsOf, workOf}
+use Rattle.rules.specs.Rows.{at, isLow, rowsOf, workOf, deadlineOf}
+use Rattle.rules.specs.Running.{isDue}
 use Rattle.rules.specs.Tables.{passed}
 use Rattle.record.specs.declared.Run.{Run}
 use Rattle.record.specs.declared.FreshRun.{FreshRun}
@@ -26,8 +28,8 @@ rowSound r i =
     && leb (at (r .used) i) (r .clock)
     && leb (at (r .closing) i) (r .clock)
     && cond (eqb (at (r .closing) i) 0)
-    (not (Then.isOver (r .table) i (at (r .got) i) (at (r .used) i)))
-    (Then.isOver (r .table) i (at (r .got) i) (at (r .used) i))
+    (not (Then.isOver (r .table) i (at (r .got) i) (at (r .used) i)) && not (isDue (r .table) (r .clock) i))
+    (Then.isOver (r .table) i (at (r .got) i) (at (r .used) i) || (isLow (r .table) i && eqb (at (r .closing) i) (deadlineOf (r .table) i)))
 
 unfoldable pub isSound : Run → Bool
 isSound r =
@@ -42,7 +44,7 @@ freshOf t o = freshChecked (Then.checkBoth t o) t o
 
 -- the record after one slot of supply v, in work units
 unfoldable pub nextRun : Run → ℕ → Run
-nextRun r v = recordOf (r .table) (r .order) (Then.slot (r .table) (r .order) v (stateOf r))
+nextRun r v = recordOf (r .table) (r .order) (Then.runSlot (r .table) (r .order) v (stateOf r))
 
 -- the coming slot, one slot, and forward
 unfoldable pub comingSlot : Run → SlotAnswer

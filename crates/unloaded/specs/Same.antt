@@ -18,6 +18,7 @@ use Rattle.rules.specs.Lists.{erase}
 use Rattle.rules.specs.Need.{workSlots, need}
 use Rattle.rules.specs.Orders.{checkBoth}
 use Rattle.rules.specs.Rows.{at, rowsOf, workOf, deadlineOf, needFor}
+use Rattle.rules.specs.Running.{runSlot}
 use Rattle.rules.specs.Slots.{State, chosen, isOver, brought, serve, slot, after}
 use Rattle.rules.specs.Tables.{checkTable}
 use Rattle.rules.specs.Worst.{worstSpeed, horizon, worstFinish, slack, meets}
@@ -54,9 +55,13 @@ module _ (t : Table) (none : t .loading ≡ 0) where
     unfolding slot Then.slot
     slot-same v s = rw (serve-same v (chosen t o s) s)
 
+    pub step-same : (v : ℕ) (s : State) → runSlot t o v s ≡ Then.runSlot t o v s
+    unfolding runSlot Then.runSlot
+    step-same v s = rw (slot-same v s)
+
     -- the run (rule 3.4)
     pub after-same : (σ : ℕ → ℕ) (k : ℕ) → after t o σ k ≡ Then.after t o σ k
-    unfolding after Then.after
+    unfolding Then.after
     after-same σ zero = refl
     after-same σ (suc k) = slot-same (σ k) (after t o σ k) ∙ ap (Then.slot t o (σ k)) (after-same σ k)
 
@@ -78,12 +83,12 @@ module _ (t : Table) (none : t .loading ≡ 0) where
     -- the calls on paper (rules 9.7, 9.8)
     one-same : (v : ℕ) (s : State) → tellOne t o v s ≡ Then.tellOne t o v s
     unfolding tellOne Then.tellOne
-    one-same v s = rw (slot-same v s)
+    one-same v s = rw (step-same v s)
 
     forward-same : (k : ℕ) (vs : List ℕ) (s : State) → tellForward t o k vs s ≡ Then.tellForward t o k vs s
     unfolding tellForward Then.tellForward
     forward-same k [] s = refl
-    forward-same k (v ∷ vs) s = rw (slot-same v s, forward-same (k + 1) vs (Then.slot t o v s))
+    forward-same k (v ∷ vs) s = rw (step-same v s, forward-same (k + 1) vs (Then.runSlot t o v s))
 
     tell-same : (c : Call) (s : State) → tell t o c s ≡ Then.tell t o c s
     tell-same (one v) s = one-same v s

@@ -8,7 +8,7 @@ use Rattle.record.specs.declared.Run.{Run}
 use Rattle.record.specs.Records.{stateOf, rowSound, isSound, freshOf, nextRun, comingSlot, oneSlot, workOn, forwardOver}
 use Rattle.theory.specs.Agree.{all-agree}
 use Rattle.unloaded.specs.OldRecords as Then
-use Rattle.unloaded.specs.Same.{over-same, slot-same, both-same}
+use Rattle.unloaded.specs.Same.{over-same, step-same, both-same}
 
 pub fresh-same : (t : Table) → t .loading ≡ 0 → (o : List ℕ) → freshOf t o ≡ Then.freshOf t o
 unfolding freshOf Then.freshOf
@@ -25,7 +25,7 @@ module _ (r : Run) (none : r .table .loading ≡ 0) where
 
   pub next-same : (v : ℕ) → nextRun r v ≡ Then.nextRun r v
   unfolding nextRun Then.nextRun
-  next-same v = rw (slot-same (r .table) none (r .order) v (stateOf r))
+  next-same v = rw (step-same (r .table) none (r .order) v (stateOf r))
 
   pub coming-same : comingSlot r ≡ Then.comingSlot r
   unfolding comingSlot Then.comingSlot

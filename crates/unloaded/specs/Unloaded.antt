@@ -1,5 +1,6 @@
--- What the rules said before jobs could load, of tables, orders and runs: needs without loading, and slots that all bring their supply. Of
--- whatever does not speak of needs, of work got or of K it uses the rules' own definitions. K is not looked at.
+-- What the rules say where jobs do not load, of tables, orders and runs: needs without loading, and slots that all bring their supply. Of
+-- whatever does not speak of needs, of work got or of K it uses the rules' own definitions, the look at the clock among them (rule 19.2). K is
+-- not looked at.
 use Prim.Native.Nat.{ℕ, zero, suc, _+_, _-_, _/_, _≤_, min}
 use mathlib.Core.Bool.{Bool, true, cond, _&&_, _||_}
 use mathlib.Core.List.{List, [], _∷_}
@@ -22,6 +23,7 @@ use Rattle.rules.specs.Correct.{KeptIn}
 use Rattle.rules.specs.Lists.{all, first, erase, sum, greatest}
 use Rattle.rules.specs.Orders.{checkOrder, andThen}
 use Rattle.rules.specs.Rows.{at, put, isRow, rowsOf, releaseOf, workOf, deadlineOf, isLow, isHigh}
+use Rattle.rules.specs.Running.{closeLate}
 use Rattle.rules.specs.Slots.{State, fresh, chosen, idle}
 use Rattle.rules.specs.Tables.{countOk, speedsOk, rowOk, tailOk}
 use Rattle.rules.specs.Worst.{worstSpeed}
@@ -129,13 +131,17 @@ judgeChecked (Checks.Refused r) t o = Refused r
 unfoldable pub judgeOf : Table → List ℕ → Verdict
 judgeOf t o = judgeChecked (checkBoth t o) t o
 
+-- a step by the running rule: the slot, and the rules' own look at the clock
+unfoldable pub runSlot : Table → List ℕ → ℕ → State → State
+runSlot t o v s = closeLate t (slot t o v s)
+
 -- the calls on paper
 unfoldable pub tellOne : Table → List ℕ → ℕ → State → Told
-tellOne t o v s = cond (ltb (s .clock) lastClock) (told 0 (chosen t o s) (slot t o v s)) (told 8 0 s)
+tellOne t o v s = cond (ltb (s .clock) lastClock) (told 0 (chosen t o s) (runSlot t o v s)) (told 8 0 s)
 
 unfoldable pub tellForward : Table → List ℕ → ℕ → List ℕ → State → Told
 tellForward t o k [] s = told 0 k s
-tellForward t o k (v ∷ vs) s = cond (ltb (s .clock) lastClock) (tellForward t o (k + 1) vs (slot t o v s)) (told 8 k s)
+tellForward t o k (v ∷ vs) s = cond (ltb (s .clock) lastClock) (tellForward t o (k + 1) vs (runSlot t o v s)) (told 8 k s)
 
 abbrev pub tell : Table → List ℕ → Call → State → Told
 tell t o (one v) s = tellOne t o v s

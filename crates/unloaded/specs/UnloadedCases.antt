@@ -16,6 +16,7 @@ use Rattle.rules.specs.Numbers.{refusalNumber, checkNumber, plannedNumber, rows
 use Rattle.rules.specs.Orders.{isOrder, checkOrder}
 use Rattle.rules.specs.Rows.{at, rowsOf}
 use Rattle.rules.specs.Sheets.{isLine, numberAt}
+use Rattle.rules.specs.Running.{closeLate}
 use Rattle.rules.specs.Slots.{State, fresh, isReady, chosen}
 use Rattle.rules.specs.Tables.{rowOk, tailOk}
 use Rattle.rules.specs.TextCases.{bytes}
@@ -69,5 +70,5 @@ sheets =
     (bytes "       1       3       2       0\n       4      56     789       1\n")
 
 pub before-loading : T (verdicts && runs && sheets)
-unfolding padded sequence word tableOf refusalNumber checkNumber plannedNumber rowsLeft verdictNumber verdictYes verdictRow isOrder checkOrder fresh isReady chosen rowOk tailOk tailSound digitAt digitOf written valueOf isField isLine numberAt Records.rowSound Records.isSound Records.nextRun Sheets.columnOf Sheets.tableIn Sheets.checkSheet Sheets.withField Then.need Then.isOver Then.serve Then.slot Then.after Then.horizon Then.worstFinish Then.slack Then.checkTable Then.checkBoth Then.passes Then.taker Then.fill Then.choice Then.planOf Then.tightest Then.judgeOf Then.tellOne Then.tellForward Then.tellAll
+unfolding padded sequence word tableOf refusalNumber checkNumber plannedNumber rowsLeft verdictNumber verdictYes verdictRow isOrder checkOrder fresh isReady chosen rowOk tailOk tailSound digitAt digitOf written valueOf isField isLine numberAt Records.rowSound Records.isSound Records.nextRun Sheets.columnOf Sheets.tableIn Sheets.checkSheet Sheets.withField Then.need Then.isOver Then.serve Then.slot Then.after Then.horizon Then.worstFinish Then.slack Then.checkTable Then.checkBoth Then.passes Then.taker Then.fill Then.choice Then.planOf Then.tightest Then.judgeOf Then.runSlot Then.tellOne Then.tellForward Then.tellAll closeLate
 before-loading = tt

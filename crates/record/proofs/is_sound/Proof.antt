@@ -11,8 +11,8 @@ use Rattle.record.proofs.is_sound.Statement.{statement}
 use Rattle.record.proofs.is_sound.Tie as tie
 
 -- the place past the checks of the table, the order and the clock, from where the rows are checked
-abbrev clock-passed : tie.After-rows-sound-arg5 → tie.Else2
-clock-passed c = c .before .before .before .before .before .before
+abbrev clock-passed : tie.After-rows-sound-arg6 → tie.Else2
+clock-passed c = c .before .before .before .before .before .before .before
 
 passes-requires : tie.Need-passes-requires
 passes-requires c κs = search needs

@@ -1,4 +1,4 @@
--- `record::Run::next` meets its contract: the order of a sound record holds rows in its first n places, so the row chosen over the columns
+-- `record::Run::work` meets its contract: the order of a sound record holds rows in its first n places, so the row chosen over the columns
 -- is the record's. Row 0 leaves the slot idle, and any other row's entries become the definition's; its slots used are at most the clock.
 -- Assumes nothing.
 use Prim.Native.Nat.{_-_, _<_}
@@ -8,9 +8,9 @@ use borrow.Author.Needs.{needs}
 use Rattle.rules.specs.Slots.{isReady, chosen}
 use Rattle.record.specs.Records.{chosenRow}
 use Rattle.record.specs.Sound.{speeds, Serving, serving, order-placed}
-use Rattle.record.specs.Stepping.{next-idle, served-from, next-served}
-use Rattle.record.proofs.Run.next.Statement.{statement}
-use Rattle.record.proofs.Run.next.Tie as tie
+use Rattle.record.specs.Stepping.{worked-idle, served-from, worked-served}
+use Rattle.record.proofs.Run.work.Statement.{statement}
+use Rattle.record.proofs.Run.work.Tie as tie
 
 -- the places of the branch that serves a row, each from a later one: the row is known, its work is read, its level is read,
 -- its slots used are read
@@ -43,7 +43,7 @@ add-after c = search needs
 returns : tie.Need-returns
 returns c =
     let a = c .before in
-    sym (next-idle (start a .args .t1) (start a .args .supply) (a .chosen-row .result) (is-chosen a) (c .if1 .taken))
+    sym (worked-idle (start a .args .t1) (start a .args .supply) (a .chosen-row .result) (is-chosen a) (c .if1 .taken))
 
 -- what is known of a row that runs
 row-facts : (c : tie.Else1) → Serving (start (c .before) .args .t1) (c .before .chosen-row .result)
@@ -130,10 +130,10 @@ returns-2 c =
     let w = work-read b in
     served-from (x .t1) (x .supply) (a .before .chosen-row .result) (w .entry .result) (b .entry2 .result) (c .before .grown .result)
     (c .closing-slot .result) (w .entry .ensures) (b .entry2 .ensures) (c .before .grown .ensures) (c .closing-slot .ensures)
-    ∙ sym (next-served (x .t1) (x .supply) (a .before .chosen-row .result) (is-chosen (a .before)) (a .if1 .left))
+    ∙ sym (worked-served (x .t1) (x .supply) (a .before .chosen-row .result) (is-chosen (a .before)) (a .if1 .left))
 
-pub next-spec : {M : Type 1} → statement M
-next-spec =
+pub work-spec : {M : Type 1} → statement M
+work-spec =
     tie.close
     (tie.spec
     chosen-row-requires
