@@ -1,5 +1,6 @@
 //! A loading time of 0 slots changes no answer of the library: it answers as the
-//! model did before tables had one.
+//! model did before tables had one, and so do its one slot and forward where there is
+//! no late preview to drop.
 
 use compiled::library;
 use model::before::{answers, Calls, STORED};

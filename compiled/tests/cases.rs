@@ -1,10 +1,11 @@
 //! The cases that must hold on the compiled library, starred and also run
 //! (section 13 of the rules). In the starred ones no job loads; after them come
-//! cases in which jobs do.
+//! cases in which jobs do, and cases in which previews are late.
 
 use compiled::{library, raw};
 use model::cases::{
-    at_loading, at_loading_planned, loading_runs, no_order, ordered, p1, p3, row, table,
+    at_loading, at_loading_planned, late_runs, loading_runs, no_order, ordered, p1, p3, row,
+    serving, table, HandRun,
 };
 use model::judge::Verdict;
 use model::order::{order_of, NO_ORDER};
@@ -63,27 +64,46 @@ fn p7_and_p8_are_run() {
     assert_eq!(normal.got[..2], [2, 4]);
 }
 
-/// Slot by slot and in one call; a preempted job goes on loading, or does not load
-/// again (rules 1.9, 1.10, 2.14).
+/// The library works the run as it says, slot by slot and in one call.
+fn assert_worked(case: &HandRun) {
+    let what = case.what;
+    let (number, mut record) = library::fresh(&case.table, &case.order);
+    assert_eq!(number, 0, "{what}");
+    let whole = library::forward(&record, &case.supplies);
+    for (&supply, &row) in case.supplies.iter().zip(&case.rows) {
+        let coming = library::coming(&record);
+        let slot = library::one_slot(&record, supply);
+        assert_eq!((slot.number, slot.row), (0, row), "{what}");
+        assert_eq!(coming, (0, row), "{what}");
+        record = slot.record;
+    }
+    let entries = |index: usize| [record.got[index], record.used[index], record.closing[index]];
+    let ends: Vec<[u32; 3]> = (0..case.table.n as usize).map(entries).collect();
+    assert_eq!(ends, case.ends, "{what}");
+    assert_eq!(whole.record, record, "{what}");
+}
+
+/// A preempted job goes on loading, or does not load again (rules 1.9, 1.10, 2.14).
 #[test]
 fn runs_that_load() {
-    for case in loading_runs() {
-        let what = case.what;
-        let (number, mut record) = library::fresh(&case.table, &case.order);
-        assert_eq!(number, 0, "{what}");
-        let whole = library::forward(&record, &case.supplies);
-        for (&supply, &row) in case.supplies.iter().zip(&case.rows) {
-            let coming = library::coming(&record);
-            let slot = library::one_slot(&record, supply);
-            assert_eq!((slot.number, slot.row), (0, row), "{what}");
-            assert_eq!(coming, (0, row), "{what}");
-            record = slot.record;
-        }
-        let entries = |index: usize| [record.got[index], record.used[index], record.closing[index]];
-        let ends: Vec<[u32; 3]> = (0..case.table.n as usize).map(entries).collect();
-        assert_eq!(ends, case.ends, "{what}");
-        assert_eq!(whole.record, record, "{what}");
+    loading_runs().iter().for_each(assert_worked);
+}
+
+/// A preview that is late is dropped at its deadline, and one that is done by its last
+/// slot is done (rules 13.13, 19.2 to 19.4).
+#[test]
+fn runs_with_late_previews() {
+    for case in late_runs() {
+        assert_worked(&case.run);
     }
+}
+
+/// The planner answers by the planning rule (rules 13.13, 19.8).
+#[test]
+fn a_table_without_a_correct_order_that_is_served() {
+    assert_eq!(library::plan(&serving()), no_order(0b111));
+    let (_, finishes) = library::finishes(&serving(), &order_of(&[1, 2, 3]));
+    assert_eq!(finishes[..3], [2, 3, 5], "slacks 0 0 -1");
 }
 
 #[test]
@@ -116,9 +136,9 @@ fn loading_of_16_and_of_17_slots() {
 }
 
 #[test]
-fn the_interface_has_number_2() {
+fn the_interface_has_number_3() {
     // SAFETY: the call takes nothing.
-    assert_eq!(unsafe { raw::jb_version() }, 2);
+    assert_eq!(unsafe { raw::jb_version() }, 3);
 }
 
 #[test]

@@ -20,7 +20,9 @@ use model::sheet::{
     ROW_LINE,
 };
 use model::speeds::{Least, Sought, BOTH};
-use model::table::{check_table, Row, Table, HI, LATEST_DEADLINE, MOST_LOADING, MOST_SPEED, ROWS};
+use model::table::{
+    allowance, check_table, Row, Table, HI, LATEST_DEADLINE, MOST_LOADING, MOST_SPEED, ROWS,
+};
 use std::io::Write;
 use std::process::{Command, Stdio};
 
@@ -475,8 +477,15 @@ fn slacks_at_each_speed() {
     tally.assert_common(&[(0, 0), (0, 1), (2, 0), (2, 1)], 3);
 }
 
+/// How a row closed, in plain form.
+const DROPPED: u32 = 2;
+const DROPPED_FOR_DEADLINE: u32 = 4;
+/// The same of a row that did not run in the slot: such a line is about no slot.
+const DROPPED_NOT_RUN: u32 = 5;
+
 /// A line for each slot of the run on paper: slot, row, got, work, how it closed,
-/// and 1 if the row loaded in it.
+/// and 1 if the row loaded in it. After it, one for each other row that the clock
+/// dropped when the slot ended.
 fn run_on_paper(table: &Table, order: &Order, supplies: &[u32]) -> Vec<[u32; 6]> {
     let mut state = State::FRESH;
     let mut lines = Vec::new();
@@ -500,16 +509,27 @@ fn run_on_paper(table: &Table, order: &Order, supplies: &[u32]) -> Vec<[u32; 6]>
             closing(table, &state, row),
             u32::from(loads),
         ]);
+        for other in (1..=table.n as u8).filter(|&other| other != row) {
+            let index = other as usize - 1;
+            if state.closing[index] == state.clock {
+                let (got, work) = (state.got[index], table.row(other).work);
+                lines.push([slot as u32, u32::from(other), got, work, DROPPED_NOT_RUN, 0]);
+            }
+        }
     }
     lines
 }
 
-/// 0 not closed, 1 done, 2 dropped, 3 done late.
+/// 0 not closed, 1 done, 2 dropped with its slots used up, 3 done late, 4 dropped
+/// for its deadline (rule 19.9).
 fn closing(table: &Table, state: &State, row: u8) -> u32 {
     if row == 0 || state.closing[row as usize - 1] == 0 {
         0
     } else if state.got[row as usize - 1] < table.row(row).work {
-        2
+        match state.used[row as usize - 1] < allowance(table, row) {
+            true => DROPPED_FOR_DEADLINE,
+            false => DROPPED,
+        }
     } else if kept_deadline(table, state, row) {
         1
     } else {
@@ -518,17 +538,25 @@ fn closing(table: &Table, state: &State, row: u8) -> u32 {
 }
 
 /// Slots put together while the same row, or none, runs and has not closed:
-/// first slot, slots, row, how it closed, loading slots.
+/// first slot, slots, row, how it closed, loading slots. After them the rows that
+/// were dropped meanwhile without running: at their deadlines, with no slots.
 fn stretches(slots: &[[u32; 6]]) -> Vec<[u32; 5]> {
     let mut put_together: Vec<[u32; 5]> = Vec::new();
+    let mut last = 0; // the stretch in the making; what follows it was dropped meanwhile
     for &[slot, row, _, _, closed, loads] in slots {
-        match put_together.last_mut() {
-            Some(last) if last[2] == row && last[3] == 0 => {
-                last[1] += 1;
-                last[3] = closed;
-                last[4] += loads;
+        match put_together.get_mut(last) {
+            Some(_) if closed == DROPPED_NOT_RUN => {
+                put_together.push([slot + 1, 0, row, closed, 0]);
             }
-            _ => put_together.push([slot, 1, row, closed, loads]),
+            Some(stretch) if stretch[2] == row && stretch[3] == 0 => {
+                stretch[1] += 1;
+                stretch[3] = closed;
+                stretch[4] += loads;
+            }
+            _ => {
+                last = put_together.len();
+                put_together.push([slot, 1, row, closed, loads]);
+            }
         }
     }
     put_together
@@ -595,11 +623,14 @@ fn runs_by_slots_and_by_stretches() {
         assert_eq!(by_stretches, (lines_of(table.n, &together), 0), "{table:?}");
         for [_, length, _, closed, loading] in together {
             closings.saw(closed);
-            lengths.saw(length.ilog2());
-            loadings.saw((loading != 0, loading == length));
+            if closed != DROPPED_NOT_RUN {
+                lengths.saw(length.ilog2());
+                loadings.saw((loading != 0, loading == length));
+            }
         }
     }
-    closings.assert_common(&[0, 1, 2, 3], 100);
+    closings.assert_common(&[0, 1, 2, 3, 5], 100);
+    closings.assert_common(&[DROPPED_FOR_DEADLINE], 50);
     lengths.assert_common(&[0, 1, 2, 3, 4, 5, 6, 7, 8, 9, 10], 10);
     loadings.assert_common(&[(false, false), (true, false), (true, true)], 100);
 }
@@ -613,7 +644,8 @@ fn slots_of(count: u32) -> String {
 fn closing_words(table: &Table, row: u32, clock: u32, closed: u32) -> String {
     match closed {
         0 => String::new(),
-        2 => format!(", dropped at clock {clock}"),
+        DROPPED => format!(", dropped at clock {clock}, its slots used up"),
+        DROPPED_FOR_DEADLINE => format!(", dropped at clock {clock}, its deadline"),
         1 => format!(", done at clock {clock}"),
         _ => {
             let late = clock - table.row(row as u8).deadline;
@@ -622,10 +654,21 @@ fn closing_words(table: &Table, row: u32, clock: u32, closed: u32) -> String {
     }
 }
 
+/// The words for a row that the clock dropped while another one ran in this slot.
+fn dropped_words(&[slot, row, got, work, ..]: &[u32; 6]) -> String {
+    let clock = slot + 1;
+    format!("at clock {clock}: row {row}, got {got} of {work} work units, dropped at its deadline")
+}
+
 /// The words for each slot of a run on paper.
 fn slot_words(table: &Table, slots: &[[u32; 6]], supplies: &[u32]) -> Vec<String> {
     let mut loaded = [0; ROWS];
-    let words = |(&[slot, row, got, work, closed, loads], supply): (&[u32; 6], &u32)| {
+    let words = |line: &[u32; 6]| {
+        let &[slot, row, got, work, closed, loads] = line;
+        let supply = supplies[slot as usize];
+        if closed == DROPPED_NOT_RUN {
+            return dropped_words(line);
+        }
         if row == 0 {
             return format!("slot {slot}: idle, supply {supply} work units");
         }
@@ -641,12 +684,17 @@ fn slot_words(table: &Table, slots: &[[u32; 6]], supplies: &[u32]) -> Vec<String
              got {got} of {work} work units{closing}"
         )
     };
-    slots.iter().zip(supplies).map(words).collect()
+    slots.iter().map(words).collect()
 }
 
-/// The words for each stretch of a run on paper.
-fn stretch_words(table: &Table, stretches: &[[u32; 5]]) -> Vec<String> {
+/// The words for each stretch of a run on paper, which is made of these slots.
+fn stretch_words(table: &Table, paper: &[[u32; 6]], stretches: &[[u32; 5]]) -> Vec<String> {
     let words = |&[first, length, row, closed, loading]: &[u32; 5]| {
+        if closed == DROPPED_NOT_RUN {
+            let dropped = |line: &&[u32; 6]| line[1] == row && line[4] == DROPPED_NOT_RUN;
+            let line = paper.iter().find(dropped).expect("dropped once");
+            return dropped_words(line);
+        }
         let slots = slots_of(length);
         let loading = match loading {
             0 => String::new(),
@@ -663,11 +711,13 @@ fn stretch_words(table: &Table, stretches: &[[u32; 5]]) -> Vec<String> {
     stretches.iter().map(words).collect()
 }
 
-/// Runs in words name the loading slots, and no others.
+/// Runs in words name the loading slots, and no others, and say of each dropped row
+/// why.
 #[test]
 fn runs_in_words() {
     let mut random = Random::seeded(713);
     let mut tally = Tally::new("command run in words, loading slots and others");
+    let mut closings = Tally::new("command run in words, how rows closed");
     for _ in 0..200 {
         let table = a_table(&mut random);
         let order = random_order(&mut random, table.n);
@@ -692,12 +742,17 @@ fn runs_in_words() {
         );
         arguments.push("--stretches");
         let together = stretches(&paper);
-        assert_eq!(said_between(&arguments), stretch_words(&table, &together));
-        for [_, row, _, _, _, loads] in paper {
-            tally.saw((row != 0, loads));
+        let expected = stretch_words(&table, &paper, &together);
+        assert_eq!(said_between(&arguments), expected);
+        for [_, row, _, _, closed, loads] in paper {
+            closings.saw(closed);
+            if closed != DROPPED_NOT_RUN {
+                tally.saw((row != 0, loads));
+            }
         }
     }
     tally.assert_common(&[(false, 0), (true, 0), (true, 1)], 1_000);
+    closings.assert_common(&[0, 1, 2, 3, 4, 5], 20);
 }
 
 /// A run to the last clock by stretches is the model's, and one supply more is

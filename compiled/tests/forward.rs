@@ -1,19 +1,23 @@
-//! Forward of the library against the model's, in one call and in parts. Every
-//! loading time from 0 to 16 slots comes up.
+//! Forward of the library against the model's, in one call and in parts, over deadlines
+//! too. Every loading time from 0 to 16 slots comes up.
 
 mod common;
 
 use common::records::{
     any_record, fresh_record, reached_record, sound_record, sound_record_at, unsound_record,
-    CLAUSES,
+    with_sound_figures, CLAUSES,
 };
 use common::{supplies, Loadings, Tally};
 use compiled::library;
 use compiled::sheets::{easy, easy_loading, hard, random_order};
 use model::calls::{play_on_paper, Answer, Call, LAST_CLOCK};
+use model::cases::row;
+use model::order::order_of;
 use model::plain;
 use model::random::Random;
 use model::record::{Forward, Record};
+use model::run::is_finished;
+use model::table::{Table, HI, LATEST_DEADLINE, LO};
 
 /// Compares forward over these supplies; gives the answer.
 fn compare(record: &Record, supplies: &[u32]) -> Forward {
@@ -142,6 +146,137 @@ fn splitting() {
         tally.saw(number);
     }
     tally.assert_common(&[0, 8], 2_000);
+}
+
+/// The same list in one call, cut at every deadline that it comes to, and slot by slot.
+fn compare_in_parts(record: &Record, list: &[u32]) -> Forward {
+    let whole = compare(record, list);
+    let (n, from) = (record.table.n as usize, record.clock);
+    let mut cuts: Vec<u32> = record.table.deadline[..n].to_vec();
+    cuts.sort_unstable();
+    cuts.retain(|&deadline| deadline > from && deadline - from < list.len() as u32);
+    let (mut parts, mut worked, mut start) = (*record, 0, 0);
+    for end in cuts.into_iter().map(|deadline| (deadline - from) as usize) {
+        let answer = compare(&parts, &list[start..end]);
+        (parts, start) = (answer.record, end);
+        worked += answer.worked;
+    }
+    let last = compare(&parts, &list[start..]);
+    assert_eq!(
+        (last.number, worked + last.worked),
+        (whole.number, whole.worked)
+    );
+    assert_eq!(last.record, whole.record);
+    let mut slots = *record;
+    for &supply in &list[..whole.worked as usize] {
+        let answer = library::one_slot(&slots, supply);
+        assert_eq!(answer.number, 0, "{slots:?}");
+        slots = answer.record;
+    }
+    assert_eq!(slots, whole.record);
+    whole
+}
+
+/// How many LO rows were closed on the way at their deadlines with work missing and
+/// allowance left.
+fn dropped_for_deadlines(before: &Record, after: &Record) -> usize {
+    let is_dropped = |&row: &u8| {
+        let index = row as usize - 1;
+        let (got, used) = (after.got[index], after.used[index]);
+        before.closing[index] == 0
+            && after.closing[index] != 0
+            && !is_finished(&after.table, row, got, used)
+    };
+    (1..=after.table.n as u8).filter(is_dropped).count()
+}
+
+/// Fresh records, reached ones and ones that no run reaches, worked over some deadlines
+/// or all.
+#[test]
+fn splitting_at_deadlines() {
+    let mut random = Random::seeded(508);
+    let mut tally = Tally::new("forward, cut at deadlines, rows dropped for theirs");
+    let mut loadings = Loadings::new("forward, cut at deadlines, by K");
+    for round in 0..6_000 {
+        let record = match round % 3 {
+            0 => fresh_record(&mut random),
+            1 => reached_record(&mut random),
+            _ => {
+                let clock = random.between(0, 60);
+                sound_record_at(&mut random, clock)
+            }
+        };
+        let count = random.between(1, 120);
+        let list = match random.between(0, 1) {
+            0 => supplies(&mut random, count),
+            _ => vec![random.between(0, 1); count as usize],
+        };
+        let answer = compare_in_parts(&record, &list);
+        tally.saw(dropped_for_deadlines(&record, &answer.record).min(5));
+        loadings.saw(answer.number, &record.table);
+    }
+    tally.assert_common(&[0, 1, 2, 3, 4, 5], 30);
+    loadings.assert_every(100);
+}
+
+/// A HI row of the most work and 63 previews below it, with these deadlines in slots.
+fn previews_below(deadlines: impl Fn(u32) -> u32) -> Record {
+    let high = row([0, 1_000_000, 1_000_000, HI]);
+    let preview = |index| row([0, 2, deadlines(index), LO]);
+    let mut rows = vec![high];
+    rows.extend((1..64).map(preview));
+    let places: Vec<u8> = (1..=64).collect();
+    Record::fresh(&Table::of(1, 1, 0, &rows), &order_of(&places)).1
+}
+
+/// One row of 64 is dropped by each slot, or some by every few, or all by one. The HI row
+/// runs on, so that no other has a slot, unless a supply is large enough to end it.
+#[test]
+fn sixty_four_rows() {
+    let mut random = Random::seeded(509);
+    for every in [1, 2, 7, 63] {
+        let fresh = previews_below(|index| 1 + (index - 1) / every * every);
+        for count in [0, 1, 2, 8, 62, 63, 64, 70] {
+            let after = compare_in_parts(&fresh, &vec![5; count as usize]).record;
+            let is_reached = |deadline: &&u32| **deadline <= count;
+            let reached = fresh.table.deadline[1..].iter().filter(is_reached);
+            let dropped = dropped_for_deadlines(&fresh, &after);
+            assert_eq!(dropped, reached.count(), "every {every}, {count} slots");
+            compare_in_parts(&fresh, &supplies(&mut random, count));
+        }
+        let after = compare_in_parts(&fresh, &[0; 70]).record;
+        assert_eq!(after.closing[1..], fresh.table.deadline[1..]);
+    }
+}
+
+/// The latest deadline there is and its neighbours, reached from a fresh record and from
+/// a clock near them.
+#[test]
+fn the_latest_deadline() {
+    let mut random = Random::seeded(510);
+    let latest = LATEST_DEADLINE;
+    let fresh = previews_below(|index| latest - index % 3);
+    let nothing = vec![0; latest as usize + 2];
+    for count in [latest - 3, latest - 2, latest - 1, latest, latest + 2] {
+        let after = compare(&fresh, &nothing[..count as usize]).record;
+        let is_reached = |deadline: &&u32| **deadline <= count;
+        let reached = fresh.table.deadline[1..].iter().filter(is_reached);
+        let dropped = dropped_for_deadlines(&fresh, &after);
+        assert_eq!(dropped, reached.count(), "{count} slots");
+    }
+    let mut tally = Tally::new("forward, over the latest deadline, rows dropped for theirs");
+    for _ in 0..3_000 {
+        let mut near = fresh_record(&mut random);
+        for deadline in &mut near.table.deadline[..near.table.n as usize] {
+            *deadline = latest - random.between(0, 3);
+        }
+        let clock = random.between(latest - 6, latest + 1);
+        let record = with_sound_figures(&mut random, near, clock);
+        let count = random.between(0, 8);
+        let answer = compare_in_parts(&record, &supplies(&mut random, count));
+        tally.saw(dropped_for_deadlines(&record, &answer.record).min(3));
+    }
+    tally.assert_common(&[0, 1, 2, 3], 50);
 }
 
 /// A whole list of calls of both kinds against the run on paper, which is fed

@@ -4,6 +4,12 @@
 //! Tables, orders, sheets and records come from a fixed seed. All that a call
 //! answered to them is taken into one number for that call; `STORED` holds the
 //! numbers that the calls of the model gave while no table had a loading time.
+//!
+//! One slot and forward have since come to drop LO rows at their deadlines. They
+//! answer as before where there is nothing to drop (rule 19.7), and that is where
+//! they are compared: on records of tables without a LO row, and on records in which
+//! no LO row's deadline is reached by any slot that is worked. Those tables are made
+//! of the others, whose answers from all other calls are compared as they are.
 
 use crate::cases::row;
 use crate::judge::Verdict;
@@ -13,7 +19,7 @@ use crate::random::Random;
 use crate::record::{Forward, OneSlot, Record};
 use crate::report::LONGEST_REPORT;
 use crate::sheet::{sheet_of, FIELD, FIRST_LINE, LONGEST_SHEET};
-use crate::table::{Row, Table};
+use crate::table::{Row, Table, HI, LO};
 
 /// The calls whose answers are compared, of the model or of the library.
 pub struct Calls {
@@ -47,8 +53,8 @@ pub const STORED: Answers = Answers {
     plan: 0x4463_094A_56DF_1B05,
     judge: 0x9C60_6B13_CCDF_9463,
     report: 0xE990_3A89_59B2_0559,
-    one_slot: 0x7AF2_9A64_ACA7_3217,
-    forward: 0x9142_FE1D_02EB_663D,
+    one_slot: 0x1618_09BC_E563_F462,
+    forward: 0x5389_CBC1_D179_AB78,
     program: 0xF9B9_2A91_65BF_0E0F,
 };
 
@@ -60,7 +66,7 @@ pub fn answers(calls: &Calls) -> Answers {
     let mut random = Random::seeded(901);
     let [mut read, mut write, mut plan, mut judge] = [Digest(0); 4];
     let [mut report, mut one_slot, mut forward, mut program] = [Digest(0); 4];
-    for _ in 0..ROUNDS {
+    for round in 0..ROUNDS {
         let table = table(&mut random);
         let sheet = with_loading_field(&damaged_old_sheet(&mut random, &table));
         read.read(&(calls.read)(&sheet));
@@ -72,11 +78,19 @@ pub fn answers(calls: &Calls) -> Answers {
         judge.verdict(&(calls.judge)(&table, &order));
         report.report(&table, &order, calls.report);
         let supplies = supplies(&mut random);
+        let table = if round % 2 == 0 {
+            without_previews(&table)
+        } else {
+            with_time_for_previews(&table)
+        };
         let (number, fresh) = Record::fresh(&table, &order);
         forward.word(number);
         let worked = (calls.forward)(&fresh, &supplies);
         forward.forward(&worked);
-        let record = perhaps_changed(&mut random, worked.record);
+        let mut record = perhaps_changed(&mut random, worked.record);
+        if round % 2 == 1 {
+            record.clock = record.clock.min(BEFORE_PREVIEWS_END);
+        }
         one_slot.one_slot(&(calls.one_slot)(&record, supplies[0]));
         forward.forward(&(calls.forward)(&record, &supplies));
     }
@@ -91,6 +105,33 @@ pub fn answers(calls: &Calls) -> Answers {
         program: program.0,
     }
 }
+
+/// The table with HI rows in the place of LO rows.
+fn without_previews(table: &Table) -> Table {
+    let mut changed = *table;
+    for level in &mut changed.level[..table.n.min(6) as usize] {
+        *level = (*level).max(HI);
+    }
+    changed
+}
+
+/// The table with later deadlines, by so many slots, for its LO rows.
+fn with_time_for_previews(table: &Table) -> Table {
+    let mut changed = *table;
+    for index in 0..table.n.min(6) as usize {
+        if table.level[index] == LO {
+            let later = table.deadline[index].saturating_add(TIME_FOR_PREVIEWS);
+            changed.deadline[index] = later;
+        }
+    }
+    changed
+}
+
+/// Slots that `with_time_for_previews` adds.
+const TIME_FOR_PREVIEWS: u32 = 900_000;
+
+/// A clock, in slots, from which no list of supplies comes near such a deadline.
+const BEFORE_PREVIEWS_END: u32 = 800_000;
 
 /// Where the field of K stands in a sheet's first line.
 const LOADING_AT: usize = FIRST_LINE - 1 - FIELD;

@@ -1,7 +1,8 @@
-//! The two run calls on paper. They never look into a record (rule 9.6).
+//! The two run calls on paper. They never look into a record, and each of their
+//! steps is one by the running rule (rule 9.6).
 
 use crate::order::Order;
-use crate::run::{step, State};
+use crate::run::{running_step, State};
 use crate::table::Table;
 
 /// The clock at which no further slot is worked, in slots (rule 8.13).
@@ -37,7 +38,7 @@ pub fn one_slot_on_paper(
     if state.clock == LAST_CLOCK {
         return (8, 0);
     }
-    (0, step(table, order, state, supply))
+    (0, running_step(table, order, state, supply))
 }
 
 /// Forward: as many steps as supplies, with number 0 and that count. A supply
@@ -53,7 +54,7 @@ pub fn forward_on_paper(
         if state.clock == LAST_CLOCK {
             return (8, worked);
         }
-        step(table, order, state, supply);
+        running_step(table, order, state, supply);
         worked += 1;
     }
     (0, worked)

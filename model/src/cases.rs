@@ -1,5 +1,5 @@
-//! The tables and answers of cases P1 to P4 (section 13 of the rules), and cases
-//! and reports worked out by hand, for tests here and of the compiled library.
+//! The tables and answers of cases P1 to P4 (section 13 of the rules), and cases,
+//! runs and reports worked out by hand, for tests here and of the compiled library.
 
 use crate::order::{order_of, Order, NO_ORDER};
 use crate::plan::Plan;
@@ -83,7 +83,7 @@ pub fn at_loading_planned() -> [Plan; 3] {
 }
 
 /// A run from a fresh record, worked out by hand.
-pub struct LoadingRun {
+pub struct HandRun {
     pub what: &'static str,
     pub table: Table,
     pub order: Order,
@@ -95,27 +95,40 @@ pub struct LoadingRun {
     pub ends: Vec<[u32; 3]>,
 }
 
-/// Row 1 is LO, takes 2 slots at N when it has loaded for 2 slots, and is
-/// preempted by row 2, released at this slot, which loads for as long.
-fn preempted(release: u32) -> Table {
-    table(2, 1, &[[0, 4, 9, 0], [release, 2, 9, 1]]).with_loading(2)
-}
-
-/// One row of 4 work units and N of 2, at this level.
-fn alone(level: u32, loading: u32) -> Table {
-    table(2, 1, &[[0, 4, 9, level]]).with_loading(loading)
-}
-
-/// Runs in which jobs load (rules 1.9, 1.10 and 2.14; those of rule 13.11 are here).
-pub fn loading_runs() -> Vec<LoadingRun> {
-    let run = |what, table, order: &[u8], supplies, rows: &[u8], ends: &[[u32; 3]]| LoadingRun {
+/// Such a run in one line.
+fn hand_run(
+    what: &'static str,
+    table: Table,
+    order: &[u8],
+    supplies: Vec<u32>,
+    rows: &[u8],
+    ends: &[[u32; 3]],
+) -> HandRun {
+    HandRun {
         what,
         table,
         order: order_of(order),
         supplies,
         rows: rows.to_vec(),
         ends: ends.to_vec(),
-    };
+    }
+}
+
+/// Row 1 is LO, takes 2 slots at N when it has loaded for 2 slots, and is
+/// preempted by row 2, released at this slot, which loads for as long.
+fn preempted(release: u32) -> Table {
+    table(2, 1, &[[0, 4, 9, 0], [release, 2, 9, 1]]).with_loading(2)
+}
+
+/// One row of 4 work units and N of 2, at this level, with 20 slots.
+fn alone(level: u32, loading: u32) -> Table {
+    table(2, 1, &[[0, 4, 20, level]]).with_loading(loading)
+}
+
+/// Runs in which jobs load (rules 1.9, 1.10 and 2.14; those of rule 13.11 are here).
+/// No LO job is late in them, so that both rules of a slot make them (rule 19.7).
+pub fn loading_runs() -> Vec<HandRun> {
+    let run = hand_run;
     vec![
         run(
             "preempted between its loading slots, it goes on loading",
@@ -196,6 +209,233 @@ pub fn loading_runs() -> Vec<LoadingRun> {
             vec![u32::MAX; 17],
             &[1; 17],
             &[[4, 17, 17]],
+        ),
+    ]
+}
+
+/// A run by the running rule, and what the planning rule makes of it.
+pub struct LateRun {
+    pub run: HandRun,
+    /// The row that each slot runs by the planning rule.
+    pub planned_rows: Vec<u8>,
+    /// Work got, slots used and closing slot of each row by the planning rule.
+    pub planned_ends: Vec<[u32; 3]>,
+}
+
+/// A run that both rules make.
+fn by_either_rule(run: HandRun) -> LateRun {
+    LateRun {
+        planned_rows: run.rows.clone(),
+        planned_ends: run.ends.clone(),
+        run,
+    }
+}
+
+/// A run by the running rule, and the rows and ends by the planning rule.
+fn by_running_rule(run: HandRun, planned_rows: &[u8], planned_ends: &[[u32; 3]]) -> LateRun {
+    LateRun {
+        run,
+        planned_rows: planned_rows.to_vec(),
+        planned_ends: planned_ends.to_vec(),
+    }
+}
+
+/// A LO row of this work (work units) with 2 slots, alone; N is 2.
+fn preview(work: u32) -> Table {
+    table(2, 1, &[[0, work, 2, 0]])
+}
+
+/// Row 1 is HI and takes 6 slots of 1 work unit each; the others are LO and have 2
+/// slots.
+fn previews_below(previews: usize) -> Table {
+    let mut rows = vec![[0, 6, 9, 1]];
+    rows.extend(vec![[0, 2, 2, 0]; previews]);
+    table(2, 1, &rows)
+}
+
+/// A table without a correct order for which the order 1, 2, 3 serves (rules 13.13
+/// and 19.8).
+pub fn serving() -> Table {
+    table(2, 1, &[[0, 2, 2, 1], [0, 3, 3, 0], [0, 1, 4, 1]])
+}
+
+/// P7 and P8, the runs of rule 13.13 after them, and then some of our own.
+pub fn late_runs() -> Vec<LateRun> {
+    let mut runs = late_runs_of_the_rule();
+    runs.extend(more_late_runs());
+    runs
+}
+
+/// The runs of rule 13.13.
+fn late_runs_of_the_rule() -> Vec<LateRun> {
+    let run = hand_run;
+    vec![
+        by_either_rule(run(
+            "P7: dropped for its allowance, and a HI row done late",
+            p3(),
+            &[1, 2],
+            vec![1; 5],
+            &[1, 2, 2, 2, 2],
+            &[[1, 1, 1], [4, 4, 5]],
+        )),
+        by_either_rule(run(
+            "P8: both done",
+            p3(),
+            &[1, 2],
+            vec![2; 3],
+            &[1, 2, 2],
+            &[[2, 1, 1], [4, 2, 3]],
+        )),
+        by_either_rule(run(
+            "done by its last slot",
+            preview(6),
+            &[1],
+            vec![4, 2],
+            &[1, 1],
+            &[[6, 2, 2]],
+        )),
+        by_running_rule(
+            run(
+                "dropped for its deadline, and the slot after that is idle",
+                preview(6),
+                &[1],
+                vec![4, 1, 9],
+                &[1, 1, 0],
+                &[[5, 2, 2]],
+            ),
+            &[1, 1, 1],
+            &[[6, 3, 3]],
+        ),
+        by_either_rule(run(
+            "dropped for its allowance by its last slot",
+            preview(4),
+            &[1],
+            vec![2, 1, 9],
+            &[1, 1, 0],
+            &[[3, 2, 2]],
+        )),
+        by_running_rule(
+            run(
+                "dropped for its deadline without a slot of its own",
+                previews_below(1),
+                &[1, 2],
+                vec![1; 7],
+                &[1, 1, 1, 1, 1, 1, 0],
+                &[[6, 6, 6], [0, 0, 2]],
+            ),
+            &[1, 1, 1, 1, 1, 1, 2],
+            &[[6, 6, 6], [1, 1, 7]],
+        ),
+        by_running_rule(
+            run(
+                "two dropped by the same step",
+                previews_below(2),
+                &[1, 2, 3],
+                vec![1; 7],
+                &[1, 1, 1, 1, 1, 1, 0],
+                &[[6, 6, 6], [0, 0, 2], [0, 0, 2]],
+            ),
+            &[1, 1, 1, 1, 1, 1, 2],
+            &[[6, 6, 6], [1, 1, 7], [0, 0, 0]],
+        ),
+        by_either_rule(run(
+            "HI, open at its deadline, and done late",
+            table(2, 1, &[[0, 4, 2, 1]]),
+            &[1],
+            vec![1; 5],
+            &[1, 1, 1, 1, 0],
+            &[[4, 4, 4]],
+        )),
+        by_running_rule(
+            run(
+                "row 2 is dropped at 3, so that row 3 keeps its deadline",
+                serving(),
+                &[1, 2, 3],
+                vec![1; 5],
+                &[1, 1, 2, 3, 0],
+                &[[2, 2, 2], [1, 1, 3], [1, 1, 4]],
+            ),
+            &[1, 1, 2, 2, 3],
+            &[[2, 2, 2], [2, 2, 4], [1, 1, 5]],
+        ),
+    ]
+}
+
+/// More runs in which a preview is about to be late.
+fn more_late_runs() -> Vec<LateRun> {
+    let run = hand_run;
+    vec![
+        by_running_rule(
+            run(
+                "loading when its deadline comes",
+                table(2, 1, &[[0, 2, 3, 0]]).with_loading(5),
+                &[1],
+                vec![9; 6],
+                &[1, 1, 1, 0, 0, 0],
+                &[[0, 3, 3]],
+            ),
+            &[1; 6],
+            &[[2, 6, 6]],
+        ),
+        by_either_rule(run(
+            "released into its only slot, and done by it",
+            table(2, 1, &[[4, 2, 5, 0]]),
+            &[1],
+            vec![0, 0, 0, 0, 2, 9],
+            &[0, 0, 0, 0, 1, 0],
+            &[[2, 1, 5]],
+        )),
+        by_running_rule(
+            run(
+                "released into its only slot, and dropped after it",
+                table(2, 1, &[[4, 3, 5, 0]]),
+                &[1],
+                vec![0, 0, 0, 0, 2, 9],
+                &[0, 0, 0, 0, 1, 0],
+                &[[2, 1, 5]],
+            ),
+            &[0, 0, 0, 0, 1, 1],
+            &[[3, 2, 6]],
+        ),
+        by_running_rule(
+            run(
+                "dropped while another LO row runs, which its slots then serve",
+                table(1, 1, &[[1, 3, 9, 0], [0, 9, 2, 0], [0, 2, 4, 0]]),
+                &[1, 2, 3],
+                vec![2, 3, 1, 1],
+                &[2, 1, 3, 3],
+                &[[3, 1, 2], [2, 1, 2], [2, 2, 4]],
+            ),
+            &[2, 1, 2, 2],
+            &[[3, 1, 2], [4, 3, 0], [0, 0, 0]],
+        ),
+        by_running_rule(
+            run(
+                "a HI row of the same deadline goes on beside the dropped one",
+                table(1, 1, &[[0, 3, 2, 1], [0, 1, 2, 0]]),
+                &[1, 2],
+                vec![1; 4],
+                &[1, 1, 1, 0],
+                &[[3, 3, 3], [0, 0, 2]],
+            ),
+            &[1, 1, 1, 2],
+            &[[3, 3, 3], [1, 1, 4]],
+        ),
+        by_running_rule(
+            run(
+                "one deadline after the other, and none drops the row before its own",
+                table(
+                    1,
+                    1,
+                    &[[0, 9, 9, 1], [0, 1, 1, 0], [0, 1, 2, 0], [0, 1, 4, 0]],
+                ),
+                &[1, 4, 3, 2],
+                vec![0; 4],
+                &[1; 4],
+                &[[0, 4, 0], [0, 0, 1], [0, 0, 2], [0, 0, 4]],
+            ),
+            &[1; 4],
+            &[[0, 4, 0], [0, 0, 0], [0, 0, 0], [0, 0, 0]],
         ),
     ]
 }

@@ -16,7 +16,7 @@
 //! |-----------|--------------------------------------------------------------|
 //! | `table`   | rows, tables, need, allowance, checks 3, 4, 11 and 5         |
 //! | `order`   | orders by value, check 6, every arrangement of some rows     |
-//! | `run`     | the state on paper, the chosen row, the step, kept deadlines |
+//! | `run`     | the state of a run, the step by either rule, kept deadlines  |
 //! | `calls`   | the two run calls on paper, with number 8                    |
 //! | `record`  | the run record, check 9, one slot and forward on a record    |
 //! | `plan`    | worst finish, slack, the planner's choice                    |
@@ -26,7 +26,7 @@
 //! | `place`   | where a refused sheet is at fault                           |
 //! | `report`  | the report: its figures, lines and totals                    |
 //! | `program` | the planning program from input bytes to output bytes        |
-//! | `cases`   | the tables and answers of cases P1 to P4                     |
+//! | `cases`   | cases worked out by hand, P1 to P4 among them                |
 //! | `before`  | answers from before tables had a loading time                |
 //! | `random`  | a fixed-seed generator of numbers and tables for tests       |
 //! | `plain`   | the same answers by one sweep, for large tables and measures |

@@ -260,10 +260,18 @@ fn entry_is_sound(record: &Record, index: usize) -> bool {
     if index >= record.table.n as usize {
         return got == 0 && used == 0 && closing == 0;
     }
+    let low = record.table.level[index] != HI;
+    let deadline = record.table.deadline[index];
+    let is_over = is_over(&record.table, index, got, used);
+    let closed_as_it_should_be = if closing == 0 {
+        !(is_over || low && deadline <= record.clock)
+    } else {
+        is_over || low && deadline == closing
+    };
     got <= record.table.work[index]
         && used <= record.clock
         && closing <= record.clock
-        && (closing != 0) == is_over(&record.table, index, got, used)
+        && closed_as_it_should_be
 }
 
 /// The row that the coming slot runs, 0 for an idle slot.
@@ -276,6 +284,7 @@ fn chosen(record: &Record) -> u8 {
     places.iter().find(is_ready).copied().unwrap_or(0)
 }
 
+/// A slot by the planning rule.
 fn step(record: &mut Record, supply: u32) -> u8 {
     let row = chosen(record);
     record.clock += 1;
@@ -291,6 +300,24 @@ fn step(record: &mut Record, supply: u32) -> u8 {
         }
     }
     row
+}
+
+/// Drops every open LO row whose deadline the clock has reached, and gives the
+/// earliest deadline, in slots, of the LO rows that stay open. Until the clock
+/// reaches that one there is nothing to drop.
+fn drop_late(record: &mut Record) -> u32 {
+    let mut next = u32::MAX;
+    for index in 0..record.table.n as usize {
+        if record.closing[index] == 0 && record.table.level[index] != HI {
+            let deadline = record.table.deadline[index];
+            if deadline <= record.clock {
+                record.closing[index] = record.clock;
+            } else {
+                next = next.min(deadline);
+            }
+        }
+    }
+    next
 }
 
 /// The number and row of the coming slot.
@@ -311,21 +338,32 @@ pub fn one_slot(record: &mut Record, supply: u32) -> (u32, u8) {
     } else if record.clock == LAST_CLOCK {
         (8, 0)
     } else {
-        (0, step(record, supply))
+        let row = step(record, supply);
+        // A row that was not late before the slot is late after it at its deadline alone.
+        if record.table.deadline.contains(&record.clock) {
+            drop_late(record);
+        }
+        (0, row)
     }
 }
 
-/// Forward on a record by reference: number and slots worked.
+/// Forward on a record by reference: number and slots worked. It looks for late
+/// rows at the clocks at which there can be some, and not after every slot.
 pub fn forward(record: &mut Record, supplies: &[u32]) -> (u32, u32) {
     if !is_sound(record) {
         return (9, 0);
     }
+    // A sound record has no late row, so that nothing is dropped here.
+    let mut next_deadline = drop_late(record);
     let mut worked = 0;
     for &supply in supplies {
         if record.clock == LAST_CLOCK {
             return (8, worked);
         }
         step(record, supply);
+        if next_deadline <= record.clock {
+            next_deadline = drop_late(record);
+        }
         worked += 1;
     }
     (0, worked)

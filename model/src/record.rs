@@ -3,8 +3,8 @@
 
 use crate::calls::{forward_on_paper, one_slot_on_paper, Answer, Call, LAST_CLOCK};
 use crate::order::{check_table_and_order, Order, NO_ORDER};
-use crate::run::{is_finished, State};
-use crate::table::{Table, ROWS};
+use crate::run::{is_finished, is_late_preview, State};
+use crate::table::{Table, LO, ROWS};
 
 /// A table, its order and the state of a run (rule 8.1). Clock, used and
 /// closing are in slots, got in work units.
@@ -33,8 +33,11 @@ pub enum Unsound {
     ClosingOverClock,
     /// An open row is missing no work, or has no allowance left (rule 8.7).
     OpenThoughFinished,
-    /// A closed row is missing work and has allowance left, or is HI (rule 8.7).
-    ClosedWithNeither,
+    /// An open row is LO, and the clock has reached its deadline (rule 8.7).
+    OpenThoughLate,
+    /// A closed row is missing work and is HI, or has allowance left and another
+    /// closing slot than its deadline (rule 8.7).
+    ClosedWithoutReason,
     /// Something other than 0 stands after row n (rule 8.8).
     EntryAfterLastRow,
 }
@@ -134,6 +137,8 @@ impl Record {
         }
         let open = closing == 0;
         let finished = is_finished(&self.table, row, got, used);
+        let job = self.table.row(row);
+        let closed_at_deadline = job.level == LO && closing == job.deadline;
         let mut reasons = Vec::new();
         if got > self.table.work[index] {
             reasons.push(Unsound::GotOverWork);
@@ -147,8 +152,11 @@ impl Record {
         if open && finished {
             reasons.push(Unsound::OpenThoughFinished);
         }
-        if !open && !finished {
-            reasons.push(Unsound::ClosedWithNeither);
+        if open && is_late_preview(&self.table, row, self.clock) {
+            reasons.push(Unsound::OpenThoughLate);
+        }
+        if !open && !finished && !closed_at_deadline {
+            reasons.push(Unsound::ClosedWithoutReason);
         }
         reasons
     }
@@ -158,9 +166,9 @@ impl Record {
         self.reasons().is_empty()
     }
 
-    /// One slot: from a record to the one after it, and the row that ran (rule
-    /// 8.9). First 9 is checked, then 8 (rule 11.5); both have row 0 and leave
-    /// the record alone.
+    /// One slot by the running rule: from a record to the one after it, and the
+    /// row that ran (rule 8.9). First 9 is checked, then 8 (rule 11.5); both have
+    /// row 0 and leave the record alone.
     pub fn one_slot(self, supply: u32) -> OneSlot {
         if !self.is_sound() {
             return OneSlot {
@@ -179,7 +187,8 @@ impl Record {
         }
     }
 
-    /// Forward: one slot for each supply, and how many that were (rule 8.10).
+    /// Forward: one slot for each supply by the running rule, and how many that
+    /// were (rule 8.10).
     /// After 9 it is the record that came, and 0 slots (rule 8.14); after 8 the
     /// record that the slots up to there left, and their count (rule 8.13).
     pub fn forward(self, supplies: &[u32]) -> Forward {

@@ -1,5 +1,6 @@
-//! The run on paper, slot by slot (section 2 of the rules). The table is
-//! accepted (rule 5.5) and the order is one of its orders (rule 5.7).
+//! What a slot does by the planning rule (section 2 of the rules) and by the
+//! running rule (section 19). The table is accepted (rule 5.5) and the order is
+//! one of its orders (rule 5.7).
 
 use crate::order::Order;
 use crate::table::{allowance, Table, LO, ROWS};
@@ -39,9 +40,15 @@ pub fn chosen(table: &Table, order: &Order, state: &State) -> u8 {
     0
 }
 
-/// One step of the run on paper with this supply (work units); gives the row
-/// run, 0 for an idle slot (rules 2.3 and 2.12). There is no last clock here: a
-/// worst run has none (rule 3.5). The calls and the record add it.
+/// A rule of a slot: makes one step with this supply (work units) and gives the
+/// row run, 0 for an idle slot. There are two, `step` and `running_step` (rule
+/// 19.1).
+pub type Rule = fn(&Table, &Order, &mut State, u32) -> u8;
+
+/// One step by the planning rule with this supply (work units); gives the row
+/// run, 0 for an idle slot (rules 2.3 and 2.12). A late row goes on (rule 2.9).
+/// There is no last clock here: a worst run has none (rule 3.5). The calls and
+/// the record add it.
 pub fn step(table: &Table, order: &Order, state: &mut State, supply: u32) -> u8 {
     let row = chosen(table, order, state);
     if row != 0 {
@@ -49,6 +56,33 @@ pub fn step(table: &Table, order: &Order, state: &mut State, supply: u32) -> u8 
     }
     state.clock += 1;
     row
+}
+
+/// One step by the running rule: a slot by the planning rule, all of its work
+/// counted (rule 19.3), and then a look at the clock after it (rule 19.2).
+pub fn running_step(table: &Table, order: &Order, state: &mut State, supply: u32) -> u8 {
+    let row = step(table, order, state, supply);
+    drop_late_previews(table, state);
+    row
+}
+
+/// Each open row that is a late preview at this clock is dropped, with the clock
+/// as its closing slot. Nothing else changes (rule 19.2).
+fn drop_late_previews(table: &Table, state: &mut State) {
+    for row in 1..=table.n as u8 {
+        let index = row as usize - 1;
+        if state.closing[index] == 0 && is_late_preview(table, row, state.clock) {
+            state.closing[index] = state.clock;
+        }
+    }
+}
+
+/// The row, if it is open, is worth nothing any more: it is LO, and this clock
+/// (slots) has reached its deadline (rules 9.13 and 19.2). No HI row ever is (rule
+/// 19.4).
+pub fn is_late_preview(table: &Table, row: u8, clock: u32) -> bool {
+    let job = table.row(row);
+    job.level == LO && clock >= job.deadline
 }
 
 /// The row has used one slot more and gets what the slot brings, never more than
@@ -86,11 +120,17 @@ pub fn is_finished(table: &Table, row: u8, got: u32, used: u32) -> bool {
     done || allowance_used_up
 }
 
-/// The state after one step for each supply, first to last, from the fresh state.
+/// The state after one step by the planning rule for each supply, first to last,
+/// from the fresh state.
 pub fn run(table: &Table, order: &Order, supplies: &[u32]) -> State {
+    run_by(step, table, order, supplies)
+}
+
+/// The same by this rule.
+pub fn run_by(rule: Rule, table: &Table, order: &Order, supplies: &[u32]) -> State {
     let mut state = State::FRESH;
     for &supply in supplies {
-        step(table, order, &mut state, supply);
+        rule(table, order, &mut state, supply);
     }
     state
 }

@@ -1,6 +1,6 @@
 //! A loading time of 0 slots changes no answer: the model and the plain planner
-//! answer as they did before tables had one. Sheets of that time lack the field
-//! of K.
+//! answer as they did before tables had one, and one slot and forward do where there
+//! is no late preview to drop. Sheets of that time lack the field of K.
 
 mod common;
 

@@ -3,19 +3,20 @@
 
 mod common;
 
-use common::refused_verdict;
+use common::correct::correct_by_every_course;
+use common::{p3_at, refused_verdict, RULES};
 use model::calls::LAST_CLOCK;
 use model::cases::{
-    at_loading, at_loading_planned, loading_runs, no_order, ordered, p1, p2, p3, p4, row, table,
-    P1_TEXT,
+    at_loading, at_loading_planned, late_runs, loading_runs, no_order, ordered, p1, p2, p3, p4,
+    row, serving, table, HandRun, P1_TEXT,
 };
 use model::judge::{judge, judge_table, Verdict};
-use model::order::{order_of, NO_ORDER};
+use model::order::{order_of, orders, Order, NO_ORDER};
 use model::plain;
 use model::plan::{passes_lowest, plan, slack, worst_finish, Plan};
 use model::program::planning_program;
 use model::record::Record;
-use model::run::{run, step, State};
+use model::run::{run_by, running_step, step, Rule, State};
 use model::sheet::{read_sheet, sheet_of, write_sheet};
 use model::table::{allowance, need, Row, Table, MOST_LOADING};
 
@@ -73,26 +74,32 @@ fn p6_one_hi_row() {
     assert_eq!(plan(&table(2, 1, &[[0, 2, 1, 1]])), no_order(1));
 }
 
+/// By either rule of a slot.
 #[test]
 fn p7_degraded_run_of_p3() {
-    let before = run(&p3(), &order_of(&[1, 2]), &[1; 4]);
-    assert_eq!(before.closing[..2], [1, 0]);
-    let state = run(&p3(), &order_of(&[1, 2]), &[1; 5]);
-    assert_eq!(state.closing[..2], [1, 5]);
-    assert_eq!(
-        state.got[..2],
-        [1, 4],
-        "row 1 is dropped with 1 of 2 work units"
-    );
-    assert_eq!(state.used[..2], [1, 4]);
-    assert!(state.closing[1] > p3().deadline[1], "row 2 is late");
+    for rule in RULES {
+        let before = run_by(rule, &p3(), &order_of(&[1, 2]), &[1; 4]);
+        assert_eq!(before.closing[..2], [1, 0]);
+        let state = run_by(rule, &p3(), &order_of(&[1, 2]), &[1; 5]);
+        assert_eq!(state.closing[..2], [1, 5]);
+        assert_eq!(
+            state.got[..2],
+            [1, 4],
+            "row 1 is dropped with 1 of 2 work units"
+        );
+        assert_eq!(state.used[..2], [1, 4]);
+        assert!(state.closing[1] > p3().deadline[1], "row 2 is late");
+    }
 }
 
+/// By either rule of a slot.
 #[test]
 fn p8_normal_run_of_p3() {
-    let state = run(&p3(), &order_of(&[1, 2]), &[2; 3]);
-    assert_eq!(state.closing[..2], [1, 3]);
-    assert_eq!(state.got[..2], [2, 4]);
+    for rule in RULES {
+        let state = run_by(rule, &p3(), &order_of(&[1, 2]), &[2; 3]);
+        assert_eq!(state.closing[..2], [1, 3]);
+        assert_eq!(state.got[..2], [2, 4]);
+    }
 }
 
 /// P1 to P8 as above have a loading time of 0 slots.
@@ -103,25 +110,66 @@ fn the_starred_cases_do_not_load() {
     }
 }
 
-/// Each slot's row, what it brought and what it closed (rules 1.9, 1.10, 2.14).
+/// What a run by this rule did: the row of each slot, and the work got, slots used
+/// and closing slot of each row in the end.
+fn rows_and_ends(rule: Rule, case: &HandRun) -> (Vec<u8>, Vec<[u32; 3]>) {
+    let mut state = State::FRESH;
+    let step_with = |supply: &u32| rule(&case.table, &case.order, &mut state, *supply);
+    let rows: Vec<u8> = case.supplies.iter().map(step_with).collect();
+    let entries = |index: usize| [state.got[index], state.used[index], state.closing[index]];
+    let ends = (0..case.table.n as usize).map(entries).collect();
+    (rows, ends)
+}
+
+/// The run is as it says by the running rule, in steps, on a record and by plain
+/// Rust.
+fn assert_worked(case: &HandRun) {
+    let what = case.what;
+    let expected = (case.rows.clone(), case.ends.clone());
+    assert_eq!(rows_and_ends(running_step, case), expected, "{what}");
+    let (number, fresh) = Record::fresh(&case.table, &case.order);
+    let worked = fresh.forward(&case.supplies);
+    assert_eq!((number, worked.number), (0, 0), "{what}");
+    let state = run_by(running_step, &case.table, &case.order, &case.supplies);
+    assert_eq!(worked.record.state(), state, "{what}");
+    let mut by_plain = fresh;
+    plain::forward(&mut by_plain, &case.supplies);
+    assert_eq!(by_plain, worked.record, "{what}");
+}
+
+/// Each slot's row, what it brought and what it closed (rules 1.9, 1.10, 2.14), by
+/// either rule of a slot.
 #[test]
 fn runs_that_load() {
     for case in loading_runs() {
-        let what = case.what;
-        let mut state = State::FRESH;
-        let step_with = |supply: &u32| step(&case.table, &case.order, &mut state, *supply);
-        let rows: Vec<u8> = case.supplies.iter().map(step_with).collect();
-        assert_eq!(rows, case.rows, "{what}");
-        let entries = |index: usize| [state.got[index], state.used[index], state.closing[index]];
-        let ends: Vec<[u32; 3]> = (0..case.table.n as usize).map(entries).collect();
-        assert_eq!(ends, case.ends, "{what}");
-        let (number, fresh) = Record::fresh(&case.table, &case.order);
-        let worked = fresh.forward(&case.supplies);
-        assert_eq!((number, worked.number), (0, 0), "{what}");
-        assert_eq!(worked.record.state(), state, "{what}");
-        let mut by_plain = fresh;
-        plain::forward(&mut by_plain, &case.supplies);
-        assert_eq!(by_plain, worked.record, "{what}");
+        let expected = (case.rows.clone(), case.ends.clone());
+        assert_eq!(rows_and_ends(step, &case), expected, "{}", case.what);
+        assert_worked(&case);
+    }
+}
+
+/// Runs in which a preview is late or about to be, by the running rule, and what the
+/// planning rule makes of them (rules 13.13 and 19.1 to 19.4).
+#[test]
+fn runs_with_late_previews() {
+    for case in late_runs() {
+        assert_worked(&case.run);
+        let planned = (case.planned_rows, case.planned_ends);
+        assert_eq!(rows_and_ends(step, &case.run), planned, "{}", case.run.what);
+    }
+}
+
+/// The planner answers 7 with all three rows left, and of the six orders the one
+/// named serves, over every course of speed (rules 13.13 and 19.8).
+#[test]
+fn a_table_without_a_correct_order_that_is_served() {
+    let table = serving();
+    assert_eq!(plan(&table), no_order(0b111));
+    let serves = |order: &Order| correct_by_every_course(running_step, &table, order);
+    let serving: Vec<Order> = orders(3).into_iter().filter(serves).collect();
+    assert_eq!(serving, [order_of(&[1, 2, 3])]);
+    for order in orders(3) {
+        assert!(!correct_by_every_course(step, &table, &order), "{order:?}");
     }
 }
 
@@ -224,17 +272,13 @@ fn the_least_slack_there_is() {
 
 #[test]
 fn clock_one_before_the_last() {
-    let (number, fresh) = Record::fresh(&p3(), &order_of(&[1, 2]));
-    assert_eq!(number, 0);
-    let late = Record {
-        clock: LAST_CLOCK - 1,
-        ..fresh
-    };
+    // Row 1 is LO and was dropped at its deadline.
+    let late = p3_at(LAST_CLOCK - 1);
     assert_eq!(late.clock, 1_999_999);
 
     let one = late.one_slot(5);
-    assert_eq!((one.number, one.row, one.record.clock), (0, 1, 2_000_000));
-    assert_eq!(one.record.closing[0], 2_000_000);
+    assert_eq!((one.number, one.row, one.record.clock), (0, 2, 2_000_000));
+    assert_eq!(one.record.closing[..2], [2, 2_000_000]);
 
     let over = one.record.one_slot(5);
     assert_eq!((over.number, over.row), (8, 0));

@@ -4,14 +4,14 @@
 
 mod common;
 
-use common::{refused_verdict, rubbish, TOO_LONG};
+use common::{p3_at, refused_verdict, rubbish, TOO_LONG};
 use model::cases::{p1, p3, table};
 use model::judge::{judge, judge_table};
 use model::order::{check_order, order_of, NO_ORDER};
 use model::plain;
 use model::plan::{plan, Plan};
 use model::program::planning_program;
-use model::record::Record;
+use model::record::{Record, Unsound};
 use model::report::{report, LONGEST_REPORT};
 use model::sheet::{read_sheet, sheet_of, write_back, write_sheet};
 use model::table::{check_table, Table, MOST_LOADING};
@@ -172,11 +172,7 @@ fn number_6_row_1_twice() {
 
 #[test]
 fn number_8_clock_two_million() {
-    let (_, fresh) = Record::fresh(&p3(), &order_of(&[1, 2]));
-    let over = Record {
-        clock: 2_000_000,
-        ..fresh
-    };
+    let over = p3_at(2_000_000);
     let one = over.one_slot(5);
     assert_eq!((one.number, one.row, one.record), (8, 0, over));
     let forward = over.forward(&[5]);
@@ -188,11 +184,8 @@ fn number_8_clock_two_million() {
 
 #[test]
 fn number_9_clock_above_two_million() {
-    let (_, fresh) = Record::fresh(&p3(), &order_of(&[1, 2]));
-    let broken = Record {
-        clock: 2_000_001,
-        ..fresh
-    };
+    let broken = p3_at(2_000_001);
+    assert_eq!(broken.reasons(), [Unsound::Clock]);
     let one = broken.one_slot(5);
     assert_eq!((one.number, one.row, one.record), (9, 0, broken));
     for supplies in [&[][..], &[5][..]] {

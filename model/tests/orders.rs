@@ -8,6 +8,7 @@ use model::judge::{judge, judge_table};
 use model::order::{check_order, orders, NO_ORDER};
 use model::plan::{passes_lowest, plan, slack};
 use model::random::{table_in, Random};
+use model::run::step;
 use model::sheet::{sheet_of, write_line};
 use model::table::Table;
 
@@ -76,7 +77,7 @@ fn slacks_judge_as_every_course_of_speed_does() {
         let mut exists = false;
         for order in orders(table.n) {
             let by_slacks = correct_by_slacks(&table, &order);
-            let by_courses = correct_by_every_course(&table, &order);
+            let by_courses = correct_by_every_course(step, &table, &order);
             assert_eq!(by_slacks, by_courses, "{table:?} {:?}", &order[..3]);
             exists |= by_courses;
             *(if by_courses {
@@ -107,7 +108,7 @@ fn slacks_judge_as_random_courses_of_speed_do() {
                 continue;
             }
             let by_slacks = correct_by_slacks(&table, &order);
-            let by_courses = survives_random_courses(&table, &order, &mut random);
+            let by_courses = survives_random_courses(step, &table, &order, &mut random);
             assert_eq!(by_slacks, by_courses, "{table:?} {:?}", &order[..5]);
             *(if by_slacks {
                 &mut correct

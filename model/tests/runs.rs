@@ -1,34 +1,21 @@
 //! The run on paper and on a record: list splitting, closing and dropping, the
-//! choice and the supply, kept deadlines.
+//! choice and the supply, kept deadlines. What the running rule adds to a slot is
+//! in `late`.
 
 mod common;
 
-use common::{all_rows, fresh, slots_with_loading, supplies, table_and_order, Loadings, SMALL};
-use model::calls::{play_on_paper, Answer, Call, LAST_CLOCK};
+use common::{
+    all_rows, calls_for, fresh, slots_with_loading, supplies, table_and_order, Loadings, RULES,
+    SMALL,
+};
+use model::calls::{play_on_paper, Answer, LAST_CLOCK};
 use model::cases::{p1, p3, table};
 use model::order::order_of;
 use model::plan::plan;
 use model::random::{table_in, Random};
 use model::record::Record;
-use model::run::{chosen, kept_deadline, run, step, State};
-use model::table::{allowance, HI, MOST_LOADING};
-
-/// These supplies cut into calls, some of them forward over an empty list.
-fn calls_for(random: &mut Random, supplies: &[u32]) -> Vec<Call> {
-    let mut calls = Vec::new();
-    let mut rest = supplies;
-    while !rest.is_empty() {
-        if random.once_in(2) {
-            calls.push(Call::OneSlot(rest[0]));
-            rest = &rest[1..];
-        } else {
-            let count = random.between(0, rest.len().min(7) as u32) as usize;
-            calls.push(Call::Forward(rest[..count].to_vec()));
-            rest = &rest[count..];
-        }
-    }
-    calls
-}
+use model::run::{chosen, kept_deadline, run, run_by, running_step, step, State};
+use model::table::{allowance, HI, LO, MOST_LOADING};
 
 #[test]
 fn calls_on_a_record_answer_as_on_paper() {
@@ -65,7 +52,8 @@ fn splitting_the_list_changes_nothing() {
         let record = fresh(&table, &order);
         let whole = record.forward(&supplies);
         assert_eq!((whole.number, whole.worked), (0, slots));
-        assert_eq!(whole.record.state(), run(&table, &order, &supplies));
+        let on_paper = run_by(running_step, &table, &order, &supplies);
+        assert_eq!(whole.record.state(), on_paper);
 
         let cut = random.between(0, slots) as usize;
         let first = record.forward(&supplies[..cut]);
@@ -83,10 +71,12 @@ fn splitting_the_list_changes_nothing() {
 
 #[test]
 fn splitting_the_list_at_the_last_clock() {
-    let late = Record {
+    let mut late = Record {
         clock: LAST_CLOCK - 3,
         ..fresh(&p1(), &order_of(&[1, 2, 3, 4]))
     };
+    // The LO rows were dropped at their deadlines.
+    (late.closing[1], late.closing[3]) = (10, 5);
     let supplies = [1, 2, 3, 4, 5];
     let whole = late.forward(&supplies);
     assert_eq!((whole.number, whole.worked), (8, 3));
@@ -105,16 +95,17 @@ fn splitting_the_list_at_the_last_clock() {
 fn the_row_is_the_same_for_every_supply_of_its_slot() {
     let mut random = Random::seeded(43);
     let (mut different, mut loaded) = (0, 0);
-    for _ in 0..8_000 {
+    for round in 0..8_000 {
+        let rule = RULES[round % 2];
         let (table, order) = table_and_order(&mut random);
         let most = slots_with_loading(&table, 12);
         let length = random.between(0, most);
-        let before = run(&table, &order, &supplies(&mut random, length));
+        let before = run_by(rule, &table, &order, &supplies(&mut random, length));
         let choice = chosen(&table, &order, &before);
         let mut after = Vec::new();
         for supply in [0, 1, 2, table.degraded, table.normal, u32::MAX] {
             let mut state = before;
-            assert_eq!(step(&table, &order, &mut state, supply), choice);
+            assert_eq!(rule(&table, &order, &mut state, supply), choice);
             assert_eq!(state.clock, before.clock + 1);
             after.push(state);
         }
@@ -138,7 +129,8 @@ fn the_first_slots_that_a_row_runs_load_it() {
     let mut random = Random::seeded(48);
     let mut loadings = Loadings::default();
     let (mut broken_off, mut worked) = (0, 0);
-    for _ in 0..4_000 {
+    for round in 0..4_000 {
+        let rule = RULES[round % 2];
         let (table, order) = table_and_order(&mut random);
         loadings.saw(&table);
         let slots = slots_with_loading(&table, 30);
@@ -147,7 +139,7 @@ fn the_first_slots_that_a_row_runs_load_it() {
         let mut last = 0;
         for supply in supplies(&mut random, slots) {
             let before = state;
-            let row = step(&table, &order, &mut state, supply);
+            let row = rule(&table, &order, &mut state, supply);
             if row != 0 {
                 let index = row as usize - 1;
                 slots_run[index] += 1;
@@ -202,6 +194,7 @@ fn a_slot_runs_the_first_ready_row_of_the_order() {
     assert!(passed_over > 5_000, "{passed_over}");
 }
 
+/// By the planning rule, and by the running rule where it differs.
 #[test]
 fn done_and_dropped() {
     // Allowance of the LO row: 5 work units at 2 per slot, 3 slots.
@@ -237,8 +230,17 @@ fn done_and_dropped() {
         (5, 5, 6),
         "a late job keeps its place and goes on"
     );
-    let late_lo = run(&table(2, 1, &[[1, 5, 2, 0]]), &order, &[2; 50]);
+    let late_hi = run_by(running_step, &hi, &order, &[1; 50]);
+    assert_eq!(late_hi, late, "a HI job goes on by either rule");
+    let preview = table(2, 1, &[[1, 5, 2, 0]]);
+    let late_lo = run(&preview, &order, &[2; 50]);
     assert_eq!((late_lo.got[0], late_lo.closing[0]), (5, 4));
+    let dropped = run_by(running_step, &preview, &order, &[2; 50]);
+    assert_eq!(
+        (dropped.got[0], dropped.used[0], dropped.closing[0]),
+        (2, 1, 2),
+        "a late preview is dropped by the running rule"
+    );
 }
 
 /// The same LO row with each loading time: it uses K slots more and then gets
@@ -288,13 +290,13 @@ fn rows_left_out_of_the_table_stay_zero() {
     }
 }
 
-/// The promise of the planned order over a whole run (rule 9.12): a row keeps its
-/// deadline if each slot of its window (rule 9.14) supplies at least N for a LO
-/// row, or G for a HI row; all other slots may supply anything.
+/// The promise of the planned order over a whole run (rules 9.12 and 19.5): from its
+/// deadline on a row has kept it if each slot of its window (rule 9.14) supplies
+/// at least N for a LO row, or G for a HI row; all other slots may supply anything.
 #[test]
 fn planned_rows_keep_their_deadlines_in_their_windows() {
     let mut random = Random::seeded(47);
-    let (mut kept, mut lost) = ([0; 2], 0);
+    let (mut kept, mut lost) = ([0; 2], [0; 2]);
     let mut loadings = Loadings::default();
     for _ in 0..12_000 {
         let table = table_in(&mut random, SMALL);
@@ -312,25 +314,31 @@ fn planned_rows_keep_their_deadlines_in_their_windows() {
         } else {
             table.normal
         };
+        let most_outside = random.one_of(&[0, 1, 9]);
         let course: Vec<u32> = (0..slots)
             .map(|slot| match slot {
-                slot if slot < earliest || slot >= job.deadline => random.between(0, 9),
+                slot if slot < earliest || slot >= job.deadline => random.between(0, most_outside),
                 _ => least + random.one_of(&[0, 0, 0, 1, 5]),
             })
             .collect();
+        let mut state = State::FRESH;
+        for &supply in &course {
+            running_step(&table, &answer.order, &mut state, supply);
+            if state.clock >= job.deadline {
+                assert!(kept_deadline(&table, &state, watched), "{table:?}");
+            }
+        }
         let calls = calls_for(&mut random, &course);
         let (_, record) = fresh(&table, &answer.order).play(&calls);
-        assert_eq!(record.clock, slots);
-        assert!(kept_deadline(&table, &record.state(), watched));
+        assert_eq!((record.clock, record.state()), (slots, state));
         kept[job.level as usize] += 1;
-        lost += all_rows(&table)
-            .into_iter()
-            .filter(|&row| !kept_deadline(&table, &record.state(), row))
-            .count();
+        for row in all_rows(&table) {
+            let level = table.row(row).level as usize;
+            lost[level] += u32::from(!kept_deadline(&table, &state, row));
+        }
     }
-    assert!(
-        kept[0] > 800 && kept[1] > 800 && lost > 200,
-        "{kept:?} {lost}"
-    );
+    println!("LO and HI rows: {kept:?} watched, {lost:?} others lost their deadlines");
+    let [low, high] = [LO, HI].map(|level| (kept[level as usize], lost[level as usize]));
+    assert!(low.0 > 800 && low.1 > 200 && high.0 > 800 && high.1 > 50);
     loadings.assert_all(50);
 }

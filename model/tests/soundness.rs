@@ -9,13 +9,13 @@ use model::cases::table;
 use model::order::order_of;
 use model::random::Random;
 use model::record::{Record, Unsound};
-use model::run::step;
-use model::table::{LO, MOST_LOADING};
+use model::run::running_step;
+use model::table::{allowance, LO, MOST_LOADING};
 
 #[test]
 fn every_step_from_a_fresh_record_keeps_it_sound() {
     let mut random = Random::seeded(45);
-    let (mut done, mut dropped) = (0, 0);
+    let (mut done, mut used_up, mut late) = (0, 0, 0);
     let mut loadings = Loadings::default();
     for _ in 0..2_000 {
         let (table, order) = table_and_order(&mut random);
@@ -35,35 +35,53 @@ fn every_step_from_a_fresh_record_keeps_it_sound() {
             if record.closing[index] != 0 {
                 let all = record.got[index] == table.work[index];
                 assert!(all || table.level[index] == LO);
-                *(if all { &mut done } else { &mut dropped }) += 1;
+                let has_allowance = record.used[index] < allowance(&table, row);
+                *(match (all, has_allowance) {
+                    (true, _) => &mut done,
+                    (false, false) => &mut used_up,
+                    (false, true) => &mut late,
+                }) += 1;
             }
         }
     }
     assert!(
-        done > 1_000 && dropped > 400,
-        "{done} done, {dropped} dropped"
+        done > 1_000 && used_up > 400 && late > 400,
+        "{done} done, dropped {used_up} for their allowance and {late} for their deadline"
     );
     loadings.assert_all(20);
 }
 
 /// A sound record that need not be reachable by running: any figures that check
-/// 9 lets through (rule 8.7).
+/// 9 lets through (rule 8.7). Its rows are done at first, so that each can be
+/// changed by itself; at clock 0 they are open.
 fn sound_record(random: &mut Random) -> Record {
     let (table, order) = table_and_order(random);
-    let clock = random.one_of(&[0, 1, 2, 5, 20, 1_999_998, 1_999_999, 2_000_000]);
+    let deadline = random.one_of(&table.deadline[..table.n as usize]);
+    let clocks = [0, 1, 2, 5, 20, 1_999_998, 1_999_999, 2_000_000];
+    let clock = match random.between(0, 1) {
+        0 => random.one_of(&[deadline - 1, deadline - 1, deadline, deadline + 1]),
+        _ => random.one_of(&clocks),
+    };
     let mut record = Record {
         clock,
         ..fresh(&table, &order)
     };
+    if clock > 0 {
+        for index in 0..table.n as usize {
+            (record.got[index], record.closing[index]) = (table.work[index], clock);
+        }
+    }
+    assert_eq!(record.reasons(), []);
     for row in all_rows(&table) {
         let mut attempts = 0;
         loop {
             attempts += 1;
             assert!(attempts < 10_000, "no sound figures for {record:?}");
             let index = row as usize - 1;
+            let closings = [0, 0, clock / 2, clock, table.deadline[index]];
             record.got[index] = random.between(0, table.work[index]);
             record.used[index] = random.between(0, clock.min(6 + table.loading));
-            record.closing[index] = random.one_of(&[0, clock / 2, clock]);
+            record.closing[index] = random.one_of(&closings);
             if record.is_sound() {
                 break;
             }
@@ -75,7 +93,7 @@ fn sound_record(random: &mut Random) -> Record {
 #[test]
 fn sound_records_that_no_run_reaches_step_by_the_same_rule() {
     let mut random = Random::seeded(46);
-    let (mut unreached, mut refused, mut early) = (0, 0, 0);
+    let (mut unreached, mut refused, mut early, mut dropped) = (0, 0, 0, 0);
     let mut loadings = Loadings::default();
     for _ in 0..10_000 {
         let record = sound_record(&mut random);
@@ -92,13 +110,16 @@ fn sound_records_that_no_run_reaches_step_by_the_same_rule() {
             continue;
         }
         let mut state = record.state();
-        let row = step(&record.table, &record.order, &mut state, supply);
+        let row = running_step(&record.table, &record.order, &mut state, supply);
         assert_eq!((slot.number, slot.row), (0, row));
         assert_eq!(slot.record.state(), state);
+        let closed = |index: usize| state.closing[index] != record.closing[index];
+        let waited = |index: usize| index + 1 != usize::from(row);
+        dropped += u32::from((0..64).any(|index| waited(index) && closed(index)));
     }
     assert!(
-        unreached > 400 && refused > 400 && early > 400,
-        "{unreached} {refused} {early}"
+        unreached > 400 && refused > 400 && early > 400 && dropped > 100,
+        "{unreached} {refused} {early} {dropped}"
     );
     loadings.assert_all(100);
 }
@@ -127,11 +148,12 @@ fn work_got_before_loading_ends_is_sound() {
     assert_eq!(after(&[7, 7, 2, 7]), (9, 5, 9), "done");
 }
 
-/// A record of three rows at clock 30: row 1 LO and dropped, row 2 HI and open,
-/// row 3 LO and open. N is 2 and G is 1. The allowances of rows 1 and 3 are K + 2
-/// and K + 3 slots.
+/// A record of three rows at clock 30: row 1 LO and dropped for its allowance, at a
+/// clock after its deadline, which no run does; row 2 HI and open though late;
+/// row 3 LO and open, with 10 slots left. N is 2 and G is 1. The allowances of rows
+/// 1 and 3 are K + 2 and K + 3 slots.
 fn sound_example(loading: u32) -> Record {
-    let rows = [[0, 4, 5, 0], [0, 9, 20, 1], [3, 6, 12, 0]];
+    let rows = [[0, 4, 5, 0], [0, 9, 20, 1], [3, 6, 40, 0]];
     let table = table(2, 1, &rows).with_loading(loading);
     let mut record = Record {
         clock: 30,
@@ -176,8 +198,9 @@ fn check_9_refuses_each_clause_alone() {
     refused_for(Unsound::TableOrOrder(5), |r| r.table.release[3] = 1);
     refused_for(Unsound::TableOrOrder(6), |r| r.order[0] = 2);
     refused_for(Unsound::TableOrOrder(6), |r| r.order[3] = 1);
-    refused_for(Unsound::Clock, |r| r.clock = 2_000_001);
-    refused_for(Unsound::Clock, |r| r.clock = u32::MAX);
+    // Row 3 was dropped at its deadline, so that only the clock is wrong.
+    refused_for(Unsound::Clock, |r| dropped_before(r, 2_000_001));
+    refused_for(Unsound::Clock, |r| dropped_before(r, u32::MAX));
     // Row 1 is closed by its allowance, so that only the work got is wrong.
     refused_for(Unsound::GotOverWork, |r| r.got[0] = 5);
     refused_for(Unsound::GotOverWork, |r| r.got[1] = u32::MAX);
@@ -190,19 +213,41 @@ fn check_9_refuses_each_clause_alone() {
     refused_for(Unsound::OpenThoughFinished, |r| r.got[2] = 6);
     // Open though the allowance of K + 2 or K + 3 slots is used up, or more than
     // that.
-    refused_for(Unsound::OpenThoughFinished, |r| r.closing[0] = 0);
+    refused_for(Unsound::OpenThoughFinished, |r| {
+        (r.table.deadline[0], r.closing[0]) = (31, 0);
+    });
     refused_for(Unsound::OpenThoughFinished, |r| r.used[2] += 1);
     refused_for(Unsound::OpenThoughFinished, |r| r.used[2] += 2);
-    // Closed with neither, HI (which has no allowance) and LO.
-    refused_for(Unsound::ClosedWithNeither, |r| r.closing[1] = 9);
-    refused_for(Unsound::ClosedWithNeither, |r| r.closing[2] = 9);
-    refused_for(Unsound::ClosedWithNeither, |r| r.used[0] -= 1);
-    refused_for(Unsound::ClosedWithNeither, |r| r.used[0] = 1);
+    // Open, LO, and the clock has reached the deadline.
+    refused_for(Unsound::OpenThoughLate, |r| r.clock = 40);
+    refused_for(Unsound::OpenThoughLate, |r| r.clock = 41);
+    refused_for(Unsound::OpenThoughLate, |r| r.clock = 2_000_000);
+    for deadline in [4, 29, 30] {
+        refused_for(Unsound::OpenThoughLate, |r| r.table.deadline[2] = deadline);
+    }
+    // Closed for no reason, HI (which has no allowance) and LO.
+    refused_for(Unsound::ClosedWithoutReason, |r| r.closing[1] = 9);
+    refused_for(Unsound::ClosedWithoutReason, |r| r.closing[2] = 9);
+    refused_for(Unsound::ClosedWithoutReason, |r| r.used[0] -= 1);
+    refused_for(Unsound::ClosedWithoutReason, |r| r.used[0] = 1);
+    // Closed before or after the deadline with work missing and allowance left, and
+    // a HI row closed at its deadline.
+    for closing in [1, 39, 41, 50] {
+        refused_for(Unsound::ClosedWithoutReason, |r| {
+            (r.clock, r.closing[2]) = (50, closing);
+        });
+    }
+    refused_for(Unsound::ClosedWithoutReason, |r| r.closing[1] = 20);
     for index in [3, 63] {
         refused_for(Unsound::EntryAfterLastRow, |r| r.got[index] = 1);
         refused_for(Unsound::EntryAfterLastRow, |r| r.used[index] = 1);
         refused_for(Unsound::EntryAfterLastRow, |r| r.closing[index] = 1);
     }
+}
+
+/// The example with row 3 dropped at its deadline, at this clock, in slots.
+fn dropped_before(record: &mut Record, clock: u32) {
+    (record.clock, record.closing[2]) = (clock, 40);
 }
 
 #[test]
@@ -216,7 +261,7 @@ fn check_9_lets_the_limits_themselves_through() {
             assert_eq!(slot.number, if record.clock == LAST_CLOCK { 8 } else { 0 });
         }
     };
-    accepted(|r| r.clock = 2_000_000);
+    accepted(|r| dropped_before(r, 2_000_000));
     accepted(|r| r.used[1] = 30);
     accepted(|r| r.used[2] = 0);
     accepted(|r| r.closing[0] = 30);
@@ -225,14 +270,28 @@ fn check_9_lets_the_limits_themselves_through() {
     accepted(|r| (r.got[1], r.closing[1]) = (9, 30));
     accepted(|r| (r.got[1], r.used[1], r.closing[1]) = (9, 0, 1));
     accepted(|r| (r.got[2], r.used[2], r.closing[2]) = (0, r.table.loading + 3, 1));
+    // One slot before the deadline row 3 is open, and from the deadline on it may
+    // have been dropped there, whatever it had got and used.
+    accepted(|r| r.clock = 39);
+    accepted(|r| r.table.deadline[2] = 31);
+    accepted(|r| dropped_before(r, 40));
+    accepted(|r| dropped_before(r, 41));
+    accepted(|r| {
+        dropped_before(r, 40);
+        (r.got[2], r.used[2]) = (0, 0);
+    });
+    accepted(|r| {
+        dropped_before(r, 41);
+        (r.got[2], r.used[2]) = (5, r.table.loading + 3);
+    });
+    // Done after the deadline, LO: no run reaches it.
+    accepted(|r| (r.clock, r.got[2], r.closing[2]) = (50, 6, 50));
 }
 
 #[test]
 fn check_9_comes_before_8() {
-    let mut record = Record {
-        clock: LAST_CLOCK,
-        ..sound_example(5)
-    };
+    let mut record = sound_example(5);
+    dropped_before(&mut record, LAST_CLOCK);
     assert_eq!(record.one_slot(5).number, 8);
     assert_eq!(record.forward(&[5]).number, 8);
     record.closing[1] = 9;

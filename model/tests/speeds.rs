@@ -11,6 +11,7 @@ use model::order::{orders, Order, NO_ORDER};
 use model::plain::{least_and_plannings, least_by_halves, least_by_scan};
 use model::plan::{plan, slack};
 use model::random::{table_in, Random, Ranges};
+use model::run::step;
 use model::sheet::{sheet_of, write_sheet};
 use model::speeds::{least, read_least, Least, Sought, BOTH};
 use model::table::{check_table, Table, MOST_SPEED};
@@ -172,7 +173,8 @@ fn every_order_under_every_course_of_speed() {
         let table = table_in(&mut random, TINY);
         let sought = BOTH[round % 2];
         let answer = least(&table, sought);
-        let expected = least_of_every_order(&table, sought, 6, correct_by_every_course);
+        let by_courses = |table: &Table, order: &Order| correct_by_every_course(step, table, order);
+        let expected = least_of_every_order(&table, sought, 6, by_courses);
         assert_eq!(answer.speed, expected.unwrap_or(0), "{sought:?} {table:?}");
         *(if answer.number == 0 {
             &mut found
@@ -253,7 +255,7 @@ fn orders_hold_at_larger_speeds_under_random_courses() {
         let range = sought.range(&table);
         for speed in (answer.speed..=*range.end()).take(6) {
             let at = sought.put(&table, speed);
-            let survives = survives_random_courses(&at, &answer.order, &mut random);
+            let survives = survives_random_courses(step, &at, &answer.order, &mut random);
             assert!(survives, "{sought:?} {speed}: {table:?}");
             larger += u32::from(speed > answer.speed);
         }

@@ -6,10 +6,11 @@ use compiled::sheets::random_order;
 use model::calls::LAST_CLOCK;
 use model::random::Random;
 use model::record::{Record, Unsound};
-use model::table::{allowance, HI, LO, ROWS};
+use model::run::is_late_preview;
+use model::table::{allowance, Table, HI, LATEST_DEADLINE, LO, ROWS};
 
 /// Every clause of check 9.
-pub const CLAUSES: [Unsound; 12] = [
+pub const CLAUSES: [Unsound; 13] = [
     Unsound::TableOrOrder(3),
     Unsound::TableOrOrder(4),
     Unsound::TableOrOrder(11),
@@ -20,7 +21,8 @@ pub const CLAUSES: [Unsound; 12] = [
     Unsound::UsedOverClock,
     Unsound::ClosingOverClock,
     Unsound::OpenThoughFinished,
-    Unsound::ClosedWithNeither,
+    Unsound::OpenThoughLate,
+    Unsound::ClosedWithoutReason,
     Unsound::EntryAfterLastRow,
 ];
 
@@ -42,32 +44,51 @@ pub fn reached_record(random: &mut Random) -> Record {
     record.forward(&supplies(random, slots)).record
 }
 
-/// A sound record at a clock of any size, most of them such that no run reaches
-/// them.
+/// A sound record at a clock of any size, or about one of its deadlines, most of them
+/// such that no run reaches them.
 pub fn sound_record(random: &mut Random) -> Record {
-    let clock = match random.between(0, 5) {
+    let fresh = fresh_record(random);
+    let clock = match random.between(0, 7) {
         0 => random.between(0, 3),
         1 => random.between(LAST_CLOCK - 10, LAST_CLOCK - 1),
         2 => LAST_CLOCK,
         3 => random.between(0, LAST_CLOCK),
+        4..=5 => about_a_deadline(random, &fresh.table),
         _ => random.between(0, 40),
     };
-    sound_record_at(random, clock)
+    with_sound_figures(random, fresh, clock)
 }
 
 /// A sound record at this clock, in slots.
 pub fn sound_record_at(random: &mut Random, clock: u32) -> Record {
-    let mut record = fresh_record(random);
-    record.clock = clock;
+    let fresh = fresh_record(random);
+    with_sound_figures(random, fresh, clock)
+}
+
+/// A clock about the deadline of some row, most often one slot before it.
+fn about_a_deadline(random: &mut Random, table: &Table) -> u32 {
+    let deadline = random.one_of(&table.deadline[..table.n as usize]);
+    random.one_of(&[deadline - 1, deadline - 1, deadline, deadline + 1])
+}
+
+/// This fresh record at this clock, in slots, with any figures that are sound.
+pub fn with_sound_figures(random: &mut Random, fresh: Record, clock: u32) -> Record {
+    let mut record = Record { clock, ..fresh };
     for row in 1..=record.table.n as u8 {
         match random.between(0, 3) {
             0 if clock > 0 => set_done(random, &mut record, row),
             1 if can_be_dropped(&record, row) => set_dropped(random, &mut record, row),
+            _ if is_late(&record, row) => set_dropped_at_deadline(random, &mut record, row),
             _ => set_open(random, &mut record, row),
         }
     }
     assert!(record.is_sound(), "{record:?}");
     record
+}
+
+/// The row is LO, and the clock has reached its deadline.
+fn is_late(record: &Record, row: u8) -> bool {
+    is_late_preview(&record.table, row, record.clock)
 }
 
 fn can_be_dropped(record: &Record, row: u8) -> bool {
@@ -104,6 +125,13 @@ fn set_dropped(random: &mut Random, record: &mut Record, row: u8) {
     record.closing[index] = random.between(1, record.clock);
 }
 
+/// With work missing and allowance left.
+fn set_dropped_at_deadline(random: &mut Random, record: &mut Record, row: u8) {
+    set_open(random, record, row);
+    let index = row as usize - 1;
+    record.closing[index] = record.table.deadline[index];
+}
+
 /// More slots were used than passed, so no run reaches the record.
 pub fn is_out_of_reach(record: &Record) -> bool {
     let used: u64 = record.used.iter().map(|&slots| u64::from(slots)).sum();
@@ -136,9 +164,12 @@ fn break_clause(random: &mut Random, record: &mut Record, clause: Unsound) {
         Unsound::UsedOverClock => record.used[index] = over(record.clock, random),
         Unsound::ClosingOverClock => record.closing[index] = over(record.clock, random),
         Unsound::OpenThoughFinished => open_though_finished(random, record, row),
-        Unsound::ClosedWithNeither => {
+        Unsound::OpenThoughLate => open_though_late(random, record, row),
+        Unsound::ClosedWithoutReason => {
             set_open(random, record, row);
-            record.closing[index] = random.between(0, record.clock);
+            let deadline = record.table.deadline[index];
+            let closings = [random.between(0, record.clock), deadline - 1, deadline + 1];
+            record.closing[index] = random.one_of(&closings);
         }
         Unsound::EntryAfterLastRow => {
             let after = random.between(n.min(63), 63) as usize;
@@ -161,6 +192,19 @@ fn open_though_finished(random: &mut Random, record: &mut Record, row: u8) {
         record.got[index] = record.table.work[index];
     } else {
         record.used[index] = allowance(&record.table, row);
+    }
+}
+
+/// A deadline that the clock has reached, and the row open, if it was released before.
+fn open_though_late(random: &mut Random, record: &mut Record, row: u8) {
+    let index = row as usize - 1;
+    let earliest = record.table.release[index] + 1;
+    if earliest <= record.clock {
+        let latest = record.clock.min(LATEST_DEADLINE);
+        let deadlines = [earliest, latest, random.between(earliest, latest)];
+        record.table.deadline[index] = random.one_of(&deadlines);
+        set_open(random, record, row);
+        record.closing[index] = 0;
     }
 }
 

@@ -92,6 +92,15 @@ fn after_slot(table: &Table, state: &State, row: u8) -> String {
     }
 }
 
+/// The rows that the last slot closed while another row ran in it: LO rows at
+/// their deadlines (rule 19.2).
+fn dropped_beside(table: &Table, state: &State, ran: u8) -> Vec<u8> {
+    let closed_now = |row: &u8| state.closing[*row as usize - 1] == state.clock;
+    (1..=table.n as u8)
+        .filter(|row| *row != ran && closed_now(row))
+        .collect()
+}
+
 fn summary_line(table: &Table, state: &State, row: u8) -> String {
     format!(
         "row {row}: {} at clock {}, deadline {} slots, {}",
@@ -187,6 +196,10 @@ fn plan_and_run(out: &mut impl Write, sheet: &[u8], supplies: &[u32]) -> io::Res
             out,
             "slot {slot}: {started}, supply {supply} work units{brought}"
         )?;
+        for dropped in dropped_beside(&table, &state, row) {
+            let clock = state.clock;
+            writeln!(out, "clock {clock}: row {dropped} dropped at its deadline")?;
+        }
     }
     for row in 1..=table.n as u8 {
         writeln!(out, "{}", summary_line(&table, &state, row))?;

@@ -3,12 +3,17 @@
 
 pub mod correct;
 
+use model::calls::Call;
+use model::cases::p3;
 use model::judge::Verdict;
-use model::order::{orders, Order};
+use model::order::{order_of, orders, Order};
 use model::random::{loading_table_in, table_in, Random, Ranges};
 use model::record::Record;
-use model::run::State;
+use model::run::{running_step, step, Rule, State};
 use model::table::{Table, MOST_LOADING};
+
+/// The planning rule and the running rule (rule 19.1).
+pub const RULES: [Rule; 2] = [step, running_step];
 
 /// Loading times that are refused, in slots.
 pub const TOO_LONG: [u32; 5] = [17, 18, 64, 1 << 31, u32::MAX];
@@ -103,6 +108,34 @@ pub fn supplies(random: &mut Random, slots: u32) -> Vec<u32> {
             _ => random.between(0, 5),
         })
         .collect()
+}
+
+/// These supplies cut into calls, some of them forward over an empty list.
+pub fn calls_for(random: &mut Random, supplies: &[u32]) -> Vec<Call> {
+    let mut calls = Vec::new();
+    let mut rest = supplies;
+    while !rest.is_empty() {
+        if random.once_in(2) {
+            calls.push(Call::OneSlot(rest[0]));
+            rest = &rest[1..];
+        } else {
+            let count = random.between(0, rest.len().min(7) as u32) as usize;
+            calls.push(Call::Forward(rest[..count].to_vec()));
+            rest = &rest[count..];
+        }
+    }
+    calls
+}
+
+/// The record of P3 under the order 1, 2 at this clock, in slots: row 1 was dropped
+/// at its deadline, row 2 has not run.
+pub fn p3_at(clock: u32) -> Record {
+    let mut record = Record {
+        clock,
+        ..fresh(&p3(), &order_of(&[1, 2]))
+    };
+    record.closing[0] = 2;
+    record
 }
 
 /// The fresh record of an accepted table and one of its orders.

@@ -1,20 +1,22 @@
 //! The faults of section 14 of the rules, but for the check of rule 14.11, each built
 //! into a planner of its own, and the smallest tables on which that planner and
 //! the true one differ. `speeds` has faults in the search for the least workable
-//! speed. Run with `--nocapture` to read the tables.
+//! speed, `late` those of runs that drop late previews and of check 9. Run with
+//! `--nocapture` to read the tables.
 
+mod late;
 mod planners;
 mod search;
 mod speeds;
 
-use model::cases::{p1, p2, p3, p4, table as table_of};
+use model::cases::{p1, p2, p3, p4, serving, table as table_of};
 use model::order::{order_of, NO_ORDER};
 use model::plan::{plan, word_of, Plan};
 use model::table::Table;
 use planners::{
-    Planner, ALLOWANCE_WITHOUT_LOADING, DROPPING_LATE, DROPPING_LATE_FALLING, HI_WITHOUT_LOADING,
-    LOADING_AGAIN, LOADING_NOT_USED, LOADING_ONCE, LO_AT_DEGRADED, LO_LEFT_OUT, ROUNDING_ONCE,
-    TRUE_PLANNER, TWO_LATEST,
+    Planner, ALLOWANCE_WITHOUT_LOADING, DROPPING_LATE, DROPPING_LATE_FALLING, FINISHED_RUNNING,
+    HI_WITHOUT_LOADING, LOADING_AGAIN, LOADING_NOT_USED, LOADING_ONCE, LO_AT_DEGRADED, LO_LEFT_OUT,
+    PLANNED_RUNNING, ROUNDING_ONCE, TRUE_PLANNER, TWO_LATEST,
 };
 use search::{
     every_table, every_table_without_loading, print, smallest, witness, Kind, KINDS, TRIED,
@@ -142,6 +144,41 @@ fn late_jobs_taken_out() {
         answers(&[3, 1, 2]),
         answers(&[3, 2, 1]),
     );
+}
+
+#[test]
+fn planned_by_the_running_rule() {
+    // Row 1 stops at its deadline 1, which leaves a slot for row 2.
+    let pair = table_of(1, 1, &[[0, 2, 1, 0], [0, 1, 2, 0]]);
+    expect(
+        &PLANNED_RUNNING,
+        &KINDS,
+        pair,
+        leaves(&[1, 2]),
+        leaves(&[1]),
+    );
+    expect(
+        &PLANNED_RUNNING,
+        &[Kind::AnswersWronglyAnOrder],
+        table_of(1, 1, &[[0, 1, 2, 0], [0, 1, 1, 0], [0, 1, 2, 0]]),
+        leaves(&[1, 2, 3]),
+        answers(&[2, 1, 3]),
+    );
+    // A row that is dropped at its deadline has finished there, if closing is all.
+    expect(
+        &FINISHED_RUNNING,
+        &KINDS,
+        table_of(1, 1, &[[0, 2, 1, 0]]),
+        leaves(&[1]),
+        answers(&[1]),
+    );
+    for planner in [&PLANNED_RUNNING, &FINISHED_RUNNING] {
+        assert!(smallest(planner, &[Kind::RefusesWrongly]).is_none());
+    }
+    // The table of rule 13.13: one of them happens upon the order that serves.
+    assert_eq!(plan(&serving()), leaves(&[1, 2, 3]));
+    assert_eq!(PLANNED_RUNNING.plan(&serving()), answers(&[1, 2, 3]));
+    assert_eq!(FINISHED_RUNNING.plan(&serving()), answers(&[1, 3, 2]));
 }
 
 #[test]

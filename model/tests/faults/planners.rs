@@ -2,7 +2,7 @@
 
 use model::order::{order_of, Order, NO_ORDER};
 use model::plan::{passes_lowest, slack, trial_order, trial_sequence, word_of, worst_speed, Plan};
-use model::run::{chosen, kept_deadline, step, State};
+use model::run::{chosen, kept_deadline, running_step, step, State};
 use model::table::{allowance, Table, HI, LO, ROWS};
 
 /// The rows tried at a place, in their sequence, given the rows left.
@@ -129,6 +129,38 @@ pub fn drop_late_rows(table: &Table, state: &mut State) {
             state.closing[index] = state.clock;
         }
     }
+}
+
+/// Rows are tried in runs by the running rule, in which LO rows stop at their
+/// deadlines (rule 14.22), and pass if they are done in time.
+pub const PLANNED_RUNNING: Planner = Planner {
+    name: "planned by the running rule (rule 14.22)",
+    sequence: trial_sequence,
+    trial: |table, left, placed, row| {
+        let state = worst_running(table, &trial_order(left, placed, row), row);
+        kept_deadline(table, &state, row)
+    },
+};
+
+/// The same, but a row passes if its closing slot in that run is no later than its
+/// deadline, which that of a LO row never is.
+pub const FINISHED_RUNNING: Planner = Planner {
+    name: "worst finishes by the running rule (rule 14.22)",
+    sequence: trial_sequence,
+    trial: |table, left, placed, row| {
+        let state = worst_running(table, &trial_order(left, placed, row), row);
+        state.closing[row as usize - 1] <= table.row(row).deadline
+    },
+};
+
+/// The state in which the row closes in its worst run by the running rule.
+fn worst_running(table: &Table, order: &Order, row: u8) -> State {
+    let supply = worst_speed(table, row);
+    let mut state = State::FRESH;
+    while state.closing[row as usize - 1] == 0 {
+        running_step(table, order, &mut state, supply);
+    }
+    state
 }
 
 /// A HI row is tried among the HI rows alone (rule 14.4).
