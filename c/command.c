@@ -453,11 +453,13 @@ static void put_rows_left(FILE *to, uint64_t left) {
     fputc('\n', to);
 }
 
+/* Says that no correct order exists, which rows are left, and what was not looked for. */
 static void explain_no_order(FILE *to, uint64_t left) {
     put_words(to, JB_NO_ORDER);
     fputs("rows left:", to);
     put_rows_left(to, left);
     put_remedy(to, JB_NO_ORDER);
+    fputs("not looked for: orders that would serve only because runs drop LO rows at their deadlines\n", to);
 }
 
 /* The first line is well formed up to K's field, and ends where that begins: so it was before a sheet had K. */
@@ -1041,14 +1043,27 @@ static int speeds(const request *asked) {
 }
 
 /* How a row has closed, for plain lines: see the help of run. */
+enum closing_code {
+    OPEN = 0,
+    DONE = 1,
+    DROPPED = 2, /* its slots used up */
+    DONE_LATE = 3,
+    DROPPED_FOR_DEADLINE = 4,
+    DROPPED_NOT_RUN = 5 /* for its deadline too, but not by a slot that it ran */
+};
+
 static uint32_t closing_figure(const jb_run *run, uint32_t row) {
-    return jb_is_dropped(run, row) ? 2 : !jb_is_done(run, row) ? 0 : jb_is_late(run, row) ? 3 : 1;
+    if (jb_is_dropped(run, row)) {
+        return jb_is_dropped_for_deadline(run, row) ? DROPPED_FOR_DEADLINE : DROPPED;
+    }
+    return !jb_is_done(run, row) ? OPEN : jb_is_late(run, row) ? DONE_LATE : DONE;
 }
 
 /* How a row has closed, in words; nothing while it is open. */
 static void put_closing(const jb_run *run, uint32_t row) {
     if (jb_is_dropped(run, row)) {
-        printf(", dropped at clock %" PRIu32, run->closing[row - 1]);
+        const char *why = jb_is_dropped_for_deadline(run, row) ? "its deadline" : "its slots used up";
+        printf(", dropped at clock %" PRIu32 ", %s", run->closing[row - 1], why);
     } else if (jb_is_done(run, row)) {
         printf(", done at clock %" PRIu32, run->closing[row - 1]);
         if (jb_is_late(run, row)) {
@@ -1115,6 +1130,61 @@ static void put_stretch(const request *asked, const jb_run *before, const jb_run
     putchar('\n');
 }
 
+/* A row closed earlier than another, or at the same clock and with a lower number. */
+static bool closed_before(const jb_run *run, uint32_t row, uint32_t other) {
+    const uint32_t clock = run->closing[row - 1];
+    const uint32_t others = run->closing[other - 1];
+    return clock < others || (clock == others && row < other);
+}
+
+/*
+ * Of the rows that closed between two records while another one ran, in turn, the
+ * one that comes after this one, or the first with 0; 0 where there is none. The
+ * clock alone closes such rows: LO rows at their deadlines.
+ */
+static uint32_t next_dropped(const jb_run *before, const jb_run *after, uint32_t ran, uint32_t this_one) {
+    uint32_t next = 0;
+    for (uint32_t row = 1; row <= after->table.n; row++) {
+        const bool dropped = row != ran && jb_is_open(before, row) && !jb_is_open(after, row);
+        if (dropped && (this_one == 0 || closed_before(after, this_one, row)) && (next == 0 || closed_before(after, row, next))) {
+            next = row;
+        }
+    }
+    return next;
+}
+
+/* The plain line of a row that was dropped at its deadline while another one ran. */
+static void put_plain_dropped(const request *asked, const jb_run *run, uint32_t row) {
+    const uint32_t clock = run->closing[row - 1];
+    if (asked->stretches) {
+        put_field(clock);
+        put_field(0);
+        put_field(row);
+    } else {
+        put_field(clock - 1);
+        put_field(row);
+        put_field(run->got[row - 1]);
+        put_field(run->table.work[row - 1]);
+    }
+    put_two_fields(DROPPED_NOT_RUN, 0);
+}
+
+/* Says that a row was dropped at its deadline while another one ran. */
+static void put_dropped(const request *asked, const jb_run *run, uint32_t row) {
+    if (asked->plain) {
+        put_plain_dropped(asked, run, row);
+    } else {
+        printf("at clock %" PRIu32 ": row %" PRIu32 ", got %" PRIu32 " of %" PRIu32 " work units, dropped at its deadline\n",
+               run->closing[row - 1], row, run->got[row - 1], run->table.work[row - 1]);
+    }
+}
+
+static void put_all_dropped(const request *asked, const jb_run *before, const jb_run *run, uint32_t ran) {
+    for (uint32_t row = next_dropped(before, run, ran, 0); row != 0; row = next_dropped(before, run, ran, row)) {
+        put_dropped(asked, run, row);
+    }
+}
+
 /* A row ran in every one of so many slots between two records of a run; with row 0, none did in any. */
 static bool ran_alone(const jb_run *before, const jb_run *after, uint32_t row, uint32_t length) {
     if (row == 0) {
@@ -1158,6 +1228,7 @@ static uint32_t run_slots(const request *asked, jb_run *run, const uint32_t *sup
             return number;
         }
         put_slot(asked, &before, run, row, supplies[index]);
+        put_all_dropped(asked, &before, run, row);
     }
     return JB_OK;
 }
@@ -1171,6 +1242,7 @@ static uint32_t run_stretches(const request *asked, jb_run *run, const uint32_t 
             return number;
         }
         put_stretch(asked, &before, run, row);
+        put_all_dropped(asked, &before, run, row);
     }
     return JB_OK;
 }
@@ -1427,7 +1499,10 @@ static const char PLAN_HELP[] =
     "makes a correct order, highest place first, with the slack of each row in slots\n"
     "\n"
     "A row's slack is its deadline less its worst finish: its finish when every slot\n"
-    "supplies exactly N (LO row) or exactly G (HI row) work units.\n"
+    "supplies exactly N (LO row) or exactly G (HI row) work units. Plans do not count\n"
+    "on LO rows being dropped at their deadlines, as run drops them: for correct orders\n"
+    "and worst finishes late rows go on. So where the answer is 7, an order may still\n"
+    "serve, only because late LO rows are dropped; such orders are not looked for.\n"
     "\n"
     "--plain: what the planning program writes. First line: 0 and the row count, or\n"
     "a refusal's number and the count of rows left, which is 0 but for 7. After 0 a\n"
@@ -1446,7 +1521,8 @@ static const char JUDGE_HELP[] =
 static const char FINISHES_HELP[] =
     "says each row's worst finish and slack in slots\n"
     "\n"
-    "ROW.. is the order as for judge; without it the planned order is taken.\n"
+    "ROW.. is the order as for judge; without it the planned order is taken. In worst\n"
+    "finishes late LO rows go on; in a run they are dropped at their deadlines.\n"
     "\n"
     "--plain: first line: 0 and the row count, or a refusal's number and the count of\n"
     "rows left, 0 but for 7. After 0 a line for each row: row, worst finish in\n"
@@ -1479,9 +1555,10 @@ static const char SPEEDS_HELP[] =
     "speed of the range that order is correct too, and at every smaller one none is. Each\n"
     "answer holds with the other speed as the sheet states it: the two least speeds\n"
     "together may have no correct order. What the sheet states as the speed sought must be\n"
-    "within its limits and does not matter otherwise. Status 1 if no speed of one range,\n"
-    "or of both, has a correct order: that is said on standard output, and the rows left\n"
-    "are then those at the largest speed of the range.\n"
+    "within its limits and does not matter otherwise. Correct is meant as for plan, with\n"
+    "late rows going on. Status 1 if no speed of one range, or of both, has a correct\n"
+    "order: that is said on standard output, and the rows left are then those at the\n"
+    "largest speed of the range.\n"
     "\n"
     "--slacks: for one order the judge's verdict at each G from 1 to N: correct or not, the\n"
     "row of least slack (the lower row on a tie) and that slack in slots. ROW.. is the\n"
@@ -1506,17 +1583,24 @@ static const char RUN_HELP[] =
     "The first K slots that a row runs are its loading slots, which bring no work; a\n"
     "row that was preempted does not load again. A loading slot is named as one, and a\n"
     "stretch says how many of its slots are loading: they are its first ones.\n"
-    "A row closes when it is done (all its work got) or dropped (a LO row that is\n"
-    "not done when its need at N is used up). Done after its deadline it is late.\n"
+    "A row closes when it is done (all its work got) or dropped. A LO row is dropped if\n"
+    "it is not done when its need at N is used up, or when the clock reaches its\n"
+    "deadline; what the slot right before its deadline brings still counts. Where\n"
+    "another row runs in that slot, the drop has a line of its own, 'at clock ..',\n"
+    "after that of the slot or of the stretch. A HI row goes on until it is done, late\n"
+    "if that is after its deadline.\n"
     "The clock ends at 2,000,000 slots: a supply beyond that is refused with 8.\n"
     "\n"
     "--plain: first line: 0 and the row count, or a refusal's number and the count of\n"
     "rows left, 0 but for 7. After 0 a line for each slot: slot, row run (0 for\n"
     "none), work units that the row has got, its work in work units, how it closed: 0\n"
-    "not closed, 1 done, 2 dropped, 3 done late; loading slots: 1 if the slot is one,\n"
-    "else 0. With --stretches a line for each stretch: first slot, number of slots, row\n"
-    "(0 for none), how it closed at the end of the stretch, loading slots in it.\n"
-    "Supplies are not repeated; some would not fit in 8 bytes.\n";
+    "not closed, 1 done, 2 dropped with its slots used up, 3 done late, 4 dropped at\n"
+    "its deadline; loading slots: 1 if the slot is one, else 0. With --stretches a line\n"
+    "for each stretch: first slot, number of slots, row (0 for none), how it closed at\n"
+    "the end of the stretch, loading slots in it. A 5 for how it closed marks a line of\n"
+    "a row that did not run: it was dropped at its deadline while another row ran, at\n"
+    "the end of the slot; with --stretches the line has its deadline as first slot and\n"
+    "0 as number of slots. Supplies are not repeated; some would not fit in 8 bytes.\n";
 
 static const char EXPLAIN_HELP[] =
     "says what is wrong with a sheet, where, and what to do about it\n"

@@ -1,7 +1,10 @@
 /*
  * An example for firmware writers: plan a sheet once, then run it slot by slot.
  * On the way the sheet is written back from the table that was read, and the
- * report of the planned order is printed.
+ * report of the planned order is printed. With supplies below N a LO row may be
+ * dropped at its deadline, even while another row runs:
+ *
+ *     example samples/late-preview.sheet 4 4 4 4 1
  *
  *     example [SHEET [SUPPLY ...]]
  *
@@ -108,6 +111,15 @@ static void print_slot_end(const jb_run *run, uint32_t row, uint32_t supply) {
     printf("\n");
 }
 
+/* LO rows that reached their deadlines while another row ran: firmware stops their jobs here. */
+static void print_dropped(const jb_run *run, uint32_t ran) {
+    for (uint32_t row = 1; row <= run->table.n && row <= JB_ROWS; row++) {
+        if (row != ran && run->closing[row - 1] == run->clock) {
+            printf("clock %" PRIu32 ": row %" PRIu32 " dropped at its deadline\n", run->clock, row);
+        }
+    }
+}
+
 /* One slot: ask for its row, start it, and report what the slot supplied when it is over. */
 static uint32_t run_slot(jb_run *run, const supplies *from) {
     uint32_t slot = run->clock;
@@ -121,6 +133,7 @@ static uint32_t run_slot(jb_run *run, const supplies *from) {
     number = jb_work_slot(run, supply, &row);
     if (number == JB_OK) {
         print_slot_end(run, row, supply);
+        print_dropped(run, row);
     }
     return number;
 }

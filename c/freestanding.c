@@ -1,8 +1,9 @@
 /*
  * The library without a C library: the two functions that the archive needs, an
- * entry of its own, and a run of case P1 from its sheet to its last row; then the
- * sheet is written back, a report of its rows, and its least G is asked for. It shows
- * what a board has to provide. Build and run it on x86-64 Linux:
+ * entry of its own, and a run of case P1 from its sheet to its last row, with LO rows
+ * dropped on the way; then the sheet is written back, a report of its rows, and its
+ * least G is asked for. It shows what a board has to provide. Build and run it on
+ * x86-64 Linux:
  *
  *     gcc -std=c11 -O2 -ffreestanding -nostdlib -static -fno-tree-loop-distribute-patterns \
  *         -o freestanding c/freestanding.c target/staticlib/libjasminebrace.a
@@ -99,14 +100,18 @@ static int steps(void) {
     if (!jb_is_done(&run, 1) || jb_is_late(&run, 1) || !jb_is_done(&run, 3) || jb_is_late(&run, 3)) {
         return 7;
     }
-    if (jb_write_table(&table, written, sizeof written, &length) != JB_OK || !same_text(written, length, SHEET)) {
+    /* Row 4 never ran up to its deadline; row 2 had used its need of 3 slots when its own came. */
+    if (!jb_is_dropped_for_deadline(&run, 4) || !jb_is_dropped(&run, 2) || jb_is_dropped_for_deadline(&run, 2)) {
         return 8;
     }
-    if (jb_report_order(&table, order, report, sizeof report, &length) != JB_OK || !same_text(report, length, REPORT)) {
+    if (jb_write_table(&table, written, sizeof written, &length) != JB_OK || !same_text(written, length, SHEET)) {
         return 9;
     }
-    if (jb_least_degraded_speed(&table, &speed, order) != JB_OK || speed != table.degraded) {
+    if (jb_report_order(&table, order, report, sizeof report, &length) != JB_OK || !same_text(report, length, REPORT)) {
         return 10;
+    }
+    if (jb_least_degraded_speed(&table, &speed, order) != JB_OK || speed != table.degraded) {
+        return 11;
     }
     return 0;
 }

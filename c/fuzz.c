@@ -186,29 +186,47 @@ static void fill_order(uint8_t *order, uint32_t n) {
     }
 }
 
-static uint32_t any_clock(void) {
+/* A clock near its end, a slot before the deadline of some row, or an early one. */
+static uint32_t any_clock(const jb_table *table) {
+    const uint32_t deadline = table->deadline[between(0, JB_ROWS - 1) % (table->n == 0 ? 1 : table->n)];
+    if (once_in(3) && deadline >= 1 && deadline <= JB_LAST_CLOCK) {
+        return deadline - 1;
+    }
     return once_in(4) ? between(JB_LAST_CLOCK - 10, JB_LAST_CLOCK + 1) : between(0, 60);
 }
 
-/* Slots that an open row may have used: up to K, and to the clock. */
-static uint32_t any_loaded(const jb_run *run) {
-    const uint32_t most = run->table.loading < run->clock ? run->table.loading : run->clock;
-    return between(0, most < JB_MOST_LOADING ? most : JB_MOST_LOADING);
+/* Slots that an open row may have used: up to K, or one less than its need, and no more than the clock. */
+static uint32_t any_used(const jb_run *run, uint32_t row) {
+    const uint32_t need = jb_need(&run->table, row);
+    const uint32_t most = run->table.loading < JB_MOST_LOADING ? run->table.loading : JB_MOST_LOADING;
+    const uint32_t used = once_in(3) && need != 0 ? need - 1 : between(0, most);
+    return used < run->clock ? used : run->clock;
+}
+
+/* A row that is done, or has work missing: then it is open, or a LO row that was dropped at its deadline if the clock has reached that, or should have been. */
+static void fill_row(jb_run *run, uint32_t index) {
+    if (once_in(3) && run->clock > 0) {
+        run->got[index] = run->table.work[index];
+        run->closing[index] = between(1, run->clock);
+        return;
+    }
+    run->got[index] = between(0, run->table.work[index]) / 2;
+    run->used[index] = once_in(2) ? 0 : any_used(run, index + 1);
+    if (run->table.level[index] == JB_LO && run->clock >= run->table.deadline[index] && !once_in(16)) {
+        run->closing[index] = run->table.deadline[index];
+    }
 }
 
 /* Most rows of the state are such that check 9 may pass. */
 static void fill_state(jb_run *run) {
     memset((unsigned char *)run + offsetof(jb_run, clock), 0, sizeof *run - offsetof(jb_run, clock));
-    run->clock = any_clock();
+    run->clock = any_clock(&run->table);
     uint32_t n = run->table.n <= JB_ROWS ? run->table.n : JB_ROWS;
     for (uint32_t index = 0; index < n; index++) {
-        if (once_in(3) && run->clock > 0) {
-            run->got[index] = run->table.work[index];
-            run->closing[index] = between(1, run->clock);
-        } else {
-            run->got[index] = between(0, run->table.work[index]) / 2;
-            run->used[index] = once_in(2) ? 0 : any_loaded(run);
-        }
+        fill_row(run, index);
+    }
+    if (once_in(8)) {
+        run->closing[between(0, JB_ROWS - 1)] = between(0, run->clock);
     }
     if (once_in(8)) {
         fill_with_any((unsigned char *)run + offsetof(jb_run, clock), sizeof *run - offsetof(jb_run, clock));
@@ -300,6 +318,7 @@ static const struct {
 static uint64_t counts[FUNCTIONS][NUMBERS];
 static uint64_t range_ends[2]; /* least speeds that are the first and the last of their range */
 static uint64_t loading_slots, working_slots; /* slots worked one by one that brought no work by K, and other ones of a row */
+static uint64_t dropped_for_need, dropped_running, dropped_waiting; /* LO rows: for their need, at their deadlines as they ran, and as they did not */
 
 /* Counts an answer, whose number is one that the function can give. */
 static void count(int function, uint32_t number) {
@@ -609,6 +628,7 @@ typedef struct {
 static void list_place(listing *to, const jb_table *table, const uint8_t *order, uint32_t place, const uint32_t *finishes) {
     uint32_t row = order[place - 1];
     uint32_t need = table->loading + (table->work[row - 1] + table->normal - 1) / table->normal;
+    expect(jb_need(table, row) == need, "a row's need is the report's");
     int64_t slack = (int64_t)table->deadline[row - 1] - finishes[row - 1];
     to->length += (size_t)snprintf(to->text + to->length, sizeof to->text - to->length,
                                    "%10" PRIu32 "%10" PRIu32 "%10" PRIu32 "%10" PRIu32 "%10" PRId64 "\n", place, row, need,
@@ -694,6 +714,28 @@ static uint32_t got_after(const jb_run *before, uint32_t row, uint32_t supply) {
     return got + (brought < missing ? brought : missing);
 }
 
+/* A row that was open closes when it is done, for its need, or as a LO row at its deadline; any other stays as it was. */
+static void expect_closing(const jb_run *before, const jb_run *run, uint32_t row, bool ran) {
+    const uint32_t index = row - 1;
+    const bool low = run->table.level[index] == JB_LO;
+    const bool done = run->got[index] == run->table.work[index];
+    const bool used_up = low && run->used[index] >= jb_need(&run->table, row);
+    const bool reached = low && run->clock >= run->table.deadline[index];
+    if (!ran) {
+        expect(run->got[index] == before->got[index] && run->used[index] == before->used[index], "a row that does not run gets nothing");
+    }
+    if (!jb_is_open(before, row)) {
+        expect(run->closing[index] == before->closing[index], "a closed row stays closed");
+        return;
+    }
+    const bool closes = (ran && (done || used_up)) || reached;
+    expect(run->closing[index] == (closes ? run->clock : 0), "a row closes at the new clock, if it does");
+    expect(jb_is_dropped_for_deadline(run, row) == (reached && !done && !used_up), "dropped for its deadline, and not for its need");
+    dropped_for_need += ran && used_up && !done;
+    dropped_running += ran && jb_is_dropped_for_deadline(run, row);
+    dropped_waiting += !ran && reached;
+}
+
 /* What a slot may have changed: nothing with a refusal, the state alone with 0. */
 static void expect_slot(const jb_run *run, uint32_t number, uint32_t row, uint32_t supply) {
     const jb_run *before = (const jb_run *)run_at.copy;
@@ -706,6 +748,11 @@ static void expect_slot(const jb_run *run, uint32_t number, uint32_t row, uint32
     expect(memcmp(run, before, offsetof(jb_run, clock)) == 0, "table and order stay");
     expect(run->clock == before->clock + 1, "the clock moves by one slot");
     expect(row <= run->table.n, "the row run is a row or 0");
+    for (uint32_t other = 1; other <= run->table.n; other++) {
+        expect_closing(before, run, other, other == row);
+    }
+    uint32_t next;
+    expect(jb_coming_row(run, &next) != JB_UNSOUND, "a slot leaves a sound record");
     if (row != 0) {
         expect(run->got[row - 1] == got_after(before, row, supply), "work got grows by what the slot brings");
         expect(run->used[row - 1] == before->used[row - 1] + 1, "slots used grow by one");
@@ -715,11 +762,21 @@ static void expect_slot(const jb_run *run, uint32_t number, uint32_t row, uint32
     }
 }
 
+/* Some LO row is open although the clock has reached its deadline. */
+static bool any_low_row_late(const jb_run *run) {
+    bool any = false;
+    for (uint32_t row = 1; row <= run->table.n && row <= JB_ROWS; row++) {
+        any = any || (run->table.level[row - 1] == JB_LO && jb_is_open(run, row) && jb_is_late(run, row));
+    }
+    return any;
+}
+
 static void try_slot(void) {
     jb_run *run = fill_run();
     uint32_t *coming = (uint32_t *)place(&word_at, sizeof *coming);
     uint32_t expected = jb_coming_row(run, coming);
     count(COMING, expected);
+    expect(expected == JB_UNSOUND || !any_low_row_late(run), "9 if a LO row is open at its deadline");
     expect_unwritten(&run_at);
     expect_guards(&word_at);
     uint32_t supply = any_figure();
@@ -957,6 +1014,9 @@ int main(int argc, char **argv) {
     print_counts();
     printf("slots worked one by one: %" PRIu64 " loading, %" PRIu64 " other ones of a row\n", loading_slots, working_slots);
     expect(loading_slots > 0 && working_slots > 0, "both kinds of slots come up");
+    printf("LO rows dropped: %" PRIu64 " for their need, at their deadlines %" PRIu64 " that ran and %" PRIu64 " that did not\n",
+           dropped_for_need, dropped_running, dropped_waiting);
+    expect(dropped_for_need > 0 && dropped_running > 0 && dropped_waiting > 0, "every way to be dropped comes up");
     printf("least speeds: %" PRIu64 " the first of their range, %" PRIu64 " the last\n", range_ends[0], range_ends[1]);
     expect(range_ends[0] > 0 && range_ends[1] > 0, "both ends of the ranges come up");
     printf("%lu rounds, all held\n", rounds);

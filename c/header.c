@@ -2,8 +2,9 @@
  * Tests of the header's own functions, in what C11 and C++11 have in common:
  * the interface's number, the words for every number, lists of no entries, a
  * sheet written back, least speeds, reports, K beyond its limit, where a row of a run
- * stands and how far it has loaded, and the packed verdict taken apart. It says how
- * many things it looked at; exit status 1 if one is not as it should be.
+ * stands and how far it has loaded, LO rows at their deadlines, needs, and the packed
+ * verdict taken apart. It says how many things it looked at; exit status 1 if one is
+ * not as it should be.
  */
 #include "jasminebrace.h"
 
@@ -307,6 +308,7 @@ static void look_at_row(const jb_run *run, uint32_t row, int open, int done, int
     look(jb_is_done(run, row) == done, "done, row", row);
     look(jb_is_dropped(run, row) == dropped, "dropped, row", row);
     look(jb_is_late(run, row) == late, "late, row", row);
+    look(dropped || !jb_is_dropped_for_deadline(run, row), "dropped for its deadline, row", row);
 }
 
 static void look_at_no_rows(const jb_run *run) {
@@ -314,12 +316,14 @@ static void look_at_no_rows(const jb_run *run) {
     for (size_t index = 0; index < sizeof none / sizeof none[0]; index++) {
         look_at_row(run, none[index], 0, 0, 0, 0);
         look(jb_loaded(run, none[index]) == 0 && !jb_is_loading(run, none[index]), "loading, row", none[index]);
+        look(jb_need(&run->table, none[index]) == 0, "need, row", none[index]);
     }
 }
 
 /*
- * P3 with K 2 and supplies of 2: row 1 loads in slots 0 and 1 and is done by slot
- * 2; row 2 loads in slots 3 and 4 and is done by slot 6, after its deadline.
+ * P3 with K 2, a deadline of 3 slots for row 1 and supplies of 2: row 1 loads in slots
+ * 0 and 1 and is done by slot 2, its last; row 2 loads in slots 3 and 4 and is done by
+ * slot 6, after its deadline.
  */
 static void look_at_loading(void) {
     const uint8_t order[JB_ROWS] = {1, 2};
@@ -329,6 +333,8 @@ static void look_at_loading(void) {
     uint32_t row;
     look(jb_read_table((const uint8_t *)P3, sizeof P3 - 1, &table) == JB_OK && table.loading == 0, "P3", 0);
     table.loading = 2;
+    table.deadline[0] = 3;
+    look(jb_need(&table, 1) == 3 && jb_need(&table, 2) == 4, "needs with K", table.loading);
     look(jb_fresh_run(&table, order, &run) == JB_OK && run.table.loading == 2, "fresh", 0);
     for (uint32_t slot = 0; slot < 8; slot++) {
         look_at_no_rows(&run);
@@ -340,7 +346,7 @@ static void look_at_loading(void) {
         look(run.got[0] == (slot < 2 ? 0u : 2u), "work got by row 1 after slot", slot);
         look(run.got[1] == (slot < 5 ? 0u : slot == 5 ? 2u : 4u), "work got by row 2 after slot", slot);
     }
-    look_at_row(&run, 1, 0, 1, 0, 1);
+    look_at_row(&run, 1, 0, 1, 0, 0);
     look_at_row(&run, 2, 0, 1, 0, 1);
     look(run.closing[0] == 3 && run.closing[1] == 7, "closing slots", run.closing[0]);
     /* A closed row does not load, whatever its record says. */
@@ -377,6 +383,124 @@ static void look_at_run(void) {
     look_at_row(&run, 65, 0, 0, 0, 0);
 }
 
+/* A row of release 0 with N 2, G 1 and K 0, two supplies, and how it stands afterwards; all in work units or slots. */
+typedef struct {
+    uint32_t work;
+    uint32_t deadline;
+    uint32_t level;
+    uint32_t supplies[2];
+    uint32_t got;
+    uint32_t closing;
+    int for_deadline; /* dropped for its deadline */
+} late_case;
+
+/*
+ * LO rows at their deadlines (rule 13.13): done by the last slot, dropped for the
+ * deadline with a slot of the need left, dropped for the need in the last slot, and for
+ * it before; then a HI row, which no deadline closes.
+ */
+static const late_case LATE_CASES[] = {
+    {6, 2, JB_LO, {4, 2}, 6, 2, 0},
+    {6, 2, JB_LO, {4, 1}, 5, 2, 1},
+    {4, 2, JB_LO, {2, 1}, 3, 2, 0},
+    {2, 2, JB_LO, {1, 1}, 1, 1, 0},
+    {4, 2, JB_HI, {1, 1}, 2, 0, 0},
+};
+
+static jb_table table_of_row(uint32_t work, uint32_t deadline, uint32_t level) {
+    jb_table table;
+    memset(&table, 0, sizeof table);
+    table.n = 1;
+    table.normal = 2;
+    table.degraded = 1;
+    table.work[0] = work;
+    table.deadline[0] = deadline;
+    table.level[0] = level;
+    return table;
+}
+
+static void look_at_deadlines(void) {
+    const uint8_t order[JB_ROWS] = {1};
+    for (unsigned index = 0; index < sizeof LATE_CASES / sizeof LATE_CASES[0]; index++) {
+        const late_case *expected = &LATE_CASES[index];
+        const jb_table table = table_of_row(expected->work, expected->deadline, expected->level);
+        jb_run run;
+        uint32_t worked;
+        look(jb_fresh_run(&table, order, &run) == JB_OK, "fresh, late case", index);
+        look(jb_work_forward(&run, expected->supplies, 2, &worked) == JB_OK, "two slots, late case", index);
+        look(run.got[0] == expected->got && run.closing[0] == expected->closing, "work and closing slot, late case", index);
+        look(jb_is_dropped_for_deadline(&run, 1) == expected->for_deadline, "why it was dropped, late case", index);
+        look(jb_is_open(&run, 1) == (expected->closing == 0) && jb_is_late(&run, 1) == (expected->closing == 0), "open and late, late case", index);
+        look(jb_need(&table, 1) == (expected->work + 1) / 2, "need, late case", index);
+    }
+}
+
+/* Rows that do not run are dropped too, two in the same slot, by one slot as by forward; the slot answers the row that it ran. */
+static void look_at_drops_of_others(void) {
+    const uint8_t order[JB_ROWS] = {1, 2, 3};
+    const uint32_t supplies[] = {1, 1};
+    jb_table table = table_of_row(6, 9, JB_HI);
+    jb_run run;
+    jb_run again;
+    uint32_t row;
+    uint32_t worked;
+    table.n = 3;
+    table.work[1] = table.work[2] = 2;
+    table.deadline[1] = table.deadline[2] = 2;
+    look(jb_fresh_run(&table, order, &run) == JB_OK, "fresh", 0);
+    again = run;
+    look(jb_work_slot(&run, 1, &row) == JB_OK && row == 1 && jb_is_open(&run, 2) && jb_is_open(&run, 3), "open at", run.clock);
+    look(jb_work_slot(&run, 1, &row) == JB_OK && row == 1, "the row that ran", row);
+    look(jb_is_dropped_for_deadline(&run, 2) && jb_is_dropped_for_deadline(&run, 3) && jb_is_open(&run, 1), "dropped at", run.clock);
+    look(run.closing[1] == run.clock && run.closing[2] == run.clock && run.used[1] == 0 && run.got[2] == 0, "closed at", run.closing[1]);
+    look(jb_work_forward(&again, supplies, 2, &worked) == JB_OK && memcmp(&again, &run, sizeof run) == 0, "forward over", worked);
+}
+
+/* A LO row that is open at its deadline makes 9, and so does one closed before it with work missing and need left; at its deadline it is sound. */
+static void look_at_soundness(void) {
+    const uint8_t order[JB_ROWS] = {1};
+    jb_table table = table_of_row(6, 2, JB_LO);
+    jb_run run;
+    uint32_t row;
+    look(jb_fresh_run(&table, order, &run) == JB_OK, "fresh", 0);
+    run.got[0] = 4;
+    run.used[0] = 1;
+    run.clock = 1;
+    look(jb_coming_row(&run, &row) == JB_OK && row == 1, "open before its deadline, clock", run.clock);
+    run.clock = 2;
+    look(jb_coming_row(&run, &row) == JB_UNSOUND && row == 0, "open at its deadline, clock", run.clock);
+    run.closing[0] = 2;
+    look(jb_coming_row(&run, &row) == JB_OK && row == 0, "closed at its deadline", run.closing[0]);
+    run.closing[0] = 1;
+    look(jb_coming_row(&run, &row) == JB_UNSOUND, "closed before its deadline", run.closing[0]);
+    look(jb_is_dropped(&run, 1) && !jb_is_dropped_for_deadline(&run, 1), "dropped before its deadline", run.closing[0]);
+    run.table.level[0] = JB_HI;
+    run.closing[0] = 2;
+    look(jb_coming_row(&run, &row) == JB_UNSOUND, "a HI row closed without its work", run.closing[0]);
+    run.closing[0] = 0;
+    look(jb_coming_row(&run, &row) == JB_OK && row == 1 && jb_is_late(&run, 1), "a HI row open at its deadline, clock", run.clock);
+}
+
+/* The largest need, one that is rounded up, and 0 where N, K or the work is beyond its limits. */
+static void look_at_needs(void) {
+    jb_table table = table_of_row(JB_MOST_WORK, 2, JB_HI);
+    table.normal = 1;
+    table.loading = JB_MOST_LOADING;
+    look(jb_need(&table, 1) == JB_MOST_WORK + JB_MOST_LOADING, "the largest need", jb_need(&table, 1));
+    table.work[1] = 1;
+    look(jb_need(&table, 0) == 0 && jb_need(&table, 2) == 0 && jb_need(&table, 65) == 0, "need of no row", 2);
+    table.loading++;
+    look(jb_need(&table, 1) == 0, "no need with K", table.loading);
+    table.loading = 0;
+    table.work[0]++;
+    look(jb_need(&table, 1) == 0, "no need of work", table.work[0]);
+    table.work[0] = 1001;
+    table.normal = JB_MOST_SPEED;
+    look(jb_need(&table, 1) == 2, "need rounded up", jb_need(&table, 1));
+    table.normal++;
+    look(jb_need(&table, 1) == 0, "no need with N", table.normal);
+}
+
 /* The list's verdict taken apart is the table's, slacks below zero too. */
 static void look_at_lists(void) {
     const jb_row rows[] = {{0, 2, 2, JB_LO}, {0, 4, 4, JB_HI}};
@@ -408,6 +532,10 @@ int main(void) {
     look_at_long_loading();
     look_at_run();
     look_at_loading();
+    look_at_deadlines();
+    look_at_drops_of_others();
+    look_at_soundness();
+    look_at_needs();
     look_at_lists();
     printf("header: %u things looked at, %u not as they should be\n", looked_at, wrong);
     return wrong == 0 ? 0 : 1;

@@ -17,6 +17,12 @@
  * not load again. A row's need is K slots and its work divided by the speed,
  * rounded up. K counts for each row of the table by itself; 0 is no loading.
  *
+ * Late rows. In a run a LO row that is still open when the clock reaches its
+ * deadline is dropped at that clock; what the last slot before it brought still
+ * counts. HI rows go on until they are done. Plans do not count on these drops:
+ * wherever an order is called correct, and in worst finishes, slacks and least
+ * speeds, late rows go on, LO rows until their need at N is used up.
+ *
  * Memory. Every pointer points to memory of the size that its parameter names,
  * aligned for its type. It is not null, but for one case: the functions of the
  * last part take null for a list, or for bytes to write to, where their length is
@@ -50,11 +56,13 @@
  *     jb_report                7,936
  *     jb_fresh                 4,096
  *     jb_coming                9,216
- *     jb_slot                  9,984
- *     jb_forward              11,008
+ *     jb_slot                 11,776
+ *     jb_forward              12,032
  *     jb_program              11,520
  *     jb_version                 512
- * The functions of the last part add the few words of their own frame.
+ * The functions of the last part add the few words of their own frame. jb_need and
+ * jb_is_dropped_for_deadline call jb_finishes on a table of their own: they take its
+ * stack and 1,360 bytes besides.
  *
  * Bare boards. The archive's code uses xmm registers by SSE and SSE2
  * instructions, and no x87, MMX or AVX. SSE must be enabled before the first
@@ -87,8 +95,10 @@
  * raised for a new function, nor for a number that only new functions give: an
  * archive without them does not link. jb_fits() says whether the archive that was
  * linked is of the same number.
+ * 3: LO rows are dropped at their deadlines, so that other records are sound and
+ *    9 means something else than in 2. Sizes and layouts are those of 2.
  */
-#define JB_VERSION 2u
+#define JB_VERSION 3u
 
 #ifdef __cplusplus
 #define JB_STATIC_ASSERT(condition, words) static_assert(condition, words)
@@ -126,8 +136,8 @@ enum jb_limit {
 
 /* Levels of a row. */
 enum jb_level {
-    JB_LO = 0, /* dropped once its need at N is used up and work is still missing */
-    JB_HI = 1  /* never dropped */
+    JB_LO = 0, /* dropped if work is still missing when its need at N is used up, or at its deadline */
+    JB_HI = 1  /* never dropped; late, it goes on until it is done */
 };
 
 /*
@@ -143,9 +153,12 @@ enum jb_number {
     JB_SPEEDS = 4,       /* a speed is beyond its limits */
     JB_ROW_LIMITS = 5,   /* a row is beyond its limits, or figures stand after the last */
     JB_NOT_AN_ORDER = 6, /* the order is no order of the table */
-    JB_NO_ORDER = 7,     /* no correct order exists; from a search, at no speed of its range */
+    JB_NO_ORDER = 7,     /* no correct order exists; from a search, at no speed of its range. It
+                            tells nothing of orders that would serve only because runs drop
+                            late LO rows */
     JB_CLOCK_OVER = 8,   /* the clock is at its end, and no further slot is worked */
-    JB_UNSOUND = 9,      /* the run record cannot come from a run */
+    JB_UNSOUND = 9,      /* the run record cannot come from a run; a LO row that is open at a
+                            clock that has reached its deadline is one reason */
     JB_NO_ROOM = 10,     /* the memory lent is shorter than what has to be written */
     JB_LOADING = 11      /* K is beyond its limit */
 };
@@ -186,7 +199,9 @@ static inline const char *jb_remedy(uint32_t number) {
     case JB_NO_ORDER:
         return "give the rows left later deadlines or less work, the processor more speed, or the table a smaller K";
     case JB_CLOCK_OVER: return "begin a new run with a fresh record";
-    case JB_UNSOUND: return "the record's memory was damaged: drop it and begin with a fresh record";
+    case JB_UNSOUND:
+        return "the record's memory was damaged, or it was stored by interface 2 with a LO row open past its deadline: drop "
+               "it and begin with a fresh record";
     case JB_NO_ROOM: return "lend more memory: 2,145 bytes hold every sheet, 3,285 bytes every report";
     case JB_LOADING: return "correct K; where a job really takes longer to load, split it or make the slots longer";
     default: return "compare the header with the archive by jb_fits()";
@@ -220,7 +235,8 @@ typedef struct {
     uint32_t clock;            /* slots worked, 0 to 2,000,000 slots: the coming slot */
     uint32_t got[JB_ROWS];     /* work got by each row, in work units */
     uint32_t used[JB_ROWS];    /* slots used by each row, loading slots too */
-    uint32_t closing[JB_ROWS]; /* closing slot of each row, 0 while it is open */
+    uint32_t closing[JB_ROWS]; /* closing slot of each row: the clock at which it was done or
+                                  dropped, for a LO row at most its deadline; 0 while it is open */
 } jb_run;
 
 JB_STATIC_ASSERT(sizeof(jb_row) == 16, "a row is four words without gaps");
@@ -359,12 +375,16 @@ static inline uint32_t jb_program_text(const uint8_t *input, size_t length, uint
 /*
  * Makes a correct priority order, or finds that none exists. With the order,
  * every row keeps its deadline whenever every slot supplies at least N work
- * units, and every HI row whenever every slot supplies at least G.
+ * units, and every HI row whenever every slot supplies at least G. An order is
+ * correct if that holds even where late LO rows go on.
  * In:      table, any values.
  * Out:     0, and order holds row numbers from the highest place down, then
  *          zeros; left is 0.
  * Refused: 7 if no correct order exists: order is all zero, and left holds the
- *          rows left to place, row 1 in the lowest bit.
+ *          rows left to place, row 1 in the lowest bit. Some tables without a
+ *          correct order have one that would serve all the same, only because
+ *          runs drop late LO rows: such orders are not looked for, and a 7 tells
+ *          nothing of them.
  *          3, 4, 11 or 5 for the table: order is all zero and left is 0.
  */
 static inline uint32_t jb_plan_table(const jb_table *table, uint8_t order[JB_ROWS], uint64_t *left) {
@@ -462,7 +482,8 @@ static inline uint32_t jb_judge_list(const jb_row *rows, size_t count, uint32_t 
  * In:      table and order, any values.
  * Out:     0, and finishes holds the worst finish of row i at index i - 1, in
  *          slots: its finish when every slot supplies exactly N (LO row) or
- *          exactly G (HI row) work units. Zeros after row n.
+ *          exactly G (HI row) work units and late LO rows go on. Zeros after
+ *          row n.
  * Refused: 3, 4, 11 or 5 for the table, 6 for the order; finishes is then all zero.
  */
 static inline uint32_t jb_worst_finishes(const jb_table *table, const uint8_t order[JB_ROWS], uint32_t finishes[JB_ROWS]) {
@@ -520,7 +541,10 @@ static inline uint32_t jb_coming_row(const jb_run *run, uint32_t *row) {
 }
 
 /*
- * Works one slot of a run.
+ * Works one slot of a run. When the work of its row is added and the clock is 1
+ * slot later, every LO row that is still open and whose deadline that clock has
+ * reached is dropped, whether it ran in this slot or not. So one slot can close
+ * several rows: they are those whose closing slot is run->clock afterwards.
  * In:      run, any values; supply, the work units that the slot supplied, 0 to
  *          4,294,967,295. A loading slot brings none, whatever is handed in.
  * Out:     0; row is the row run, 0 for an idle slot; run is the record after
@@ -533,7 +557,8 @@ static inline uint32_t jb_work_slot(jb_run *run, uint32_t supply, uint32_t *row)
 }
 
 /*
- * Works a run forward over a list of supplies, one slot for each in turn.
+ * Works a run forward over a list of supplies, one slot for each in turn, each as
+ * jb_work_slot works it: LO rows are dropped when the clock reaches their deadlines.
  * In:      run, any values; supplies, count figures in work units per slot,
  *          each 0 to 4,294,967,295; null is allowed with count 0.
  * Out:     0; worked is count; run is the record after those slots. With count
@@ -574,6 +599,34 @@ static inline int jb_is_dropped(const jb_run *run, uint32_t row) {
     return jb_has_row(run, row) && run->closing[row - 1] != 0 && run->got[row - 1] != run->table.work[row - 1];
 }
 
+/*
+ * A row's need at N in slots: for a LO row, the slots that it may use. It is the
+ * archive's figure, the worst finish of the row where it is alone and released at
+ * slot 0. 0 for a row that the table does not have, and where N, K or the row's
+ * work is beyond its limits.
+ */
+static inline uint32_t jb_need(const jb_table *table, uint32_t row) {
+    jb_table alone = {1, table->normal, table->normal, table->loading, {0}, {0}, {JB_LAST_DEADLINE}, {JB_LO}};
+    const uint8_t order[JB_ROWS] = {1};
+    uint32_t finishes[JB_ROWS];
+    if (row < 1 || row > table->n || row > JB_ROWS) {
+        return 0;
+    }
+    alone.work[0] = table->work[row - 1];
+    jb_finishes(jb_table_words(&alone), order, finishes);
+    return finishes[0];
+}
+
+/*
+ * The row was dropped because the clock has reached its deadline, and not because
+ * its need at N was used up. A row dropped at another clock than its deadline was
+ * dropped for its need, and so was one that had used all of it at its deadline.
+ */
+static inline int jb_is_dropped_for_deadline(const jb_run *run, uint32_t row) {
+    return jb_is_dropped(run, row) && run->closing[row - 1] == run->table.deadline[row - 1] &&
+           run->used[row - 1] < jb_need(&run->table, row);
+}
+
 /* How many loading slots the row has used so far, 0 to K slots; 0 for a row that the table does not have. */
 static inline uint32_t jb_loaded(const jb_run *run, uint32_t row) {
     const uint32_t used = jb_has_row(run, row) ? run->used[row - 1] : 0;
@@ -587,7 +640,8 @@ static inline int jb_is_loading(const jb_run *run, uint32_t row) {
 
 /*
  * The row is done after its deadline, or is still open at a clock that has
- * reached its deadline. A dropped row is not late: it is never done.
+ * reached its deadline. In a run only HI rows are late: a LO row is dropped at its
+ * deadline, and a dropped row is not late, since it is never done.
  */
 static inline int jb_is_late(const jb_run *run, uint32_t row) {
     return (jb_is_done(run, row) && run->closing[row - 1] > run->table.deadline[row - 1]) ||

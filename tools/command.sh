@@ -91,8 +91,27 @@ case_is 0 'place 1: row 3 (HI), slack 0 slots' '' plan p2.sheet
 case_is 1 '' 'number 7: no correct order exists' plan p3.sheet
 also_err 'rows left: 1 2'
 also_err 'remedy: give the rows left later deadlines or less work, the processor more speed, or the table a smaller K'
+# What a 7 does not say is said beside it, by everything that plans.
+not_said='not looked for: orders that would serve only because runs drop LO rows at their deadlines'
+also_err "$not_said"
+[ "$(wc -l <err)" -eq 4 ] || complain "plan p3.sheet: not four lines"
 case_is 1 '       7       2' 'rows left: 1 2' plan --plain p3.sheet
+also_err "$not_said"
 case_is 1 'rows left: 1 2' '' explain p3.sheet
+also_out "$not_said"
+for words in 'finishes p3.sheet' 'report p3.sheet' 'run p3.sheet 5'; do
+    # shellcheck disable=SC2086 # several words
+    case_is 1 '' "$not_said" $words
+done
+# No order of this sheet is correct, and yet 1, 2, 3 serves: at G row 2 is dropped at its deadline, and row 3 has the slot after it.
+"$command" sheet 2 1 0 0,2,2,HI 0,3,3,LO 0,1,4,HI >serves.sheet
+case_is 1 '' 'rows left: 1 2 3' plan serves.sheet
+also_err "$not_said"
+case_is 0 'slot 2: row 2, supply 1 work units, got 1 of 3 work units, dropped at clock 3, its deadline' '' run serves.sheet --order 1,2,3 4x1
+also_out 'slot 1: row 1, supply 1 work units, got 2 of 2 work units, done at clock 2'
+also_out 'slot 3: row 3, supply 1 work units, got 1 of 1 work units, done at clock 4'
+case_is 1 'no: the order is not correct' '' judge serves.sheet 1 2 3
+also_out 'least slack: row 3 (HI), -1 slot'
 case_is 1 '       7       0       0       0       0' '' explain --plain p3.sheet
 also_out '       1'
 also_out '       2'
@@ -347,7 +366,7 @@ case_is 1 '       7       2' 'rows left at G = 1000 work units per slot: 1 2' sp
 case_is 0 'G = 1 work unit per slot: not correct, least slack: row 1 (HI), -1017 slots' '' speeds --slacks none.sheet 2 1
 
 # ---- runs ----
-case_is 0 'slot 0: row 1, supply 1 work units, got 1 of 2 work units, dropped at clock 1' '' run p3.sheet --order 1,2 10x1
+case_is 0 'slot 0: row 1, supply 1 work units, got 1 of 2 work units, dropped at clock 1, its slots used up' '' run p3.sheet --order 1,2 10x1
 also_out 'slot 4: row 2, supply 1 work units, got 4 of 4 work units, done at clock 5, late by 1 slot'
 also_out 'slot 5: idle, supply 1 work units'
 also_out 'after 10 slots: no row is open'
@@ -359,25 +378,106 @@ also_out '       0       2'
 also_out '       0       1       1       2       2       0'
 also_out '       5       0       0       0       0       0'
 case_is 0 'from slot 1, 4 slots: row 2, done at clock 5, late by 1 slot' '' run --stretches p3.sheet --order 1,2 10x1
-also_out 'from slot 0, 1 slot: row 1, dropped at clock 1'
+also_out 'from slot 0, 1 slot: row 1, dropped at clock 1, its slots used up'
 also_out 'from slot 5, 5 slots: idle'
 case_is 0 '       1       4       2       3       0' '' run --stretches --plain p3.sheet --order 1,2 10x1
 case_is 0 'slot 0: row 1, supply 4294967295 work units, got 20 of 20 work units, done at clock 1' '' run p1.sheet 4294967295
 # The last slot is worked, one more is refused with 8, and what was worked is kept.
 case_is 0 'from slot 11, 1999989 slots: idle' '' run --stretches p1.sheet 2000x5 1998000x0
-case_is 2 'after 2000000 slots: rows still open: 1 (late), 2 (late), 3 (late), 4 (late)' 'number 8: the clock is 2,000,000 slots, and no further slot is worked' run --stretches p1.sheet 2000001x0
+case_is 2 'after 2000000 slots: rows still open: 1 (late), 3 (late)' 'number 8: the clock is 2,000,000 slots, and no further slot is worked' run --stretches p1.sheet 2000001x0
 also_out 'from slot 0, 2000000 slots: row 1'
+also_out 'at clock 5: row 4, got 0 of 5 work units, dropped at its deadline'
+also_out 'at clock 10: row 2, got 0 of 15 work units, dropped at its deadline'
 also_err 'remedy: begin a new run with a fresh record'
 case_is 2 '       0 2000000       1       0       0' '*' run --stretches --plain p1.sheet 4294967295x0 4294967295x7
 case_is 2 ' 1999999       1       0      20       0       0' 'number 8: the clock is 2,000,000 slots, and no further slot is worked' run --plain p1.sheet 2000001x0
-[ "$(wc -l <out)" -eq 2000001 ] || complain "2,000,000 slots and the first line"
-# Loading: row 1 of the sample is preempted after one of its two loading slots, then after both, and does not load again.
-loads() { # OPTIONS SUPPLY: the run is the one on standard input
+[ "$(wc -l <out)" -eq 2000003 ] || complain "2,000,000 slots, two rows dropped, and the first line"
+# LO rows at their deadlines: row 2 is done by its last slot, row 3 dropped by its own while the HI row below goes on, row 5 for its slots.
+works() { # OPTIONS SHEET SUPPLIES: the run is the one on standard input
     cat >expected
-    # shellcheck disable=SC2086 # several options, or none
-    case_is 0 '*' '' run $1 loading.sheet "$2"
-    cmp -s out expected || complain "run $1 loading.sheet $2: not as it should be"
+    # shellcheck disable=SC2086 # several words
+    case_is 0 '*' '' run $1 "$2" $3
+    cmp -s out expected || complain "run $1 $2 $3: not as it should be"
 }
+works '' late-preview.sheet '4x4 2x3 8x2' <<'SLOTS'
+order: 1 2 3 4 5
+slot 0: row 4, supply 4 work units, got 4 of 12 work units
+slot 1: row 2, supply 4 work units, got 4 of 6 work units
+slot 2: row 2, supply 4 work units, got 6 of 6 work units, done at clock 3
+slot 3: row 1, supply 4 work units, got 4 of 8 work units
+slot 4: row 1, supply 3 work units, got 7 of 8 work units
+slot 5: row 1, supply 3 work units, got 8 of 8 work units, done at clock 6
+slot 6: row 3, supply 2 work units, got 2 of 6 work units, dropped at clock 7, its deadline
+slot 7: row 4, supply 2 work units, got 6 of 12 work units
+slot 8: row 4, supply 2 work units, got 8 of 12 work units
+slot 9: row 4, supply 2 work units, got 10 of 12 work units
+slot 10: row 4, supply 2 work units, got 12 of 12 work units, done at clock 11
+slot 11: row 5, supply 2 work units, got 2 of 10 work units
+slot 12: row 5, supply 2 work units, got 4 of 10 work units
+slot 13: row 5, supply 2 work units, got 6 of 10 work units, dropped at clock 14, its slots used up
+after 14 slots: no row is open
+SLOTS
+works '--plain --stretches' late-preview.sheet '4x4 2x3 8x2' <<'STRETCHES'
+       0       5
+       0       1       4       0       0
+       1       2       2       1       0
+       3       3       1       1       0
+       6       1       3       4       0
+       7       4       4       1       0
+      11       3       5       2       0
+STRETCHES
+# Dropped while another row runs: a line of its own after the slot's, or after those of the stretch, by clock and then by row.
+"$command" sheet 2 1 0 0,20,30,HI 0,2,5,LO 0,4,3,LO 1,2,3,LO 0,6,9,LO >beside.sheet
+works '--order 1,5,4,3,2' beside.sheet '4x1 5x4 2x1' <<'SLOTS'
+order: 1 5 4 3 2
+slot 0: row 1, supply 1 work units, got 1 of 20 work units
+slot 1: row 1, supply 1 work units, got 2 of 20 work units
+slot 2: row 1, supply 1 work units, got 3 of 20 work units
+at clock 3: row 3, got 0 of 4 work units, dropped at its deadline
+at clock 3: row 4, got 0 of 2 work units, dropped at its deadline
+slot 3: row 1, supply 1 work units, got 4 of 20 work units
+slot 4: row 1, supply 4 work units, got 8 of 20 work units
+at clock 5: row 2, got 0 of 2 work units, dropped at its deadline
+slot 5: row 1, supply 4 work units, got 12 of 20 work units
+slot 6: row 1, supply 4 work units, got 16 of 20 work units
+slot 7: row 1, supply 4 work units, got 20 of 20 work units, done at clock 8
+slot 8: row 5, supply 4 work units, got 4 of 6 work units, dropped at clock 9, its deadline
+slot 9: idle, supply 1 work units
+slot 10: idle, supply 1 work units
+after 11 slots: no row is open
+SLOTS
+works '--order 1,5,4,3,2 --stretches' beside.sheet '4x1 5x4 2x1' <<'STRETCHES'
+order: 1 5 4 3 2
+from slot 0, 8 slots: row 1, done at clock 8
+at clock 3: row 3, got 0 of 4 work units, dropped at its deadline
+at clock 3: row 4, got 0 of 2 work units, dropped at its deadline
+at clock 5: row 2, got 0 of 2 work units, dropped at its deadline
+from slot 8, 1 slot: row 5, dropped at clock 9, its deadline
+from slot 9, 2 slots: idle
+after 11 slots: no row is open
+STRETCHES
+works '--order 1,5,4,3,2 --plain' beside.sheet '5x1' <<'SLOTS'
+       0       5
+       0       1       1      20       0       0
+       1       1       2      20       0       0
+       2       1       3      20       0       0
+       2       3       0       4       5       0
+       2       4       0       2       5       0
+       3       1       4      20       0       0
+       4       1       5      20       0       0
+       4       2       0       2       5       0
+SLOTS
+works '--order 1,5,4,3,2 --plain --stretches' beside.sheet '4x1 5x4 2x1' <<'STRETCHES'
+       0       5
+       0       8       1       1       0
+       3       0       3       5       0
+       3       0       4       5       0
+       5       0       2       5       0
+       8       1       5       4       0
+       9       2       0       0       0
+STRETCHES
+# Loading: row 1 of the sample is preempted after one of its two loading slots, then after both, and does not load again.
+loads() { works "$1" loading.sheet "$2"; }
 loads '' 12x4 <<'SLOTS'
 order: 2 3 1
 slot 0: row 1, loading slot 1 of 2, supply 4 work units, got 0 of 12 work units
@@ -428,36 +528,40 @@ loads '--plain --stretches' 12x4 <<'STRETCHES'
        9       2       1       1       0
       11       1       0       0       0
 STRETCHES
-# Loading slots are in a LO row's allowance; its last slot of 5 drops it.
-case_is 0 'slot 12: row 1, supply 2 work units, got 6 of 12 work units, dropped at clock 13' '' run loading.sheet 13x2
+# Loading slots are in a LO row's allowance; its last slot of 5 drops it, which is also the last before its deadline.
+case_is 0 'slot 12: row 1, supply 2 work units, got 6 of 12 work units, dropped at clock 13, its slots used up' '' run loading.sheet 13x2
 # What a loading slot supplies is lost, however much it is.
 case_is 0 'slot 0: row 1, loading slot 1 of 2, supply 4294967295 work units, got 0 of 12 work units' '' run loading.sheet 4294967295
 
-# The lines of slots are those of the run on paper, but for what is said of loading and of a late row; the loading slots are the first K that
-# each row runs; stretches are these lines put together.
-for sheet in p1.sheet p2.sheet rows64.sheet loading.sheet; do
+# The lines of slots, and of rows dropped while another one runs, are those of the run on paper, but for what is said of loading, of a late row
+# and of why a row was dropped; the loading slots are the first K that each row runs; stretches are these lines put together.
+for sheet in p1.sheet p2.sheet rows64.sheet loading.sheet late-preview.sheet; do
     for supplies in '5 5 2 2 2' '3' '0 1 2 3 4 5 6 7 8 9' '7 0 0 0 2 4294967295'; do
         # shellcheck disable=SC2086 # several supplies
         "$paper" "$sheet" $supplies >paper.out || true
-        grep '^slot' paper.out >paper.slots
+        grep '^slot\|^clock' paper.out >paper.slots
         last=${supplies##* }
-        count=$(wc -l <paper.slots)
+        count=$(grep -c '^slot' paper.slots)
         # shellcheck disable=SC2086
         case_is 0 '*' '' run "$sheet" $supplies "${count}x$last"
-        grep '^slot' out | head -n "$count" | sed 's/, late by .*//; s/, loading slot [0-9]* of [0-9]*,/,/' >ours.slots
+        sed -n "/^slot $count:/q; s/, late by .*//; s/\\(, dropped at clock [0-9]*\\),.*/\\1/; s/, loading slot [0-9]* of [0-9]*,/,/
+            s/^at \\(clock.*\\), got .*, dropped/\\1 dropped/; /^slot\\|^clock/p" out >ours.slots
         grep -o 'row .*, loading slot [0-9]* of [0-9]*' out >ours.loading || true
         cmp -s ours.slots paper.slots || complain "run $sheet $supplies: not as on paper"
         [ "$(grep -c 'late by' out)" -eq "$(grep -c ', late$' paper.out)" ] || complain "run $sheet $supplies: not late as on paper"
         # shellcheck disable=SC2086
         "$command" run --plain "$sheet" $supplies "${count}x$last" >slots.plain
-        awk -v k="$(head -n 1 "$sheet" | cut -c 25-32)" 'NR > 1 && $2 > 0 && used[$2]++ < k { print "row " $2 ", loading slot " used[$2] " of " k + 0 }' \
-            slots.plain >expected
+        [ "$(grep -c '^at clock' out)" -eq "$(awk 'NR > 1 && $5 == 5' slots.plain | wc -l)" ] || complain "run --plain $sheet $supplies: other rows dropped"
+        awk -v k="$(head -n 1 "$sheet" | cut -c 25-32)" \
+            'NR > 1 && $2 > 0 && $5 != 5 && used[$2]++ < k { print "row " $2 ", loading slot " used[$2] " of " k + 0 }' slots.plain >expected
         cmp -s ours.loading expected || complain "run $sheet $supplies: other loading slots"
-        awk 'NR > 1 { print $6 }' slots.plain | paste -sd ' ' >flags
+        awk 'NR > 1 && $5 != 5 { print $6 }' slots.plain | paste -sd ' ' >flags
         grep '^slot' out | sed 's/.*loading.*/1/; t; s/.*/0/' | paste -sd ' ' | cmp -s - flags || complain "run --plain $sheet $supplies: other loading slots"
-        awk 'NR > 1 { if (NR == 2 || $2 != row || closed) { if (NR > 2) printf "%8d%8d%8d%8d%8d\n", first, length_, row, closed, loading
-                 first = $1; length_ = 0; row = $2; loading = 0 }
-             length_++; closed = $5; loading += $6 } END { printf "%8d%8d%8d%8d%8d\n", first, length_, row, closed, loading }' slots.plain >expected
+        awk 'function put() { printf "%8d%8d%8d%8d%8d\n%s", first, length_, row, closed, loading, dropped; length_ = loading = 0; dropped = "" }
+             NR > 1 && $5 == 5 { dropped = dropped sprintf("%8d%8d%8d%8d%8d\n", $1 + 1, 0, $2, 5, 0) }
+             NR > 1 && $5 != 5 { if (length_ > 0 && ($2 != row || closed)) put()
+                 if (length_++ == 0) first = $1
+                 row = $2; closed = $5; loading += $6 } END { put() }' slots.plain >expected
         # shellcheck disable=SC2086
         case_is 0 '*' '' run --plain --stretches "$sheet" $supplies "${count}x$last"
         tail -n +2 out | cmp -s - expected || complain "run --stretches $sheet $supplies: not the slots put together"

@@ -70,6 +70,8 @@ for sheet in samples/*.sheet "$built"/*.sheet; do
     same_text "$sheet" 0 0 4294967295 1 3
     same_text "$sheet" 12 20 19 13
 done
+same_text samples/late-preview.sheet 4 4 4 4 1 # row 3 is dropped at its deadline while row 1 runs
+grep -qx 'clock 7: row 3 dropped at its deadline' "$built/ours" || { echo "no row is dropped while another one runs"; exit 1; }
 same_text samples/p1.sheet 0 # runs to the last clock and ends with 8
 echo "example: same text and status as on paper"
 
@@ -86,7 +88,7 @@ sed 's/^#define JB_VERSION .*/#define JB_VERSION 99u/' c/jasminebrace.h >"$built
 gcc -std=c11 "${warned[@]}" -O2 -o "$built/other/command" "$built/other/command.c" "$archive"
 status=0
 "$built/other/command" plan samples/p1.sheet >"$built/out" 2>"$built/err" || status=$?
-if [ "$status" -ne 3 ] || [ -s "$built/out" ] || ! grep -q 'interface 2 and this program was compiled for 99$' "$built/err"; then
+if [ "$status" -ne 3 ] || [ -s "$built/out" ] || ! grep -q 'interface 3 and this program was compiled for 99$' "$built/err"; then
     echo "another interface is not noticed: status $status"
     exit 1
 fi

@@ -7,6 +7,9 @@
 --row R         the row asked about, which is marked. Without --supplies its
                 worst run is drawn: every slot supplies exactly N work units if
                 the row is LO, exactly G if it is HI, until all rows are closed.
+                In it late LO rows go on, since plans do not count on their
+                being dropped; in all other runs they are dropped at their
+                deadlines, as on the plotter.
 --supplies ..   a run of your own: each word is the supply of one slot in work
                 units, or COUNTxSUPPLY for COUNT slots that supply SUPPLY each.
 --order R,R,..  the order to draw, highest place first. Without it the sheet is

@@ -238,6 +238,15 @@ static int ended_in_time(const jb_table *table, uint32_t row) {
     return board.jobs[row].ended_at != 0 && board.jobs[row].ended_at <= table->deadline[row - 1];
 }
 
+/* Tells the board of every row that the last slot closed, as the loop does. */
+static void tell_all(const jb_run *run) {
+    for (uint32_t row = 1; row <= run->table.n; row++) {
+        if (run->closing[row - 1] == run->clock) {
+            board_closed(row, jb_is_done(run, row), 0);
+        }
+    }
+}
+
 /* ---- the claims ---- */
 
 /* Jobs of work c: the loop's record is the one of the true supplies, byte for byte, though it reports c for ends and 0 for idle slots. */
@@ -357,34 +366,35 @@ static uint32_t slot_by_ends(jb_run *run, int nothing) {
     const int ended = row != 0 && board_ended(row);
     const uint32_t figure = ended ? run->table.work[row - 1] : nothing ? 0 : below(supply + 1);
     must(jb_work_slot(run, figure, &row) == JB_OK, "a slot is refused");
-    if (row != 0 && !jb_is_open(run, row)) {
-        board_closed(row, jb_is_done(run, row), 0);
-    }
+    tell_all(run);
     return row;
 }
 
 /* Reporting 0, or anything up to the count, for full slots and c for ends: all but the work got of rows not done is as with the true figures. */
 static void ends_alone(void) {
-    uint32_t dropped = 0;
+    uint32_t dropped = 0, at_deadline = 0;
     for (int trial = 0; trial < TABLES; trial++) {
         uint8_t order[JB_ROWS];
         jb_table table = planned_table(order);
         jb_run run = fresh_run(&table, order), truth = run;
         const int less = trial % 4 == 3; /* jobs of less than c: an end is an end in the true figures too */
-        new_board(&table, trial % 2, 2 * table.normal, less);
+        new_board(&table, trial % 2, (1 + trial % 5 / 3) * table.normal, less);
         board_start();
         for (uint32_t slot = 0; slot < 200; slot++) {
             uint32_t same_row, row = slot_by_ends(&run, trial % 3 == 0);
             const uint32_t figure = less && row != 0 && board_ended(row) ? table.work[row - 1] : real_supply(slot);
             must(jb_work_slot(&truth, figure, &same_row) == JB_OK && row == same_row, "another row runs than with the true figures");
             must(same_but_got(run, truth), "more than the work got differs");
-            if (row != 0 && !jb_is_open(&run, row)) {
+            for (row = 1; row <= table.n; row++) {
                 must(jb_is_done(&run, row) == jb_is_done(&truth, row), "row %u is done in one record only", row);
-                dropped += (uint32_t)jb_is_dropped(&run, row);
+                if (run.closing[row - 1] == run.clock) {
+                    dropped += (uint32_t)jb_is_dropped(&run, row);
+                    at_deadline += (uint32_t)jb_is_dropped_for_deadline(&run, row);
+                }
             }
         }
     }
-    must(dropped > TABLES / 10, "only %u rows were dropped", dropped);
+    must(at_deadline > TABLES / 10 && dropped > at_deadline + TABLES / 10, "%u rows were dropped, %u of them for their deadlines", dropped, at_deadline);
     puts("ends reported, full slots at or below the count: rows, slots used, closings and clock as with the true figures");
 }
 
@@ -429,7 +439,7 @@ static void early_end(void) {
     puts("an end: what is lacking, c, the whole supply and more give one record; less leaves the row open");
 }
 
-/* Lower bounds without ends: a LO row dropped though its job has ended; a HI row named on, a LO row below late; HI rows kept while figures are at least G. */
+/* Lower bounds without ends: a LO row dropped though its job has ended; a HI row named on, a LO row below lost; HI rows kept while figures are at least G. */
 static void lagging(void) {
     static const uint8_t one[JB_ROWS] = {1};
     uint8_t order[JB_ROWS];
@@ -449,8 +459,7 @@ static void lagging(void) {
     for (uint32_t slot = 0; slot < 5; slot++) {
         must(jb_work_slot(&run, table.degraded, &row) == JB_OK && row == 1, "slot %u does not go to row 1", slot);
     }
-    must(jb_work_slot(&run, 5, &row) == JB_OK && row == 2 && run.closing[1] == 6, "row 2 is not closed at 6");
-    must(run.closing[1] > table.deadline[1], "row 2 is not late");
+    must(jb_is_dropped_for_deadline(&run, 2) && run.closing[1] == 4 && run.used[1] == 0, "row 2 is not dropped at its deadline");
 
     for (int trial = 0; trial < TABLES; trial++) {
         table = planned_table(order);
@@ -461,9 +470,7 @@ static void lagging(void) {
             must(jb_coming_row(&run, &row) == JB_OK, "a sound record is refused");
             board_run_until_tick(row);
             must(jb_work_slot(&run, table.degraded + below(real_supply(slot) - table.degraded + 1), &row) == JB_OK, "a slot");
-            if (row != 0 && run.closing[row - 1] != 0) {
-                board_closed(row, 1, 1);
-            }
+            tell_all(&run);
         }
         for (row = 1; row <= table.n; row++) {
             must(table.level[row - 1] == JB_LO || ended_in_time(&table, row), "HI row %u is late by lower bounds of at least G", row);
@@ -486,9 +493,7 @@ static void too_much(void) {
             must(jb_coming_row(&run, &row) == JB_OK, "a sound record is refused");
             board_run_until_tick(row);
             must(jb_work_slot(&run, row == boasted ? 2 * real_supply(slot) : real_supply(slot), &row) == JB_OK, "a slot");
-            if (row != 0 && run.closing[row - 1] != 0) {
-                board_closed(row, 1, 1); /* the board stops the test if the row is named again */
-            }
+            tell_all(&run); /* the board stops the test if a closed row is named again */
         }
         must(run.got[boasted - 1] == table.work[boasted - 1], "row %u is not done in the record", boasted);
         unfinished += board.jobs[boasted].ended_at == 0;
@@ -498,6 +503,51 @@ static void too_much(void) {
     }
     must(unfinished > TABLES / 4, "only %u jobs were left unfinished", unfinished);
     puts("too much reported: that row is closed unfinished and never named again, all others keep their deadlines");
+}
+
+/* After a slot of the loop: rows are told closed when they are, LO rows at their deadlines at the latest. Gives how many were dropped for theirs. */
+static uint32_t told_in_time(const jb_run *run, uint32_t ran, uint32_t *waiting) {
+    uint32_t dropped = 0;
+    for (uint32_t row = 1; row <= run->table.n; row++) {
+        const int reached = run->table.level[row - 1] == JB_LO && run->clock >= run->table.deadline[row - 1];
+        must(!reached || !jb_is_open(run, row), "LO row %u is open at its deadline", row);
+        must(board.jobs[row].calls == (uint32_t)!jb_is_open(run, row), "row %u is not told closed when it is", row);
+        if (run->closing[row - 1] == run->clock && jb_is_dropped_for_deadline(run, row)) {
+            must(!board.jobs[row].done && run->closing[row - 1] == run->table.deadline[row - 1], "row %u is told done", row);
+            dropped++;
+            *waiting += row != ran;
+        }
+    }
+    return dropped;
+}
+
+/* LO rows are dropped at their deadlines, running or waiting, several at once too, and run no more; at their last slot they can still be done. */
+static void late_previews(void) {
+    static const uint8_t one[JB_ROWS] = {1};
+    uint32_t all = 0, waiting = 0, together = 0;
+    for (int trial = 0; trial < TABLES; trial++) {
+        uint8_t order[JB_ROWS];
+        jb_table table = planned_table(order);
+        jb_run run = fresh_run(&table, order);
+        new_board(&table, 0, trial % 4 == 0 ? table.normal : 1, 0);
+        board_start();
+        for (uint32_t slot = 0; slot < 200; slot++) {
+            must(one_slot(&run) == JB_OK, "a slot is refused");
+            const uint32_t ran = board.rows[slot];
+            must(ran == 0 || table.level[ran - 1] == JB_HI || slot < table.deadline[ran - 1], "LO row %u runs at its deadline", ran);
+            const uint32_t dropped = told_in_time(&run, ran, &waiting);
+            all += dropped;
+            together += dropped > 1;
+        }
+    }
+    must(waiting > TABLES / 4 && all > waiting + TABLES / 50 && together > 5, "%u dropped, %u waiting, %u times several", all, waiting, together);
+    jb_table table = empty_table(2, 1, 0);
+    add_row(&table, 0, 6, 2, JB_LO); /* it has 3 slots at N, and 2 before its deadline */
+    new_board(&table, 4, 4, 0);
+    jb_run run = fresh_run(&table, one);
+    board_start();
+    must(one_slot(&run) == JB_OK && one_slot(&run) == JB_OK && board.jobs[1].done && board.jobs[1].in_time, "the last slot does not count");
+    puts("LO rows at their deadlines: dropped, running or waiting, told at that tick, and never run again; work of the last slot counts");
 }
 
 /* Loading slots: any figure gives the same record, which counts the slot as used; a preempted row goes on where it was. */
@@ -516,8 +566,9 @@ static void loading_slots(void) {
             must(jb_work_slot(&run, below(2 * table.normal), &same_row) == JB_OK && same_row == row, "a slot is refused");
             must(loading == (row != 0 && before.used[row - 1] < table.loading), "row %u is not told to load", row);
             if (loading) {
-                must(run.used[row - 1] == before.used[row - 1] + 1 && run.got[row - 1] == 0 && run.closing[row - 1] == 0,
+                must(run.used[row - 1] == before.used[row - 1] + 1 && run.got[row - 1] == 0,
                      "a loading slot is not one that is used and brings nothing");
+                must(jb_is_open(&run, row) || jb_is_dropped_for_deadline(&run, row), "a loading slot closes its row before its deadline");
                 must(jb_work_slot(&other, below(2) ? 0 : UINT32_MAX, &same_row) == JB_OK && same(&other, &run), "the figure counts");
                 preempted += row != last && before.used[row - 1] != 0;
                 loads++;
@@ -531,7 +582,7 @@ static void loading_slots(void) {
 
 /* An end in a loading slot leaves the row open until the first slot after its loading; so does a job given up there. */
 static void ended_while_loading(void) {
-    static const uint8_t order[JB_ROWS] = {1, 2};
+    static const uint8_t order[JB_ROWS] = {1, 2}, only[JB_ROWS] = {1};
     jb_table table = empty_table(5, 2, 3);
     add_row(&table, 0, 40, 30, JB_HI);
     add_row(&table, 0, 5, 30, JB_LO);
@@ -549,7 +600,15 @@ static void ended_while_loading(void) {
     board.jobs[2].ended_at = 5; /* given up after one of its three loading slots */
     must(one_slot(&run) == JB_OK && one_slot(&run) == JB_OK && jb_is_open(&run, 2), "a job given up while it loads is closed at once");
     must(one_slot(&run) == JB_OK && run.closing[1] == 8 && board.jobs[2].done, "the first slot after loading does not close it");
-    puts("an end, or a job given up, in a loading slot: its row is closed by the first slot after its loading");
+    table = empty_table(5, 2, 3);
+    add_row(&table, 0, 5, 2, JB_LO); /* its deadline comes while it loads */
+    run = fresh_run(&table, only);
+    new_board(&table, 5, 5, 0);
+    board.jobs[1].real_loading = 0; /* and its job ends in its first slot */
+    board_start();
+    must(one_slot(&run) == JB_OK && board_ended(1) && one_slot(&run) == JB_OK, "two slots");
+    must(jb_is_dropped_for_deadline(&run, 1) && board.jobs[1].calls == 1 && !board.jobs[1].done, "a LO row that loads is open at its deadline");
+    puts("an end, or a job given up, in a loading slot: its row is closed by the first slot after its loading, or dropped at its deadline");
 }
 
 /* A job that loads longer than K slots can be late though every slot supplies N. */
@@ -616,6 +675,32 @@ static void restored(void) {
     board_start();
     must(one_slot(&damaged) == JB_UNSOUND && board.slots == 0, "the loop runs a slot on a damaged record");
     puts("restoring: replayed supplies give the same bytes; 9 leaves the record, and lets pass what no run makes");
+}
+
+/*
+ * A record of interface 2: a LO row open past its deadline makes 9 of it, and the record stays; closed later than its deadline, done or with
+ * its slots used up, it is taken. Working the supplies again gives another run than the jobs have had.
+ */
+static void stored_before(void) {
+    static const uint8_t order[JB_ROWS] = {1, 2};
+    uint32_t row, worked;
+    jb_table table = empty_table(2, 1, 0);
+    add_row(&table, 0, 6, 2, JB_LO);
+    add_row(&table, 0, 9, 20, JB_HI);
+    const uint32_t supplies[] = {1, 1, 1};
+    jb_run late = fresh_run(&table, order), again = late, before;
+    late.clock = 3; /* by interface 2 the row ran in all three slots, and the third, its last at N, closed it; it was open after the second */
+    late.used[0] = late.got[0] = 3;
+    late.closing[0] = 3;
+    must(jb_coming_row(&late, &row) == JB_OK && row == 2, "a LO row closed later than its deadline is refused");
+    must(jb_work_forward(&again, supplies, 3, &worked) == JB_OK && !same(&again, &late) && again.used[1] == 1, "the same run by both rules");
+    late.clock = 2;
+    late.used[0] = late.got[0] = 2;
+    late.closing[0] = 0;
+    before = late;
+    must(jb_coming_row(&late, &row) == JB_UNSOUND && row == 0, "a LO row open past its deadline is not 9 when asked");
+    must(jb_work_slot(&late, 1, &row) == JB_UNSOUND && row == 0 && same(&late, &before), "a LO row open past its deadline is not 9 when worked");
+    puts("a record of interface 2 with a LO row open past its deadline is answered 9; with one closed after it, it is taken");
 }
 
 /* The sheet of a record's table: it reads as that table, and is written again from what was read; 10 writes nothing. */
@@ -911,7 +996,7 @@ static void refusals(void) {
 
 int main(void) {
     must(jb_fits(), "the header and the archive do not belong together");
-    must(jb_version() == 2, "the interface is not number 2");
+    must(jb_version() == 3, "the interface is not number 3");
     must(sizeof(jb_table) == 1040 && sizeof(jb_run) == 1876, "table and record have other sizes");
     record_of_true_supplies();
     real_deadlines();
@@ -923,11 +1008,13 @@ int main(void) {
     early_end();
     lagging();
     too_much();
+    late_previews();
     loading_slots();
     ended_while_loading();
     loads_longer();
     given_up();
     restored();
+    stored_before();
     sheet_of_record();
     list_of_jobs();
     least_speeds();

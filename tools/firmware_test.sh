@@ -53,6 +53,13 @@ spoil 'board_run_until_tick(row);
 '
 spoil 'if (jb_is_done(run, row) && !board_ended(row)) {' 'if (0) {'
 spoil '&& !jb_is_late(run, row)' ''
+# Of several rows that a slot closes, only the first is told, or none that did not run; a row is told twice.
+spoil '            tell_closing(run, row);
+        }' '            tell_closing(run, row);
+            return;
+        }'
+spoil '        tell_closings(run);' '        if (row != 0 && !jb_is_open(run, row)) { tell_closing(run, row); }'
+spoil 'if (run->closing[row - 1] == run->clock) {' 'if (run->closing[row - 1] != 0) {'
 spoil '        if (jb_is_open(run, row)) {' '        if (row == 1 && jb_is_open(run, row)) {'
 spoil '    if (number != JB_OK) {
         return number;
@@ -74,7 +81,9 @@ spoil '    if (number != JB_OK) {
     }
     board_start();' '    board_start();'
 # Endless on a damaged row count, 0 for a damaged record, 8 where every row is closed.
-spoil ' && row <= JB_ROWS' ''
+spoil ' && row <= JB_ROWS; row++) {
+        if (jb_is_open(run, row)) {' '; row++) {
+        if (jb_is_open(run, row)) {'
 spoil 'if (number == JB_OK && jb_coming_row(run, &row) == JB_UNSOUND) {' 'if (0) {'
 spoil 'if (number == JB_OK && jb_coming_row(run, &row) == JB_UNSOUND) {
         number = JB_UNSOUND;

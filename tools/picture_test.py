@@ -1,22 +1,23 @@
 #!/usr/bin/env python3
 """Looks at pictures of tools/draw.py without a browser.
 
-    picture_test.py PICTURE MARKS ROW LOADING RAN
+    picture_test.py PICTURE MARKS ROW SHEET RAN
     picture_test.py PICTURE MARKS --speeds SHEET SLACKS SPEEDS
 
 PICTURE   an SVG file that draw.py wrote
 MARKS     most shapes and words that it may have
 ROW       the row that is marked, 0 for none
-LOADING   K of the sheet, in slots
-RAN       the lines of `jasminebrace run --plain --stretches` for the run that it shows, as a file
-SHEET     the sheet of a picture of speeds
+SHEET     the sheet that it shows
+RAN       the lines of `jasminebrace run --plain --stretches` for the run that it shows, as a file; of a worst run, those for the sheet in
+          which each LO row has the last deadline there is, since late LO rows go on in it
 SLACKS    the lines of `jasminebrace speeds --slacks --plain` for the order that it shows, as a file
 SPEEDS    the lines of `jasminebrace speeds --plain`, as a file: the least G of the sheet is the second figure of the first
 
 Says what is wrong and ends with 1, or ends with 0. Every picture is well formed and has a title and a description for screen readers, no two
-words overlap and none leaves the picture. In that of a run every closing of the command is told once, each row's bars stand in the slots that
-it ran, as loading ones in its loading slots and nowhere else, loading is in the legend exactly if there is any, and the row asked about is
-marked. In that of speeds the axes have their units and round ticks, the line has the command's slack at each G, or the G is said to be off the
+words overlap and none leaves the picture. In that of a run every closing of the command is told once and has the one mark of its kind at its
+clock, each row's bars stand in the slots that it ran, as loading ones in its loading slots and nowhere else, loading and rows dropped at their
+deadlines are in the legend exactly if there are any, and the row asked about is marked; in its worst run it closes at its worst finish. In that
+of speeds the axes have their units and round ticks, the line has the command's slack at each G, or the G is said to be off the
 scale, the least workable G is marked with its figure, and so is the least G at which the order is correct if that is another, at which the
 ground of the G that are not enough ends, and the tightest rows stand in their speeds.
 """
@@ -34,12 +35,16 @@ sys.dont_write_bytecode = True
 from pictures.measures import FONT, width_of
 
 SVG = "{http://www.w3.org/2000/svg}"
-OUTCOMES = {1: "done", 2: "dropped", 3: "late"}
+OUTCOMES = {1: "done", 2: "dropped", 3: "late", 4: "dropped at deadline", 5: "dropped at deadline"}
+WRONG = "#b00020"  # what marks of rows that are not done in time are drawn in
 NEAR = 0.3  # pixels by which a place may differ, since coordinates are rounded
 NARROWEST = 0.8  # width in pixels of a bar that would be narrower
 
-# A stretch of slots as the command tells it: its first slot, slots, row, how the row closed, and loading slots, which are its first ones.
+# A stretch of slots as the command tells it: its first slot, slots, row, how the row closed, and loading slots, which are its first ones. One
+# of no slots is a row that was dropped at its deadline while another one ran.
 Stretch = namedtuple("Stretch", "first count row how loading")
+# How a row closed, and at which clock in slots, 0 while it is open.
+Closing = namedtuple("Closing", "how clock")
 
 
 def boxes(root):
@@ -77,13 +82,19 @@ def common_faults(root, most):
         yield "no title and description for screen readers"
 
 
-def run_faults(root, asked, loading, ran):
+def run_faults(root, asked, sheet, ran):
     told = root.find(SVG + "desc")
     lanes = [lane for lane in root.iter(SVG + "g") if lane.find(SVG + "title") is not None]
+    worst = root.find(SVG + "title").text.startswith("Worst run of row ")
+    loading, deadlines = figures_of(sheet)
     stretches = stretches_of(ran)
-    yield from closing_faults(stretches, told.text, lanes)
+    closings = {row_of(lane): closing_of(row_of(lane), stretches, deadlines, worst) for lane in lanes}
+    yield from closing_faults(closings, told.text, lanes)
+    yield from mark_of_closing_faults(closings, axis(root), root, lanes)
     yield from bar_faults(stretches, axis(root), lanes)
     yield from loading_faults(stretches, loading, root, lanes)
+    if worst:
+        yield from worst_run_faults(closings[asked], asked, lanes)
     marked = [row_of(lane) for lane in lanes if any(text.get("font-weight") == "bold" for text in lane.iter(SVG + "text"))]
     if marked != ([asked] if asked else []):
         yield f"rows {marked} are marked, not row {asked}"
@@ -98,17 +109,70 @@ def stretches_of(ran):
         return [Stretch(*map(int, line.split())) for line in file.read().splitlines()[1:]]
 
 
-def closing_faults(stretches, told, lanes):
-    """The closings that the command told, against the words of each lane."""
-    outcome = {row: ("open", "\u2013") for row in map(row_of, lanes)}
-    outcome.update({part.row: (OUTCOMES[part.how], f"{part.first + part.count:,}") for part in stretches if part.how})
+def figures_of(sheet):
+    """K of a sheet, and the deadline of each row, both in slots."""
+    with open(sheet, encoding="ascii") as file:
+        first, *rows = [[int(line[at : at + 8]) for at in range(0, 32, 8)] for line in file.read().splitlines()]
+    return first[3], {row: line[2] for row, line in enumerate(rows, 1)}
+
+
+def closing_of(row, stretches, deadlines, worst):
+    """The closing that the command told of a row. In a worst run it knew another deadline of a LO row: done after its own the row is late,
+    and dropped at the other one it is open."""
+    for part in stretches:
+        if part.row == row and part.how:
+            how, clock = OUTCOMES[part.how], part.first + part.count
+            if worst and how == OUTCOMES[4]:
+                break
+            return Closing("late" if worst and how == "done" and clock > deadlines[row] else how, clock)
+    return Closing("open", 0)
+
+
+def closing_faults(closings, told, lanes):
+    """The closings against the words of each lane."""
     for lane in lanes:
         row, words = row_of(lane), [text.text for text in lane.iter(SVG + "text")]
-        how, closing = outcome[row]
-        if how not in words or closing not in words:
-            yield f"row {row} is {how} at {closing}, and its lane says {words}"
+        how, clock = closings[row]
+        if how not in words or (f"{clock:,}" if clock else "\u2013") not in words:
+            yield f"row {row} is {how} at {clock}, and its lane says {words}"
         if lane.find(SVG + "title").text not in told:
             yield f"row {row} is not in the description"
+
+
+def corners_of(path):
+    return [tuple(map(float, point.split(","))) for point in path.get("d").strip("MZ").split(" ")]
+
+
+def marks_of_closing(lane):
+    """The marks of a lane by their shape, each with its middle: a circle, a diamond, a square, or a cross outside a square."""
+    found = [("done", float(circle.get("cx"))) for circle in lane.iter(SVG + "circle")]
+    for path in lane.iter(SVG + "path"):
+        if path.get("fill") == WRONG:
+            corners = corners_of(path)
+            upright = corners[0][1] == corners[1][1]
+            found.append((OUTCOMES[4] if upright else "late", (corners[0][0] + corners[1][0]) / 2 if upright else corners[0][0]))
+    crossed = [(float(line.get("x1")) + float(line.get("x2"))) / 2 for line in lane.iter(SVG + "line") if line.get("stroke") == WRONG]
+    return found + [("dropped" if len(crossed) == 2 else "part of a cross", x) for x in crossed[::2]]
+
+
+def mark_of_closing_faults(closings, x, root, lanes):
+    """Each closed row has the mark of its kind at its clock, and no other; rows dropped at their deadlines are in the legend if there are any."""
+    for lane in lanes:
+        row = row_of(lane)
+        how, clock = closings[row]
+        marks = marks_of_closing(lane)
+        if [kind for kind, _ in marks] != ([how] if clock else []) or any(abs(place - x(clock)) > NEAR for _, place in marks):
+            yield f"row {row} is {how} at {clock}, and has the marks {marks}"
+    named = sum(1 for text in root.iter(SVG + "text") if text.text.startswith("dropped at its deadline: "))
+    if named != any(how == OUTCOMES[4] for how, _ in closings.values()):
+        yield f"the legend names rows dropped at their deadlines {named} times"
+
+
+def worst_run_faults(closing, asked, lanes):
+    """In its worst run a row closes at its worst finish, if it does not stay open."""
+    told = next(lane.find(SVG + "title").text for lane in lanes if row_of(lane) == asked)
+    if closing.clock and f"; worst finish {closing.clock:,} slot" not in told:
+        yield f"row {asked} closes at {closing.clock} in its worst run, and its lane says: {told}"
 
 
 def axis(root):
@@ -136,9 +200,12 @@ def expected_bars(stretches, row, x):
 
 
 def bar_faults(stretches, x, lanes):
-    """The bars of each lane, which are its rectangles with an edge, against the slots that its row ran."""
+    """The bars of each lane, which are its rectangles with an edge, and its words, against the slots that its row ran."""
     for lane in lanes:
         row = row_of(lane)
+        ran = ", ".join(told_slots(part.first, part.count) for part in stretches if part.row == row and part.count)
+        if f"; runs in {ran or 'no slot'}; " not in lane.find(SVG + "title").text:
+            yield f"row {row} runs in {ran or 'no slot'}, and its lane says: {lane.find(SVG + 'title').text}"
         edged = [bar for bar in lane.iter(SVG + "rect") if bar.get("stroke")]
         drawn = [(float(bar.get("x")), float(bar.get("width")), bar.get("fill").endswith("-loading)")) for bar in edged]
         expected = list(expected_bars(stretches, row, x))
@@ -329,8 +396,8 @@ def faults(picture, most, *rest):
     if rest[0] == "--speeds":
         yield from speed_faults(root, *rest[1:])
     else:
-        asked, loading, ran = rest
-        yield from run_faults(root, int(asked), int(loading), ran)
+        asked, sheet, ran = rest
+        yield from run_faults(root, int(asked), sheet, ran)
 
 
 def main():

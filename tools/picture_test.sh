@@ -26,6 +26,7 @@ stored_as warming-run.svg samples/p1.sheet --supplies 6x5 4 3 12x2
 stored_as wrong-order.svg samples/p1.sheet --row 1 --order 4,3,2,1
 stored_as loading-run.svg samples/loading.sheet --row 1
 stored_as least-speed.svg samples/warm.sheet --speeds
+stored_as late-preview.svg samples/late-preview.sheet --supplies 4x4 2x3 8x2
 
 # Other sizes. The shapes of a picture do not grow with its slots.
 looked=0
@@ -33,10 +34,15 @@ looks_right() { # most shapes and words, row asked about (0: none), order, suppl
     local most=$1 asked=$2 order=$3 supplies=$4 sheet=$5
     shift 5
     draw "$sheet" "$@" "$made/picture.svg"
+    # A row without supplies asks for its worst run, in which late LO rows go on: they get the last deadline there is.
+    cp "$sheet" "$made/worked.sheet"
+    case " $* " in
+        *' --supplies '*) ;;
+        *' --row '*) awk '{ printf "%8d%8d%8d%8d\n", $1, $2, (NR > 1 && $4 == 0 ? 1000000 : $3), $4 }' "$sheet" >"$made/worked.sheet" ;;
+    esac
     # shellcheck disable=SC2086
-    "$command" run --plain --stretches --order "$order" "$sheet" $supplies >"$made/stretches"
-    loading=$(head -n 1 "$sheet" | cut -c 25-32)
-    python3 tools/picture_test.py "$made/picture.svg" "$most" "$asked" "$loading" "$made/stretches" || fail "draw.py $sheet $*"
+    "$command" run --plain --stretches --order "$order" "$made/worked.sheet" $supplies >"$made/stretches"
+    python3 tools/picture_test.py "$made/picture.svg" "$most" "$asked" "$sheet" "$made/stretches" || fail "draw.py $sheet $*"
     looked=$((looked + 1))
 }
 planned() { "$command" plan --plain "$1" | awk 'NR > 1 { printf "%s%s", comma, $2; comma = "," }'; }
@@ -87,6 +93,24 @@ awk '{ printf "%8d%8d%8d%8d\n", $1, $2, NR == 1 ? $3 : $3 + 150, NR == 1 ? 1 : $
 rows64=$(planned "$made/rows64.sheet")
 looks_right 2300 30 "$rows64" 500x12 "$made/rows64.sheet" --row 30
 
+# LO rows that are late: dropped at their deadlines in a run, a slot before or after their last one, all at once, in other sizes; going on in
+# the worst run of another row, which may last until after every deadline, and done there late.
+looks_right 320 3 1,2,3,4,5 '4x4 2x3 8x2' samples/late-preview.sheet --row 3 --supplies 4x4 2x3 8x2
+looks_right 320 0 1,2,3,4,5 30x0 samples/late-preview.sheet --supplies 30x0
+looks_right 320 4 1,2,3,4,5 40x2 samples/late-preview.sheet --row 4
+looks_right 320 1 4,3,2,1 30x2 samples/p1.sheet --order 4,3,2,1 --row 1 --supplies 30x2
+looks_right 320 1 4,3,2,1 40x2 samples/p1.sheet --order 4,3,2,1 --row 1
+looks_right 320 0 3,1,2,4 40x5 samples/p1.sheet --order 3,1,2,4
+looks_right 250 2 2,1 40x1 samples/p3.sheet --order 2,1 --row 2
+looks_right 250 1 2,1 40x2 samples/p3.sheet --order 2,1 --row 1
+looks_right 2400 0 "$(seq -s , 64 -1 1)" '20x20 300x8' samples/rows64.sheet --order "$(seq -s , 64 -1 1)" --supplies 20x20 300x8
+"$command" sheet 1 1 0 0,1000000,1000000,1 0,5,10,0 >"$made/patient.sheet"
+looks_right 150 1 1,2 1000000x1 "$made/patient.sheet" --order 1,2 --row 1
+looks_right 150 2 1,2 1000000x1 "$made/patient.sheet" --order 1,2 --row 2
+looks_right 150 0 1,2 1000000x1 "$made/patient.sheet" --order 1,2
+"$command" sheet 1 1 0 0,1000000,1000000,1 0,5,10,0 0,5,1000000,1 >"$made/patient.sheet"
+looks_right 200 3 1,2,3 1000000x1 "$made/patient.sheet" --order 1,2,3 --row 3
+
 # How slow the processor may be, under the order at the least G or another one.
 speeds_look_right() { # most shapes and words, sheet, order to give, if any
     local most=$1 sheet=$2
@@ -123,7 +147,7 @@ speeds_look_right 150 "$made/largest.sheet" "$(seq -s , 64)"
 # words that name other loading slots. Below, the same for a picture of speeds.
 spoilt=0
 spoilt_from=docs/loading-run.svg
-spoilt_test=(250 1 2 "$made/stretches") # what picture_test.py is told of it
+spoilt_test=(250 1 samples/loading.sheet "$made/stretches") # what picture_test.py is told of it
 spoilt_is_noticed() { # what is replaced in the stored picture, once, and by what
     python3 - "$spoilt_from" "$made/spoilt.svg" "$1" "$2" <<'PYTHON'
 import re
@@ -140,7 +164,7 @@ PYTHON
     spoilt=$((spoilt + 1))
 }
 "$command" run --plain --stretches --order 2,3,1 samples/loading.sheet 11x4 >"$made/stretches"
-python3 tools/picture_test.py docs/loading-run.svg 250 1 2 "$made/stretches" || fail "docs/loading-run.svg"
+python3 tools/picture_test.py docs/loading-run.svg "${spoilt_test[@]}" || fail "docs/loading-run.svg"
 spoilt_is_noticed 'fill="url\(#low-loading\)"' 'fill="url(#low)"' '^.*: row 1 has a bar'
 spoilt_is_noticed 'fill="url\(#low\)"' 'fill="url(#low-loading)"' '^.*: row 1 has a bar'
 spoilt_is_noticed '<rect x="([0-9]+)([0-9.]*)"([^>]*high-loading)' '<rect x="9\1\2"\3' '^.*: row 2 has a bar'
@@ -148,6 +172,21 @@ spoilt_is_noticed 'width="[0-9.]*"( height="[0-9.]*" fill="url\(#high-loading)' 
 spoilt_is_noticed '<rect [^>]*high-loading[^>]*/>' '' '^.*: row 2 has 1 bars and not 2'
 spoilt_is_noticed '(<g><title>Place 1: .*)loads in slots 1 to 2' '\1loads in slots 1 to 3' '^.*: row 2 loads in'
 spoilt_is_noticed '<text [^>]*>loading: [^<]*</text>' '' '^.*: with K 2 the legend'
+# Its worst run closes row 1 at its worst finish.
+spoilt_is_noticed '(<g><title>Place 3: .*worst finish) 11' '\1 12' '^.*: row 1 closes at 11 in its worst run'
+# How rows closed: by the words, by the shape of the mark and its place, and by the legend.
+spoilt_from=docs/late-preview.svg
+spoilt_test=(320 0 samples/late-preview.sheet "$made/stretches")
+"$command" run --plain --stretches --order 1,2,3,4,5 samples/late-preview.sheet 4x4 2x3 8x2 >"$made/stretches"
+python3 tools/picture_test.py docs/late-preview.svg "${spoilt_test[@]}" || fail "docs/late-preview.svg"
+spoilt_is_noticed '(<g><title>Place 3: .*)runs in slot 6' '\1runs in slots 6 to 7' '^.*: row 3 runs in slot 6, '
+spoilt_is_noticed '>dropped at deadline<' '>dropped<' '^.*: row 3 is dropped at deadline at 7'
+spoilt_is_noticed '>dropped<' '>dropped at deadline<' '^.*: row 5 is dropped at 14'
+spoilt_is_noticed '<path [^>]*fill="#b00020"[^>]*/>\n<line [^>]*/>\n<line [^>]*/>' '' '^.*: row 3 is dropped at deadline at 7, and has the marks'
+spoilt_is_noticed '(<path d="M)[0-9.]*,[0-9.]* ([^"]*" fill="#b00020")' '\g<1>9,9 \2' '^.*: row 3 is dropped at deadline at 7, and has the marks'
+spoilt_is_noticed '(<line [^>]*stroke=")#b00020' '\1#1f2328' '^.*: row 5 is dropped at 14, and has the marks'
+spoilt_is_noticed '<circle [^>]* r="4.4" [^>]*/>' '' '^.*: row 1 is done at 6, and has the marks'
+spoilt_is_noticed '<text [^>]*>dropped at its deadline: [^<]*</text>' '' '^.*: the legend names rows dropped at their deadlines 0 times'
 spoilt_from=docs/least-speed.svg
 spoilt_test=(150 --speeds samples/warm.sheet "$made/slacks" "$made/speeds")
 "$command" speeds --slacks --plain samples/warm.sheet >"$made/slacks"

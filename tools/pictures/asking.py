@@ -1,5 +1,6 @@
 """The command jasminebrace, asked about one sheet, and its answers as figures."""
 
+import copy
 import os
 import subprocess
 import sys
@@ -8,11 +9,13 @@ from collections import namedtuple
 from pictures.stretches import Ran
 
 NOT_USABLE = 3  # exit status
-CLOSED = {1: "done", 2: "dropped", 3: "late"}
+LAST_DEADLINE = 1_000_000  # slots; no sheet has a later one
+AT_DEADLINE = "dropped at deadline"
+CLOSED = {1: "done", 2: "dropped", 3: "late", 4: AT_DEADLINE, 5: AT_DEADLINE}
 
 # Slots, work units, slots, HI or not.
 Row = namedtuple("Row", "release work deadline high")
-# How a row closed: at which slot (0 while it is open), and "done", "late", "dropped" or "open".
+# How a row closed: at which slot (0 while it is open), and "done", "late", "dropped" (its slots used up), AT_DEADLINE or "open".
 Outcome = namedtuple("Outcome", "closing how")
 
 
@@ -48,13 +51,25 @@ class Command:
             raise Stopped(done.returncode)
         return [fields(line) for line in done.stdout.decode("ascii").splitlines()[1:]]
 
-    def table(self):
-        """N, G, K and the rows of a sheet that the command has accepted."""
+    def lines(self):
+        """The lines of a sheet that the command has accepted."""
         text = self.bytes
         if self.sheet != "-":
             with open(self.sheet, "rb") as file:
                 text = file.read()
-        first, *rows = text.decode("ascii").splitlines()
+        return text.decode("ascii").splitlines()
+
+    def late_rows_going_on(self):
+        """The command on the same sheet with the last deadline there is for each LO row, so that no earlier one drops it in a run."""
+        first, *rows = self.lines()
+        moved = [row if fields(row)[3] == 1 else f"{row[:16]}{LAST_DEADLINE:8}{row[24:]}" for row in rows]
+        other = copy.copy(self)
+        other.sheet, other.bytes = "-", "".join(line + "\n" for line in [first, *moved]).encode("ascii")
+        return other
+
+    def table(self):
+        """N, G, K and the rows of a sheet that the command has accepted."""
+        first, *rows = self.lines()
         _, normal, degraded, loading = fields(first)
         rows = {number: Row(a, c, d, level == 1) for number, (a, c, d, level) in enumerate(map(fields, rows), 1)}
         return normal, degraded, loading, rows
@@ -74,7 +89,8 @@ class Command:
         """The stretches of rows in a run, and how each row closed."""
         ran, outcome = [], {row: Outcome(0, "open") for row in places(order)}
         for first, count, row, how, loading in self.ask("run", "--order", order, "--stretches", *supplies):
-            ran.append(Ran(first, first + count, row, loading))
+            if count:
+                ran.append(Ran(first, first + count, row, loading))
             if how:
                 outcome[row] = Outcome(first + count, CLOSED[how])
         return ran, outcome

@@ -2,7 +2,7 @@
 
 from collections import namedtuple
 
-from pictures.asking import NOT_USABLE, Stopped, places
+from pictures.asking import AT_DEADLINE, LAST_DEADLINE, NOT_USABLE, Outcome, Stopped, places
 from pictures.measures import many
 from pictures.stretches import Supplied, merged
 
@@ -43,6 +43,26 @@ def steady_run(command, order, supply, slots):
     return ran, outcome, [Supplied(0, slots, supply)]
 
 
+def worst_run(command, order, supply, slots):
+    """The run in which every slot supplies the same and late LO rows go on, as plans count them.
+
+    Up to LAST_DEADLINE slots it is the run with that deadline for every LO row. If one is still open then, it ends there.
+    """
+    patient = command.late_rows_going_on()
+    ran, outcome, supplied = steady_run(patient, order, supply, slots)
+    if any(row.how == AT_DEADLINE for row in outcome.values()):
+        ran, outcome, supplied = own_run(patient, order, [f"{LAST_DEADLINE}x{supply}"])
+    *_, rows = command.table()
+    return ran, {number: late_by(rows[number].deadline, closed) for number, closed in outcome.items()}, supplied
+
+
+def late_by(deadline, closed):
+    """How a row closed, seen from its own deadline, where the command knew a later one."""
+    if closed.how == AT_DEADLINE:
+        return Outcome(0, "open")
+    return closed._replace(how="late") if closed.how == "done" and closed.closing > deadline else closed
+
+
 def run_of(command, given):
     """The run that the command line asks for, with its title."""
     order = given.order or command.planned()
@@ -59,7 +79,8 @@ def run_of(command, given):
         name, speed = ("G", degraded) if given.row and rows[given.row].high else ("N", normal)
         title = f"Worst run of row {given.row}" if given.row else "The run at normal speed"
         title += f": every slot supplies exactly {name} = {many(speed, 'work unit')}"
-        ran, outcome, supplied = steady_run(command, order, speed, max(finish.values()))
+        steady = worst_run if given.row else steady_run
+        ran, outcome, supplied = steady(command, order, speed, max(finish.values()))
     return Run(normal, degraded, loading, rows, places(order), finish, slack, outcome, ran, supplied, supplied[-1].after), title
 
 

@@ -2,6 +2,7 @@
 
 from collections import namedtuple
 
+from pictures.asking import AT_DEADLINE
 from pictures.drawing import Drawing
 from pictures.measures import GAP, HEADING, MARGIN, TICK, figure, layout, tick_step, width_of
 from pictures.run import highest
@@ -26,7 +27,7 @@ def columns_before():
 
 def columns_after():
     def lost(run, row):
-        return run.outcome[row].how in ("late", "dropped")
+        return run.outcome[row].how in ("late", "dropped", AT_DEADLINE)
 
     def below_zero(run, row):
         return run.slack[row] < 0

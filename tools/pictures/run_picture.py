@@ -2,6 +2,7 @@
 
 from html import escape
 
+from pictures.asking import AT_DEADLINE
 from pictures.measures import HEADING, MARGIN, figure, many, short, width_of
 from pictures.run import highest, lowest
 from pictures.run_layout import PANEL, RunLayout
@@ -59,11 +60,17 @@ class RunPicture(RunLayout):
             self.line(x, y - 4 * size, x, y + 1.2 * size, style)
             self.line(x, y + 2.4 * size, x, y + 4 * size, style)
         elif how == "dropped":
-            reach = 4.4 * size
             for colour, width in ((PAPER, 5.2), (WRONG, 2.6)):
-                style = f'stroke="{colour}" stroke-width="{short(width * size)}" stroke-linecap="round"'
-                self.line(x - reach, y - reach, x + reach, y + reach, style)
-                self.line(x - reach, y + reach, x + reach, y - reach, style)
+                self.cross(x, y, 4.4 * size, f'stroke="{colour}" stroke-width="{short(width * size)}" stroke-linecap="round"')
+        elif how == AT_DEADLINE:
+            reach = 6.5 * size
+            corners = [(x - reach, y - reach), (x + reach, y - reach), (x + reach, y + reach), (x - reach, y + reach)]
+            self.path(corners, f'fill="{WRONG}" stroke="{PAPER}" stroke-width="1"')
+            self.cross(x, y, 3.4 * size, f'stroke="{PAPER}" stroke-width="{short(2 * size)}" stroke-linecap="round"')
+
+    def cross(self, x, y, reach, style):
+        self.line(x - reach, y - reach, x + reach, y + reach, style)
+        self.line(x - reach, y + reach, x + reach, y - reach, style)
 
     def stretch_bars(self, stretch, y, kind):
         """The slots of a row that runs: its loading slots first, if there are any, then those that bring work."""
@@ -219,6 +226,8 @@ class RunPicture(RunLayout):
         ]
         if self.run.loading:
             entries.insert(2, (self.loading_mark, "loading: a row runs, and the slot brings no work"))
+        if any(outcome.how == AT_DEADLINE for outcome in self.run.outcome.values()):
+            entries.append((lambda x, y: self.closing_mark(x + 12, y, AT_DEADLINE), "dropped at its deadline: LO, not done when the clock reached it"))
         if self.beyond:
             entries.append((lambda x, y: self.beyond_mark(x + 9, y), "the deadline is beyond the axis"))
         if self.asked:

@@ -1,5 +1,6 @@
 """In words: runs and verdicts under the title of a picture, in its cells and for screen readers."""
 
+from pictures.asking import AT_DEADLINE
 from pictures.measures import figure, many
 from pictures.run import highest, lowest
 
@@ -77,7 +78,8 @@ def supplies_told(run):
 def outcome_told(outcome):
     if outcome.how == "open":
         return "open at the end"
-    return f"{'done late' if outcome.how == 'late' else outcome.how} after {many(outcome.closing, 'slot')}"
+    words = {"late": "done late", AT_DEADLINE: "dropped at its deadline"}
+    return f"{words.get(outcome.how, outcome.how)} after {many(outcome.closing, 'slot')}"
 
 
 def sentence(run, place, number, stretches):
