@@ -12,6 +12,7 @@ use Rattle.rules.specs.Numbers.{checkNumber}
 use Rattle.rules.specs.Orders.{isOrder, checkBoth}
 use Rattle.rules.specs.Slots.{fresh}
 use Rattle.rules.specs.Tables.{Accepted}
+use Rattle.theory.specs.Facts.{both-pass}
 use Rattle.judge.specs.Checked.{checked}
 use Rattle.planner.specs.Promise.{refusal-number}
 use Rattle.record.specs.declared.FreshRun.{FreshRun}
@@ -20,7 +21,6 @@ use Rattle.words.specs.Words.{tableIn, wordsOf, stateWords}
 use Rattle.words.specs.Inverse.{words-of-table-in}
 use Rattle.conclusions.specs.declared.Begun.{Begun}
 use Rattle.conclusions.specs.Conclusions.{FreshRecord}
-use Rattle.conclusions.specs.Judged.{both-pass}
 
 -- the answer over the words
 abbrev saidOf : FreshRun → Begun

@@ -16,12 +16,12 @@ use Rattle.rules.specs.Lists.{rowsTo}
 use Rattle.rules.specs.Judge.{leastSlack, tightest, judgeOf}
 use Rattle.rules.specs.Meaning.{correct-serves, serves-correct}
 use Rattle.rules.specs.Numbers.{checkNumber, verdictNumber, verdictYes, verdictRow, verdictSlack}
-use Rattle.rules.specs.Orders.{isOrder, checkOrder, checkBoth}
+use Rattle.rules.specs.Orders.{isOrder, checkBoth}
 use Rattle.rules.specs.Rows.{at, rowsOf}
 use Rattle.rules.specs.Tables.{Accepted}
 use Rattle.rules.specs.Worst.{worstSpeed, horizon, worstFinish, slack}
 use Rattle.theory.specs.Counts.{In}
-use Rattle.theory.specs.Facts.{Row, facts, is-row, in-rows, count-rows}
+use Rattle.theory.specs.Facts.{Row, facts, is-row, in-rows, count-rows, both-pass}
 use Rattle.theory.specs.Results.{lasting}
 use Rattle.theory.specs.Tests.{by-bool, by-eqb, by-leb}
 use Rattle.judge.specs.Checked.{checked}
@@ -127,10 +127,6 @@ yes-true false e = absurd (omega arith)
 yes-either : (b : Bool) → (yesWord b ≡ 0) ⊎ (yesWord b ≡ 1)
 yes-either true = inr refl
 yes-either false = inl refl
-
-pub both-pass : (t : Table) (o : List ℕ) → Accepted t → isOrder t o ≡ true → checkBoth t o ≡ Passed
-unfolding checkBoth checkOrder
-both-pass t o a k = rw (a, k)
 
 -- ---- the verdict
 module _ (t : Table) (o : List ℕ) where

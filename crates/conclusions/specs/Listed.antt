@@ -24,7 +24,7 @@ use Rattle.rules.specs.Rows.{at, needOf}
 use Rattle.rules.specs.Tables.{checkTable}
 use Rattle.rules.specs.Worst.{horizon, worstSpeed, worstFinish, slack}
 use Rattle.theory.specs.Counts.{In}
-use Rattle.theory.specs.Facts.{Row, in-rows, both-accepted, both-order}
+use Rattle.theory.specs.Facts.{Row, in-rows, both-pass, both-accepted, both-order}
 use Rattle.theory.specs.Places.{order-rows, order-long, place-row}
 use Rattle.theory.specs.Tests.{by-bool, by-eqb}
 use Rattle.fields.specs.Figures.{figure-value, figure-once}
@@ -34,7 +34,7 @@ use Rattle.report.specs.Lines.{jobs-long, report-long, fits, passes}
 use Rattle.report.specs.Jobs.{slack-small}
 use Rattle.report.specs.Totals.{late-most, late-none}
 use Rattle.conclusions.specs.Back.{table-not-ten}
-use Rattle.conclusions.specs.Judged.{both-pass, worst-run, least-slack, row-is, slack-is, tight-row}
+use Rattle.conclusions.specs.Judged.{worst-run, least-slack, row-is, slack-is, tight-row}
 use Rattle.conclusions.specs.Rooms.{ten-is, own-is}
 use Rattle.conclusions.specs.Conclusions.{tenAt, JobListed, Listing, WorstRun}
 

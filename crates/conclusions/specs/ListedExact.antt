@@ -21,14 +21,14 @@ use Rattle.rules.specs.Orders.{checkBoth}
 use Rattle.rules.specs.Reports.{figure, figures, jobLine, needsOf, lateRows, lastLine, reportText, checkReport, reportOf}
 use Rattle.rules.specs.Rows.{at, needOf}
 use Rattle.rules.specs.Worst.{worstFinish, slack}
-use Rattle.theory.specs.Facts.{both-order}
+use Rattle.theory.specs.Facts.{both-pass, both-order}
 use Rattle.theory.specs.Places.{place-row}
 use Rattle.theory.specs.Room.{too-short}
 use Rattle.theory.specs.Tests.{by-eqb}
 use Rattle.fields.specs.Lengths.{joined-more}
 use Rattle.report.specs.Lines.{report-long, passes, report-refused, report-passed}
 use Rattle.conclusions.specs.Conclusions.{tenAt, Listing}
-use Rattle.conclusions.specs.Judged.{both-pass, worst-run}
+use Rattle.conclusions.specs.Judged.{worst-run}
 
 -- ---- a line put together from its figures
 -- m bytes and then ten more, or one more

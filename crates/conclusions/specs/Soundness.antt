@@ -10,14 +10,12 @@ use lib.Dec.{eqb, leb}
 use lib.ListN.{length, getD, drop, length-drop}
 use lib.Seq.{getD-drop}
 use borrow.Author.Tests.{eq-eqb, ne-eqb, lt-leb, leb-true, eqb-true}
-use Rattle.rules.specs.declared.Table.{Table}
-use Rattle.rules.specs.declared.Check.the-variants.{Passed}
 use Rattle.rules.specs.Lists.{allZero}
 use Rattle.rules.specs.Need.{need}
-use Rattle.rules.specs.Orders.{isOrder, checkOrder, checkBoth}
+use Rattle.rules.specs.Orders.{isOrder}
 use Rattle.rules.specs.Rows.{at}
 use Rattle.rules.specs.Tables.{Accepted}
-use Rattle.theory.specs.Facts.{facts, both-accepted, both-order}
+use Rattle.theory.specs.Facts.{facts, both-pass, both-accepted, both-order}
 use Rattle.theory.specs.Tests.{by-bool, by-eqb, by-leb, and-left, and-right, not-both}
 use Rattle.columns.specs.Figures.{over, Sound, closingSound, sound-facts, sound-test, open-so}
 use Rattle.record.specs.declared.Run.{Run}
@@ -179,10 +177,6 @@ module _ (table order state : List ℕ) (states : length state ≡ 193) where
             );
       }
 
-  both-passed : (t : Table) (o : List ℕ) → Accepted t → isOrder t o ≡ true → checkBoth t o ≡ Passed
-  unfolding checkBoth checkOrder
-  both-passed t o a e = rw (a, e)
-
   pub words-sound : SoundWords table order state → isSound r ≡ true
   unfolding runIn tableIn tailSound
   words-sound s =
@@ -190,7 +184,7 @@ module _ (table order state : List ℕ) (states : length state ≡ 193) where
       let n = t .n in
       let f = facts t (s .accepted) in
       is-sound r (record {
-        checked = both-passed t (r .order) (s .accepted) (s .passes);
+        checked = both-pass t (r .order) (s .accepted) (s .passes);
         clock = s .clock;
         rows = λ i l h.
             let w = table-words table i l (omega (arith, f .few, h)) in

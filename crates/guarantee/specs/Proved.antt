@@ -16,13 +16,14 @@ use Rattle.rules.specs.Choice.{choice, word, padded, planFrom, planOf}
 use Rattle.rules.specs.Correct.{KeptIn, Correct, CorrectOrder, Window}
 use Rattle.rules.specs.Lists.{all}
 use Rattle.rules.specs.Numbers.{plannedNumber, rowsLeft}
-use Rattle.rules.specs.Orders.{isOrder, checkOrder, checkBoth}
+use Rattle.rules.specs.Orders.{isOrder}
 use Rattle.rules.specs.Rows.{isRow, deadlineOf}
 use Rattle.rules.specs.Running.{runSlot}
 use Rattle.rules.specs.Slots.{State, fresh}
 use Rattle.rules.specs.Tables.{Accepted}
 use Rattle.rules.specs.Worst.{worstSpeed}
 use Rattle.theory.specs.Counts.{in-head}
+use Rattle.theory.specs.Facts.{both-pass}
 use Rattle.theory.specs.Results.{running-sustainable, verdict, choice-order, choice-correct, choice-none}
 use Rattle.theory.specs.Tests.{by-bool, by-eqb, and-both}
 use Rattle.guarantee.specs.Playing.{makeAll}
@@ -57,18 +58,14 @@ none-of [] e = refl
 none-of (x ∷ l) e = absurd (omega arith)
 
 module _ (t : Table) (accepted : Accepted t) where
-  both-passed : (o : List ℕ) → isOrder t o ≡ true → checkBoth t o ≡ Passed
-  unfolding checkBoth checkOrder
-  both-passed o e = rw (accepted, e)
-
   -- with any order of the table
   module _ (o : List ℕ) (order : isOrder t o ≡ true) (cs : List Call) where
     started : freshOf t o ≡ record { check = Passed; run = freshRun t o }
     unfolding freshOf
-    started = rw (both-passed o order)
+    started = rw (both-pass t o accepted order)
 
     made-told : makeAll cs (freshRun t o) ≡ record { said = paper t o cs .said; run = recordOf t o (paper t o cs .state) }
-    made-told = calls-told t o cs fresh (record { sound = fresh-sound t o (both-passed o order); sized = fresh-sized t o })
+    made-told = calls-told t o cs fresh (record { sound = fresh-sound t o (both-pass t o accepted order); sized = fresh-sized t o })
 
     kept-paper : Correct t o → (i : ℕ) → isRow t i ≡ true → deadlineOf t i ≤ paper t o cs .state .clock
         → Window t (supplyAt cs) i (worstSpeed t i) → KeptIn t (paper t o cs .state) i

@@ -1,11 +1,10 @@
 -- The rows by rising release, their caps at both speeds, and the sweep over the rows down to a place.
-use Prim.Native.Nat.{ℕ, zero, suc, _+_, _-_, _≤_}
-use mathlib.Core.Path.{_≡_, refl, sym, ap, _∙_}
+use Prim.Native.Nat.{ℕ, _≤_}
+use mathlib.Core.Path.{_≡_, _∙_}
 use mathlib.Core.List.{List, map}
 use native.Mathlib.Omega.{arith}
 use borrow.Author.Tests.{eq-eqb, ne-eqb}
-use lib.ListN.{length, getD, take}
-use lib.Seq.{getD-drop}
+use lib.ListN.{getD, take}
 use Rattle.rules.specs.declared.Table.{Table}
 use Rattle.rules.specs.Lists.{rowsTo}
 use Rattle.rules.specs.Rows.{at, rowsOf, releaseOf}
@@ -14,7 +13,7 @@ use Rattle.rules.specs.Worst.{worstSpeed}
 use Rattle.rules.specs.Choice.{padded}
 use Rattle.theory.specs.Sweep.{sweep}
 use Rattle.theory.specs.Caps.{cap}
-use Rattle.sweep.specs.Padded.{zeros, padded-drop, rows-length}
+use Rattle.sweep.specs.Padded.{padded-beyond, rows-length}
 use Rattle.sweep.specs.Trials.{trial}
 use Rattle.sweep.specs.Finds.{byRelease, queued, finds}
 
@@ -36,19 +35,9 @@ pub record Ready (t : Table) (queue normal degraded : List ℕ) : Type 0 where
   pub atNormal : normal ≡ padded (map (cap t (t .normal)) (rowsOf t))
   pub atDegraded : degraded ≡ padded (map (cap t (t .degraded)) (rowsOf t))
 
-zeros-entry : (n j : ℕ) → getD (zeros n) j 0 ≡ 0
-zeros-entry zero j = refl
-zeros-entry (suc n) zero = refl
-zeros-entry (suc n) (suc j) = zeros-entry n j
-
 -- a column has zeros after its n rows
 pub padded-past : (f : ℕ → ℕ) (n j : ℕ) → n ≤ 64 → n ≤ j → getD (padded (map f (rowsTo n))) j 0 ≡ 0
-padded-past f n j few h =
-    let l = map f (rowsTo n) in
-    let len = rows-length f n in
-    let w : length l + (j - length l) ≡ j = omega arith in
-    ap (λ (i : ℕ). getD (padded l) i 0) (sym w) ∙ sym (getD-drop (length l) (padded l) (j - length l) 0)
-    ∙ ap (λ (r : List ℕ). getD r (j - length l) 0) (padded-drop l (omega arith)) ∙ zeros-entry (64 - length l) (j - length l)
+padded-past f n j few h = let e = rows-length f n in padded-beyond (map f (rowsTo n)) j (omega arith) (omega arith)
 
 -- caps at a row's worst speed, read off the column
 pub swept-is : (t : Table) → Accepted t → (s : ℕ) (queue column : List ℕ) → queue ≡ padded (byRelease t) → column ≡ padded (map (cap t s) (rowsOf t))

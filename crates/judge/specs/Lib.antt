@@ -6,4 +6,3 @@ pub mod Late
 pub mod Least
 pub mod Promise
 pub mod Gather
-pub mod Needs

@@ -56,10 +56,9 @@ pub fn timed(t: Table, order: [u8; 64]) -> Times
     ensures { λ r. ⌜ (r .need ≡ padded (map (needOf t) (rowsOf t))) × (r .finish ≡ padded (map (worstFinish t order) (rowsOf t))) ⌝ }
 {
     let n = t.n;
-    let release = t.release;
-    let queue = sweep::sorted(&release, n);
-    let normal = sweep::caps(t, t.normal, t.normal);
-    let degraded = sweep::caps(t, t.normal, t.degraded);
+    let queue = sweep::sorted(&t.release, n);
+    let normal = sweep::needs(n, t.loading, &t.work, t.normal);
+    let degraded = sweep::degraded_caps(n, t.loading, &t.work, &t.level, &normal, t.degraded);
     let mut out: [u32; 64] = [0; 64];
     let mut down: u64 = 0;
     let mut k: u32 = 0;

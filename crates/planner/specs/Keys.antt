@@ -8,7 +8,7 @@ use lib.Dec.{eqb}
 use lib.ListN.{getD, set}
 use Rattle.rules.specs.declared.Table.{Table}
 use Rattle.rules.specs.Lists.{rowsTo}
-use Rattle.rules.specs.Rows.{at, deadlineOf}
+use Rattle.rules.specs.Rows.{at}
 use Rattle.rules.specs.Tables.{Accepted}
 use Rattle.rules.specs.Choice.{padded}
 use Rattle.theory.specs.Counts.{In, in-head, in-tail}
@@ -24,21 +24,32 @@ lateness deadline = 1000000 - deadline
 abbrev pub keyOf : ℕ → ℕ → ℕ
 keyOf level deadline = cond (eqb level 0) (lateness deadline) (2000000 + lateness deadline)
 
--- the key of row i
-unfoldable pub trialKey : Table → ℕ → ℕ
-trialKey t i = keyOf (at (t .level) i) (deadlineOf t i)
+-- the key of row i by columns of levels and deadlines
+abbrev pub keyIn : List ℕ → List ℕ → ℕ → ℕ
+keyIn level deadline i = keyOf (at level i) (at deadline i)
 
-key-entry : (t : Table) (k : ℕ) → keyOf (getD (t .level) k 0) (getD (t .deadline) k 0) ≡ trialKey t (suc k)
+-- the key of row i of a table
+unfoldable pub trialKey : Table → ℕ → ℕ
+trialKey t i = keyIn (t .level) (t .deadline) i
+
+pub keys-of : (t : Table) (n : ℕ) → padded (map (keyIn (t .level) (t .deadline)) (rowsTo n)) ≡ padded (map (trialKey t) (rowsTo n))
 unfolding trialKey
-key-entry t k = let e : suc k - 1 ≡ k = omega arith in rw e
+keys-of t n = refl
+
+-- the first n deadlines are within their limit, in slots
+abbrev pub Soon : ℕ → List ℕ → Type 0
+Soon n deadline = (k : ℕ) → k < n → getD deadline k 0 ≤ 1000000
+
+key-entry : (level deadline : List ℕ) (k : ℕ) → keyOf (getD level k 0) (getD deadline k 0) ≡ keyIn level deadline (suc k)
+key-entry level deadline k = let e : suc k - 1 ≡ k = omega arith in rw e
 
 -- one more row: the one at index k
-pub keys-more : (t : Table) (k v : ℕ) (out : List ℕ) → k < 64 → out ≡ padded (map (trialKey t) (rowsTo k))
-    → v ≡ keyOf (getD (t .level) k 0) (getD (t .deadline) k 0) → set out k v ≡ padded (map (trialKey t) (rowsTo (suc k)))
-keys-more t k v out h e q = rw (e, q, key-entry t k) (column-more (trialKey t) k h)
+pub keys-more : (level deadline : List ℕ) (k v : ℕ) (out : List ℕ) → k < 64 → out ≡ padded (map (keyIn level deadline) (rowsTo k))
+    → v ≡ keyOf (getD level k 0) (getD deadline k 0) → set out k v ≡ padded (map (keyIn level deadline) (rowsTo (suc k)))
+keys-more level deadline k v out h e q = rw (e, q, key-entry level deadline k) (column-more (keyIn level deadline) k h)
 
--- the row at index k has a deadline within its limit
-pub soon-at : (t : Table) → Accepted t → (k : ℕ) → k < t .n → getD (t .deadline) k 0 ≤ 1000000
+-- the deadlines of an accepted table are within their limit
+pub soon-at : (t : Table) → Accepted t → Soon (t .n) (t .deadline)
 soon-at t accepted k h =
     let e : suc k - 1 ≡ k = omega arith in
     let row : Row t (suc k) = record { from = omega arith; upTo = h } in

@@ -1,7 +1,17 @@
+pub mod Marks
+pub mod Lines
+pub mod Entries
 pub mod Keys
 pub mod Sequence
 pub mod Prepared
+pub mod Busy
+pub mod Fewer
+pub mod Periods
+pub mod Renewing
 pub mod Trying
+pub mod Sweeping
+pub mod Searching
 pub mod Taking
+pub mod Turns
 pub mod Placing
 pub mod Promise

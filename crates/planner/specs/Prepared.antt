@@ -1,21 +1,25 @@
--- What a planning works out once, and that it is within the limits of a trial.
+-- What a planning works out once.
 use Prim.Native.Nat.{ℕ}
 use mathlib.Core.Path.{_≡_, sym, ap, _∙_}
 use mathlib.Core.List.{List, map}
 use native.Mathlib.Omega.{arith}
-use lib.ListN.{length, getD, take}
+use lib.Dec.{eqb}
+use lib.ListN.{length, take}
 use Rattle.rules.specs.declared.Table.{Table}
 use Rattle.rules.specs.Rows.{at, rowsOf}
 use Rattle.rules.specs.Tables.{Accepted}
 use Rattle.rules.specs.Choice.{sequence, padded}
-use Rattle.theory.specs.Counts.{Same, same-size, in-entry}
+use Rattle.theory.specs.Counts.{Same, same-size}
 use Rattle.theory.specs.Sorting.{sortBy}
 use Rattle.theory.specs.Caps.{cap}
 use Rattle.theory.specs.Facts.{rows-in, TableFacts, facts}
 use Rattle.theory.specs.Places.{length-rows}
-use Rattle.sweep.specs.Padded.{Rows, padded-take, padded-entry, padded-at}
+use Rattle.theory.specs.Choosing.{same-sequence}
+use Rattle.sweep.specs.Padded.{padded-take, padded-at}
 use Rattle.sweep.specs.Finds.{byRelease}
 use Rattle.planner.specs.declared.Trials.{Trials}
+use Rattle.planner.specs.Marks.{marks}
+use Rattle.planner.specs.Entries.{entriesTo}
 use Rattle.planner.specs.Keys.{trialKey, sort-eq}
 use Rattle.planner.specs.Sequence.{sequence-sort}
 
@@ -23,26 +27,33 @@ use Rattle.planner.specs.Sequence.{sequence-sort}
 abbrev pub capsAt : Table → ℕ → List ℕ
 capsAt t s = padded (map (cap t s) (rowsOf t))
 
+-- the entries of the trial sequence whose rows are of this level, as a word
+abbrev pub atLevel : Table → ℕ → ℕ
+atLevel t level = marks (λ i. eqb (at (t .level) i) level) (sequence t)
+
 -- what all trials of a table share
 unfoldable pub trialsOf : Table → Trials
-trialsOf t = record { queue = padded (byRelease t); sequence = padded (sequence t); normal = capsAt t (t .normal); degraded = capsAt t (t .degraded) }
+trialsOf t =
+    record {
+      queue = padded (byRelease t);
+      sequence = padded (sequence t);
+      entry = entriesTo (padded (sequence t)) (t .n);
+      low = atLevel t 0;
+      high = atLevel t 1;
+      normal = capsAt t (t .normal);
+      degraded = capsAt t (t .degraded);
+    }
 
 -- the rows of a table in any order, as sixty-four numbers
 
 module _ (t : Table) (f : TableFacts t) (l : List ℕ) (s : Same l (rowsOf t)) where
-  every-length : length l ≡ t .n
+  pub every-length : length l ≡ t .n
   every-length = same-size l (rowsOf t) s ∙ length-rows (t .n)
 
   pub every-take : take (t .n) (padded l) ≡ l
   every-take =
       let e = every-length in
       ap (λ (k : ℕ). take k (padded l)) (sym e) ∙ padded-take l (omega (arith, f .few))
-
-  pub every-rows : Rows (padded l) (t .n)
-  every-rows k h =
-      let e = every-length in
-      let r = rows-in t (getD l k 0) (omega (arith, s (getD l k 0), in-entry l k (omega arith))) in
-      rw (padded-entry l (omega (arith, f .few)) k (omega arith)) (r .from, omega (arith, r .upTo, f .few))
 
 module _ (t : Table) (accepted : Accepted t) where
   f : TableFacts t
@@ -55,9 +66,12 @@ module _ (t : Table) (accepted : Accepted t) where
       (λ x i. let r = rows-in t x i in rw e (padded-at (trialKey t) (t .n) x (r .from) (r .upTo) (f .few)))
       ∙ sequence-sort t f
 
-  pub prepared : (queue keys sequence normal degraded : List ℕ) → queue ≡ padded (sortBy (λ i. at (t .release) i) (rowsOf t))
+  pub prepared : (queue keys tried entry normal degraded : List ℕ) (low high : ℕ) → queue ≡ padded (sortBy (λ i. at (t .release) i) (rowsOf t))
       → keys ≡ padded (map (trialKey t) (rowsOf t))
-      → sequence ≡ padded (sortBy (λ i. at keys i) (rowsOf t)) → normal ≡ capsAt t (t .normal) → degraded ≡ capsAt t (t .degraded)
-      → _≡_ {A = Trials} (record { queue = queue; sequence = sequence; normal = normal; degraded = degraded }) (trialsOf t)
+      → tried ≡ padded (sortBy (λ i. at keys i) (rowsOf t)) → entry ≡ entriesTo tried (t .n) → low ≡ marks (λ i. eqb (at (t .level) i) 0) (take (t .n) tried)
+      → high ≡ marks (λ i. eqb (at (t .level) i) 1) (take (t .n) tried)
+      → normal ≡ capsAt t (t .normal) → degraded ≡ capsAt t (t .degraded)
+      → _≡_ {A = Trials} (record { queue = queue; sequence = tried; entry = entry; low = low; high = high; normal = normal; degraded = degraded }) (trialsOf t)
   unfolding trialsOf
-  prepared queue keys sequence normal degraded q k s n d = rw (q, s, n, d, sequence-column keys k)
+  prepared queue keys tried entry normal degraded low high q k s x l h n d =
+      rw (q, x, l, h, s, n, d, sequence-column keys k, every-take t f (sequence t) (same-sequence t))

@@ -15,16 +15,8 @@ use Rattle.theory.specs.Counts.{In, in-head, in-tail}
 use Rattle.theory.specs.Sorting.{Sorted, insertBy, sortBy, sorted-sort, same-sort}
 use Rattle.theory.specs.Facts.{rows-in, TableFacts}
 use Rattle.sweep.specs.Holds.{count-dropped, count-keep-le}
+use Rattle.sweep.specs.Finds.{sorted-keep}
 use Rattle.planner.specs.Keys.{lateness, trialKey}
-
--- what a test keeps of a sorted list
-
-pub keep-sorted : (key : ℕ → ℕ) (p : ℕ → Bool) (n m : ℕ) (l : List ℕ) → m ≤ n → Sorted key n l → Sorted key m (keep p l)
-keep-sorted key p n m [] h s = tt
-keep-sorted key p n m (x ∷ l) h s =
-    by-bool (p x)
-    (λ e. rw e (omega arith, keep-sorted key p (key x) (key x) l (omega arith) (s .1)))
-    (λ e. rw e (keep-sorted key p (key x) m l (omega arith) (s .1)))
 
 kept-passes : (p : ℕ → Bool) (l : List ℕ) (x : ℕ) → In x (keep p l) → p x ≡ true
 kept-passes p l x i = by-bool (p x) (λ e. e) (λ e. absurd (omega (arith, count-dropped p x l e)))
@@ -40,7 +32,7 @@ module _ (d : ℕ → ℕ) (p : ℕ → Bool) (x : ℕ) where
   keep-insert n [] s e = rw e
   keep-insert n (y ∷ l) s e =
       by-leb (d x) (d y)
-      (λ f q. rw (f, e) (sym (insert-first (keep p (y ∷ l)) (keep-sorted d p (d x) (d x) (y ∷ l) (omega arith) (q, s .1)))))
+      (λ f q. rw (f, e) (sym (insert-first (keep p (y ∷ l)) (sorted-keep d p (d x) (y ∷ l) (q, s .1)))))
       (λ f q. rw f (by-bool (p y)
       (λ g. rw (g, f, keep-insert (d y) l (s .1) e))
       (λ g. rw g (keep-insert (d y) l (s .1) e))))

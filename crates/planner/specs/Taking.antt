@@ -1,87 +1,461 @@
--- The search for the row that takes a place, as a loop over the trial sequence goes.
-use Prim.Native.Nat.{ℕ, _+_, _≤_, _<_}
-use mathlib.Core.Bool.{Bool, true, false}
-use mathlib.Core.Path.{_≡_, sym, _∙_, refl}
-use mathlib.Core.List.{_∷_}
+-- A place of the choice over a table's columns: the trials at both speeds find the row that takes it, and what is known goes on without that row.
+use Prim.Native.Nat.{ℕ, _+_, _-_, _^_, _≤_, _<_}
+use mathlib.Core.Bool.{Bool, true, false, not, cond, _&&_}
+use mathlib.Core.Path.{_≡_, refl, sym, ap, ap₂, subst, _∙_}
+use mathlib.Core.List.{List, [], _++_, append-nil}
 use native.Mathlib.Omega.{arith}
-use lib.ListN.{length, getD, take, drop-of-length-le}
-use lib.Seq.{length-take-le}
+use lib.Bits.{bitAnd, bitOr}
+use lib.Dec.{eqb, leb}
+use lib.Pow.{pow-pos}
+use lib.ListN.{length, getD, take}
+use borrow.Author.Tests.{eq-eqb, ne-eqb, eqb-true}
 use Rattle.rules.specs.declared.Table.{Table}
-use Rattle.rules.specs.Lists.{first, keep}
-use Rattle.rules.specs.Choice.{sequence, passes, taker, padded}
-use Rattle.theory.specs.Counts.{In}
-use Rattle.theory.specs.Facts.{TableFacts, facts}
+use Rattle.rules.specs.Lists.{first, keep, erase}
+use Rattle.rules.specs.Rows.{at, rowsOf, releaseOf, deadlineOf, isLow, isHigh}
+use Rattle.rules.specs.Tables.{Accepted}
+use Rattle.rules.specs.Worst.{worstSpeed, meets}
+use Rattle.rules.specs.Choice.{sequence, passes, taker, falling, padded}
+use Rattle.theory.specs.Tests.{by-bool, by-eqb, by-ltb, not-is, and-left, and-right, and-both}
+use Rattle.theory.specs.Counts.{In, Once, Within, Same, in-entry, erase-last}
+use Rattle.theory.specs.Sorting.{sorted-sort, same-sort}
+use Rattle.theory.specs.Sweep.{sweep}
+use Rattle.theory.specs.Caps.{cap, cap-positive}
+use Rattle.theory.specs.Facts.{Row, TableFacts, facts, rows-in, count-zero}
+use Rattle.theory.specs.Places.{rows-once}
 use Rattle.theory.specs.Choosing.{same-sequence}
-use Rattle.sweep.specs.Masks.{isLeft}
-use Rattle.sweep.specs.Holds.{holds-left}
-use Rattle.sweep.specs.Padded.{Rows, rest, rest-step, rows-within}
-use Rattle.sweep.specs.Trials.{Columns}
-use Rattle.planner.specs.declared.Trials.{Trials}
-use Rattle.planner.specs.Prepared.{capsAt, trialsOf, every-take, every-rows}
-use Rattle.sweep.specs.Finds.{byRelease, columns}
-use Rattle.planner.specs.Trying.{leftOf, trialPasses, Trial, trial-passes}
+use Rattle.theory.specs.Results.{worst-sweep}
+use Rattle.sweep.specs.Masks.{bit, isLeft, bit-lt, left-bit, bit-left, bit-not-left, cleared-same, cleared-other, full-bit, above}
+use Rattle.sweep.specs.Holds.{Holds, count-keep-le, count-kept, keep-same}
+use Rattle.sweep.specs.Padded.{zeros, padded-at, padded-entry}
+use Rattle.sweep.specs.Trials.{trial}
+use Rattle.sweep.specs.Finds.{byRelease, queued, queued-sorted, queued-same, columns, finds}
+use Rattle.planner.specs.Lines.{At, place-of, apart, sorted-rising, first-parts, first-kept, first-fails, keep-both, keep-append, keep-keep, keep-twice, keep-neither}
+use Rattle.planner.specs.Marks.{marks-bit, bit-and}
+use Rattle.planner.specs.Prepared.{capsAt, atLevel, every-take, every-length}
+use Rattle.planner.specs.Busy.{row, Waits}
+use Rattle.planner.specs.Periods.{Queue, Known, known-start, known-placed}
+use Rattle.planner.specs.Entries.{entriesTo, entry-is, entries-below}
+use Rattle.planner.specs.Trying.{leftOf, Speed, KnownAt, Stands, Open, inTime, FirstIn}
 
--- the trial of a row over the table's columns and what its trials share
-abbrev pub tested : Table → Trials → ℕ → ℕ → Bool
-tested t w left row = trialPasses (w .queue) (t .n) (t .release) (t .deadline) (t .level) (w .normal) (w .degraded) left row
+-- entry i of the trial sequence waits exactly if its row is left
+pub record Waiting (t : Table) (left waiting : ℕ) : Type 0 where
+  pub within : waiting < 2 ^ t .n
+  pub bits : (i : ℕ) → i < t .n → bit waiting i ≡ cond (isLeft left (getD (sequence t) i 0)) 1 0
 
--- the first row that passes, from entry k of the sequence on
-abbrev pub searched : Table → Trials → ℕ → ℕ → ℕ
-searched t w left k = first (passes t (leftOf t left)) (keep (isLeft left) (rest (w .sequence) (t .n) k))
+-- entry e, from 1, of the trial sequence has the row that takes the place; 0 where no row does
+pub record Taken (t : Table) (left waiting e : ℕ) : Type 0 where
+  pub none : e ≡ 0 → taker t (leftOf t left) ≡ 0
+  pub found : (e ≡ 0 → ⊥) → (1 ≤ e) × (e ≤ t .n) × (bit waiting (e - 1) ≡ 1) × (getD (padded (sequence t)) (e - 1) 0 ≡ taker t (leftOf t left))
 
-module _ (t : Table) (w : Trials) (left : ℕ) (s : Trial t w left) where
+module _ (t : Table) (accepted : Accepted t) where
   f : TableFacts t
-  f = facts t (s .accepted)
+  f = facts t accepted
 
-  pub sequence-rows : Rows (w .sequence) (t .n)
-  unfolding trialsOf
-  sequence-rows = rw (s .prepared) (every-rows t f (sequence t) (same-sequence t))
+  same-release : Same (byRelease t) (rowsOf t)
+  same-release = same-sort (releaseOf t) (rowsOf t)
 
-  pub normal-columns : Columns (w .queue) (t .n) (t .release) (w .normal)
-  unfolding trialsOf
-  normal-columns =
-      rw (s .prepared) (columns t (s .accepted) (t .normal) (padded (byRelease t)) (capsAt t (t .normal)) (f .runs) refl refl)
+  once : (l : List ℕ) → Same l (rowsOf t) → Once l
+  once l s x = omega (arith, s x, rows-once (t .n) x)
 
-  pub degraded-columns : Columns (w .queue) (t .n) (t .release) (w .degraded)
-  unfolding trialsOf
-  degraded-columns =
-      rw (s .prepared) (columns t (s .accepted) (t .degraded) (padded (byRelease t)) (capsAt t (t .degraded)) (f .crawls) refl refl)
+  entry-in : (l : List ℕ) → Same l (rowsOf t) → (k : ℕ) → k < length l → In (getD l k 0) (rowsOf t)
+  entry-in l s k h = omega (arith, s (getD l k 0), in-entry l k h)
 
-  pub search-start : searched t w left 0 ≡ taker t (leftOf t left)
-  unfolding taker trialsOf
-  search-start = rw (s .prepared, every-take t f (sequence t) (same-sequence t))
+  -- the entries of the rows in the trial sequence
 
-  pub search-done : (k : ℕ) → t .n ≤ k → searched t w left k ≡ 0
-  search-done k h =
-      let n = length-take-le (t .n) (w .sequence) (rows-within (w .sequence) (t .n) sequence-rows) in
-      let q : length (take (t .n) (w .sequence)) ≤ k = omega arith in
-      rw (drop-of-length-le (take (t .n) (w .sequence)) q)
+  sequence-length : length (sequence t) ≡ t .n
+  sequence-length = every-length t f (sequence t) (same-sequence t)
 
-  -- the trial of a row that is left says whether it passes
-  trial-of : (i : ℕ) → In i (leftOf t left) → tested t w left i ≡ passes t (leftOf t left) i
-  unfolding trialsOf
-  trial-of i k = rw (s .prepared) (trial-passes t (s .accepted) left (s .holds) i k)
+  sequence-entry : (i : ℕ) → i < t .n → getD (padded (sequence t)) i 0 ≡ getD (sequence t) i 0
+  sequence-entry i h = let e = sequence-length in padded-entry (sequence t) (omega (arith, f .few)) i (omega arith)
 
-  -- one turn at entry k
-  module _ (k : ℕ) (h : k < t .n) where
-    abbrev pub row : ℕ
-    row = getD (w .sequence) k 0
+  sequence-row : (i : ℕ) → i < t .n → Row t (getD (sequence t) i 0)
+  sequence-row i h = let e = sequence-length in rows-in t (getD (sequence t) i 0) (entry-in (sequence t) (same-sequence t) i (omega arith))
 
-    step : rest (w .sequence) (t .n) k ≡ row ∷ rest (w .sequence) (t .n) (k + 1)
-    step = rest-step (w .sequence) (t .n) k (rows-within (w .sequence) (t .n) sequence-rows) h
+  abbrev pub entryOf : List ℕ
+  entryOf = entriesTo (padded (sequence t)) (t .n)
 
-    -- a row that is not left is passed over
-    pub search-skip : isLeft left row ≡ false → searched t w left k ≡ searched t w left (k + 1)
-    search-skip e = rw (step, e)
+  entry-of : (i : ℕ) → i < t .n → at entryOf (getD (sequence t) i 0) ≡ i
+  entry-of i h =
+      ap (at entryOf) (sym (sequence-entry i h))
+      ∙ entry-is (padded (sequence t)) (t .n)
+      (λ k q. let r = sequence-row k q in omega (arith, ap (λ (x : ℕ). x - 1) (sequence-entry k q), r .upTo, f .few))
+      (λ k j q l n z.
+      let e = sequence-length in
+      let a = sequence-row k q in
+      let b = sequence-row j l in
+      apart (sequence t) (once (sequence t) (same-sequence t)) k j (omega arith) (omega arith) n
+      (omega (arith, a .from, b .from, ap (λ (x : ℕ). x - 1) (sequence-entry k q), ap (λ (x : ℕ). x - 1) (sequence-entry j l))))
+      i h
 
-    module _ (e : isLeft left row ≡ true) where
-      trial-is : tested t w left row ≡ passes t (leftOf t left) row
-      trial-is = trial-of row (omega (arith, holds-left left (leftOf t left) (s .holds) row (sequence-rows k h .0) e))
+  -- a row of the table has an entry
+  entry-at : (x : ℕ) → In x (rowsOf t) → At (sequence t) x
+  entry-at x i = place-of (sequence t) x (omega (arith, same-sequence t x))
 
-      -- a row that fails its trial is passed over
-      pub search-go : tested t w left row ≡ false → searched t w left k ≡ searched t w left (k + 1)
-      search-go q = rw (step, e, sym trial-is ∙ q)
+  entry-place : (x : ℕ) (i : In x (rowsOf t)) → at entryOf x ≡ entry-at x i .place
+  entry-place x i =
+      let a = entry-at x i in
+      let e = sequence-length in
+      ap (at entryOf) (sym (a .is)) ∙ entry-of (a .place) (omega (arith, a .within))
 
-      -- the first that passes is found
-      pub search-stop : tested t w left row ≡ true → searched t w left k ≡ row
-      search-stop q = rw (step, e, sym trial-is ∙ q)
+  -- the columns of a speed
+
+  cap-entry : (s x : ℕ) → In x (rowsOf t) → at (capsAt t s) x ≡ cap t s x
+  cap-entry s x i = let r = rows-in t x i in padded-at (cap t s) (t .n) x (r .from) (r .upTo) (f .few)
+
+  queue-is : take (t .n) (padded (byRelease t)) ≡ byRelease t
+  queue-is = every-take t f (byRelease t) same-release
+
+  queue-of : (s : ℕ) → 1 ≤ s → Queue (λ j. at (t .release) j) (λ j. at (capsAt t s) j) (λ j. at entryOf j) (byRelease t)
+  queue-of s s1 =
+      let l = byRelease t in
+      let e = every-length t f l same-release in
+      let known : (k : ℕ) → k < length l → In (row l k) (rowsOf t) = entry-in l same-release in
+      record {
+        few = omega (arith, f .few);
+        rising = sorted-rising (releaseOf t) 0 l (sorted-sort (releaseOf t) (rowsOf t));
+        runs = λ k h. let r = rows-in t (row l k) (known k h) in
+            omega (arith, cap-entry s (row l k) (known k h), cap-positive t s (row l k) (f .runs) s1 (f .row (row l k) r .works));
+        range = λ k h. let r = rows-in t (row l k) (known k h) in omega (arith, r .upTo, f .few);
+        apart = λ i j h k n z. let a = rows-in t (row l i) (known i h) in
+            let b = rows-in t (row l j) (known j k) in
+            apart l (once l same-release) i j h k n (omega (arith, a .from, b .from));
+        single = λ i j h k z. by-eqb i j (λ _ y. y) (λ _ y.
+            let a = entry-at (row l i) (known i h) in
+            let b = entry-at (row l j) (known j k) in
+            let m : a .place ≡ b .place = sym (entry-place (row l i) (known i h)) ∙ z ∙ entry-place (row l j) (known j k) in
+            absurd (apart l (once l same-release) i j h k y (sym (a .is) ∙ ap (λ (x : ℕ). getD (sequence t) x 0) m ∙ b .is)));
+      }
+
+  pub speed-of : (s : ℕ) → 1 ≤ s → Speed (padded (byRelease t)) (t .n) (t .release) (capsAt t s) entryOf
+  speed-of s s1 =
+      record {
+        columns = columns t accepted s (padded (byRelease t)) (capsAt t s) s1 refl refl;
+        queued = rw queue-is (queue-of s s1);
+        entries = entries-below (padded (sequence t)) (t .n) (f .few);
+      }
+
+  -- at first all entries wait
+  pub waiting-start : (left : ℕ) → left ≡ 2 ^ t .n - 1 → Waiting t left left
+  waiting-start left e =
+      let n = every-length t f (sequence t) (same-sequence t) in
+      record {
+        within = omega (arith, pow-pos (t .n));
+        bits = λ i h. let r = rows-in t (getD (sequence t) i 0) (entry-in (sequence t) (same-sequence t) i (omega arith)) in
+            ap (λ (m : ℕ). bit m i) e ∙ full-bit (t .n) i h
+            ∙ sym (ap {B = ℕ} (λ (a : Bool). cond a 1 0) (bit-left left (getD (sequence t) i 0)
+            (ap (λ (m : ℕ). bit m (getD (sequence t) i 0 - 1)) e ∙ full-bit (t .n) (getD (sequence t) i 0 - 1) (omega (arith, r .from, r .upTo)))));
+      }
+
+  -- a row left of the table stands in the queue with its entry
+  stands-row : (left x : ℕ) → x < t .n → isLeft left (getD (sequence t) x 0) ≡ true → Stands (padded (byRelease t)) entryOf (t .n) left x
+  stands-row left x h e =
+      let n = sequence-length in
+      let a = place-of (byRelease t) (getD (sequence t) x 0) (omega (
+        arith,
+        same-release (getD (sequence t) x 0),
+        same-sequence t (getD (sequence t) x 0),
+        in-entry (sequence t) x (omega arith),
+      )) in
+      record {
+        place = a .place;
+        waits = rw queue-is (a .within, ap (isLeft left) (a .is) ∙ e);
+        is = rw queue-is (ap (at entryOf) (a .is) ∙ entry-of x h);
+      }
+
+  module _ (left waiting : ℕ) (w : Waiting t left waiting) where
+    -- an entry that waits is of a row left
+    waits-left : (x : ℕ) → bit waiting x ≡ 1 → (x < t .n) × (isLeft left (getD (sequence t) x 0) ≡ true)
+    waits-left x b =
+        let h : x < t .n = by-ltb x (t .n) (λ _ l. l) (λ _ l. absurd (omega (arith, above (t .n) x waiting (w .within) l))) in (
+          h,
+          by-bool (isLeft left (getD (sequence t) x 0)) (λ z. z)
+              (λ z. absurd (omega (arith, w .bits x h, ap {B = ℕ} (λ (c : Bool). cond c 1 0) z))),
+        )
+
+    pub opened : (m : ℕ) → Open (padded (byRelease t)) entryOf (t .n) left (bitAnd waiting m)
+    opened m x b =
+        let r = waits-left x (omega (arith, bit-and waiting m x, b, bit-lt waiting x)) in
+        stands-row left x (r .0) (r .1)
+
+    -- the row at entry e is placed
+    pub waiting-turn : (e i : ℕ) → 1 ≤ e → e ≤ t .n → i ≡ getD (padded (sequence t)) (e - 1) 0 → bit waiting (e - 1) ≡ 1 → bit left (i - 1) ≡ 1
+        → Waiting t (left - 2 ^ (i - 1)) (waiting - 2 ^ (e - 1))
+    waiting-turn e i h k z b c =
+        let n = sequence-length in
+        let x : getD (sequence t) (e - 1) 0 ≡ i = sym (z ∙ sequence-entry (e - 1) (omega arith)) in
+        record {
+          within = omega (arith, w .within);
+          bits = λ j l. by-eqb j (e - 1)
+              (λ _ q. let y : getD (sequence t) j 0 ≡ i = ap (λ (k : ℕ). getD (sequence t) k 0) q ∙ x in
+              ap (bit (waiting - 2 ^ (e - 1))) q ∙ cleared-same (e - 1) waiting b
+              ∙ sym (ap (λ (a : Bool). cond a 1 0) (bit-not-left (left - 2 ^ (i - 1)) (getD (sequence t) j 0)
+              (ap (λ (k : ℕ). bit (left - 2 ^ (i - 1)) (k - 1)) y ∙ cleared-same (i - 1) left c))))
+              (λ _ q. let r = rows-in t (getD (sequence t) j 0) (entry-in (sequence t) (same-sequence t) j (omega arith)) in
+              let s = rows-in t (getD (sequence t) (e - 1) 0) (entry-in (sequence t) (same-sequence t) (e - 1) (omega arith)) in
+              let d : getD (sequence t) j 0 - 1 ≡ i - 1 → ⊥ = λ y.
+              apart (sequence t) (once (sequence t) (same-sequence t)) j (e - 1) (omega arith) (omega arith) q (omega (arith, r .from, s .from)) in
+              cleared-other (e - 1) j waiting b q ∙ w .bits j l
+              ∙ ap (λ (m : ℕ). cond (eqb m 1) 1 0) (sym (cleared-other (i - 1) (getD (sequence t) j 0 - 1) left c d)));
+        }
+
+  -- a trial at a row's own worst speed says whether it passes
+  module _ (left : ℕ) (holds : Holds left (leftOf t left)) where
+    left-within : Within (leftOf t left) (rowsOf t)
+    left-within x = omega (arith, count-keep-le (isLeft left) x (sequence t), same-sequence t x)
+
+    swept-same : Same (queued t left) (leftOf t left)
+    swept-same = queued-same t left (leftOf t left) holds left-within
+
+    trial-passes : (s i : ℕ) → In i (leftOf t left) → worstSpeed t i ≡ s
+        → inTime (padded (byRelease t)) (t .n) (t .release) (t .deadline) (capsAt t s) left i ≡ passes t (leftOf t left) i
+    unfolding inTime passes meets
+    trial-passes s i k e =
+        let last = erase-last i (leftOf t left) k in
+        ap (λ (n : ℕ). leb n (deadlineOf t i))
+        (finds t accepted left s (releaseOf t i) (padded (byRelease t)) (capsAt t s) refl refl
+        ∙ ap (λ (v : ℕ). sweep (releaseOf t) (cap t v) (releaseOf t i) 0 (queued t left)) (sym e)
+        ∙ sym (worst-sweep t accepted (erase i (leftOf t left)) [] i (λ x. omega (arith, last x, left-within x)) (queued t left)
+        (queued-sorted t left)
+        (λ x. omega (arith, last x, swept-same x))))
+
+    -- the rows left of a level, and the first of them that passes
+    module _ (waiting : ℕ) (w : Waiting t left waiting) where
+      abbrev chosen : ℕ → ℕ → Bool
+      chosen level x = isLeft left x && eqb (at (t .level) x) level
+
+      -- an entry is in the word of a level exactly if its row is left and of this level
+      word-of : (level x : ℕ) → x < t .n → chosen level (getD (sequence t) x 0) ≡ true → bit (bitAnd waiting (atLevel t level)) x ≡ 1
+      word-of level x h e =
+          let n = sequence-length in
+          let i = getD (sequence t) x 0 in
+          let a = and-left (isLeft left i) (eqb (at (t .level) i) level) e in
+          let b = and-right (isLeft left i) (eqb (at (t .level) i) level) e in
+          omega (
+            arith,
+            bit-and waiting (atLevel t level) x,
+            w .bits x h,
+            ap {B = ℕ} (λ (c : Bool). cond c 1 0) a,
+            marks-bit (λ j. eqb (at (t .level) j) level) (sequence t) x (omega arith),
+            ap {B = ℕ} (λ (c : Bool). cond c 1 0) b,
+          )
+
+      of-word : (level x : ℕ) → bit (bitAnd waiting (atLevel t level)) x ≡ 1 → (x < t .n) × (bit waiting x ≡ 1) × (chosen level (getD (sequence t) x 0) ≡ true)
+      of-word level x b =
+          let n = sequence-length in
+          let i = getD (sequence t) x 0 in
+          let both = bit-and waiting (atLevel t level) x in
+          let one : bit waiting x ≡ 1 = omega (arith, bit-lt waiting x) in
+          let r = waits-left left waiting w x one in
+          let l : eqb (at (t .level) i) level ≡ true = by-bool (eqb (at (t .level) i) level) (λ z. z)
+          (λ z. absurd (omega (arith, marks-bit (λ j. eqb (at (t .level) j) level) (sequence t) x (omega (arith, r .0)), ap {B = ℕ} (λ (c : Bool). cond c 1 0) z))) in
+          (r .0, one, and-both (isLeft left i) (eqb (at (t .level) i) level) (r .1) l)
+
+      -- what the search at a speed says of the rows of a level
+      record Tested (level e : ℕ) : Type 0 where
+        none : e ≡ 0 → first (passes t (leftOf t left)) (keep (λ i. eqb (at (t .level) i) level) (leftOf t left)) ≡ 0
+        found : (e ≡ 0 → ⊥) → (1 ≤ e) × (e ≤ t .n) × (bit waiting (e - 1) ≡ 1)
+            × (getD (padded (sequence t)) (e - 1) 0 ≡ first (passes t (leftOf t left)) (keep (λ i. eqb (at (t .level) i) level) (leftOf t left)))
+
+      module _ (level s : ℕ) (speed : (i : ℕ) → eqb (at (t .level) i) level ≡ true → In i (leftOf t left) → worstSpeed t i ≡ s) (e : ℕ)
+          (k : FirstIn (inTime (padded (byRelease t)) (t .n) (t .release) (t .deadline) (capsAt t s) left) (padded (byRelease t)) entryOf (t .n) left
+          (bitAnd waiting (atLevel t level)) e) where
+        abbrev tested : ℕ → Bool
+        tested = inTime (padded (byRelease t)) (t .n) (t .release) (t .deadline) (capsAt t s) left
+
+        kept : keep (λ i. eqb (at (t .level) i) level) (leftOf t left) ≡ keep (chosen level) (sequence t)
+        kept = keep-both (λ i. eqb (at (t .level) i) level) (isLeft left) (sequence t)
+
+        -- the trial of a row of the level says whether it passes
+        says : (x : ℕ) → x < t .n → chosen level (getD (sequence t) x 0) ≡ true → tested (getD (sequence t) x 0) ≡ passes t (leftOf t left) (getD (sequence t) x 0)
+        says x h c =
+            let n = sequence-length in
+            let i = getD (sequence t) x 0 in
+            let a = and-left (isLeft left i) (eqb (at (t .level) i) level) c in
+            let b = and-right (isLeft left i) (eqb (at (t .level) i) level) c in
+            let m : In i (leftOf t left) = omega (arith, count-kept (isLeft left) i (sequence t) a, in-entry (sequence t) x (omega arith)) in
+            trial-passes s i m (speed i b m)
+
+        -- what is so of the place in the queue is so of the row
+        at-place : (x : ℕ) (h : x < t .n) (c : chosen level (getD (sequence t) x 0) ≡ true)
+            → row (take (t .n) (padded (byRelease t))) (stands-row left x h (and-left (isLeft left (getD (sequence t) x 0)) (eqb (at (t .level) (getD (sequence t) x 0)) level) c) .place)
+            ≡ getD (sequence t) x 0
+        unfolding stands-row
+        at-place x h c =
+            let n = sequence-length in
+            let a = place-of (byRelease t) (getD (sequence t) x 0) (omega (
+              arith,
+              same-release (getD (sequence t) x 0),
+              same-sequence t (getD (sequence t) x 0),
+              in-entry (sequence t) x (omega arith),
+            )) in
+            rw queue-is (a .is)
+
+        -- a row that the search passed over fails
+        over : (x : ℕ) → x < t .n → (c : chosen level (getD (sequence t) x 0) ≡ true)
+            → ((j : ℕ) → Waits (isLeft left) (take (t .n) (padded (byRelease t))) j → bit (bitAnd waiting (atLevel t level)) (at entryOf (row (take (t .n) (padded (byRelease t))) j)) ≡ 1
+            → at entryOf (row (take (t .n) (padded (byRelease t))) j) ≡ x → tested (row (take (t .n) (padded (byRelease t))) j) ≡ false)
+            → passes t (leftOf t left) (getD (sequence t) x 0) ≡ false
+        over x h c g =
+            let st = stands-row left x h (and-left (isLeft left (getD (sequence t) x 0)) (eqb (at (t .level) (getD (sequence t) x 0)) level) c) in
+            sym (says x h c) ∙ ap tested (sym (at-place x h c))
+            ∙ g (st .place) (st .waits) (ap (bit (bitAnd waiting (atLevel t level))) (st .is) ∙ word-of level x h c) (st .is)
+
+        -- the row found
+        row-found : (z : e ≡ 0 → ⊥) (m : e - 1 < t .n) → row (take (t .n) (padded (byRelease t))) (k .found z .stands .place) ≡ getD (sequence t) (e - 1) 0
+        row-found z m =
+            let r = k .found z in
+            let st = r .stands in
+            let w : Waits (isLeft left) (byRelease t) (st .place) = rw queue-is at (st .waits) in
+            let x : In (row (byRelease t) (st .place)) (rowsOf t) = entry-in (byRelease t) same-release (st .place) (w .0) in
+            let a = entry-at (row (byRelease t) (st .place)) x in
+            let y : at entryOf (row (byRelease t) (st .place)) ≡ e - 1 = rw queue-is at (st .is) in
+            rw queue-is (sym (a .is) ∙ ap (λ (j : ℕ). getD (sequence t) j 0) (sym (entry-place (row (byRelease t) (st .place)) x) ∙ y))
+
+        test-of : Tested level e
+        test-of =
+            let n = sequence-length in
+            record {
+              none = λ z. ap (first (passes t (leftOf t left))) kept
+                  ∙ first-fails (passes t (leftOf t left)) (chosen level) (sequence t)
+                  (λ x h c. over x (omega arith) c (λ j v b _. k .none z j v b));
+              found = λ z.
+                  let r = k .found z in
+                  let o = of-word level (e - 1) (r .inside) in
+                  let some = r .some in
+                  let y = row-found z (o .0) in
+                  let good : passes t (leftOf t left) (getD (sequence t) (e - 1) 0) ≡ true = sym (says (e - 1) (o .0) (o .2)) ∙ ap tested (sym y) ∙ r .meets in (
+                    some,
+                    omega (arith, o .0),
+                    o .1,
+                    sequence-entry (e - 1) (o .0) ∙ sym (ap (first (passes t (leftOf t left))) kept
+                        ∙ first-kept (passes t (leftOf t left)) (chosen level) (sequence t) (e - 1) (omega (arith, o .0)) (o .2) good
+                        (λ x h c. over x (omega (arith, o .0)) c (λ j v b q. r .before j v b (omega (arith, q))))),
+                  );
+            }
+
+      abbrev lows : List ℕ
+      lows = keep (isLow t) (leftOf t left)
+
+      abbrev highs : List ℕ
+      highs = keep (λ i. eqb (at (t .level) i) 1) (leftOf t left)
+
+      -- the LO rows of the sequence come first
+      parts : leftOf t left ≡ lows ++ keep (isHigh t) (leftOf t left)
+      unfolding sequence
+      parts =
+          let fall = falling t (rowsOf t) in
+          let low = keep (isLow t) fall in
+          let high = keep (isHigh t) fall in
+          let one : keep (isLow t) (low ++ high) ≡ low =
+          keep-append (isLow t) low high ∙ ap₂ (λ (a b : List ℕ). a ++ b) (keep-twice (isLow t) fall)
+          (keep-neither (isLow t) (isHigh t) fall (λ x e. not-is (isLow t x) e)) ∙ append-nil low in
+          let two : keep (isHigh t) (low ++ high) ≡ high =
+          keep-append (isHigh t) low high ∙ ap₂ (λ (a b : List ℕ). a ++ b)
+          (keep-neither (isHigh t) (isLow t) fall (λ x e. ap not e)) (keep-twice (isHigh t) fall) in
+          keep-append (isLeft left) low high
+          ∙ ap₂ (λ (a b : List ℕ). keep (isLeft left) a ++ keep (isLeft left) b) (sym one) (sym two)
+          ∙ ap₂ (λ (a b : List ℕ). a ++ b) (keep-keep (isLeft left) (isLow t) (low ++ high)) (keep-keep (isLeft left) (isHigh t) (low ++ high))
+
+      -- in an accepted table a row that is not LO is of level 1
+      other-level : keep (isHigh t) (leftOf t left) ≡ highs
+      other-level =
+          keep-same (isHigh t) (λ i. eqb (at (t .level) i) 1) (leftOf t left)
+          (λ x i. let l = f .row x (rows-in t x (omega (arith, left-within x))) .level in
+          by-eqb (at (t .level) x) 0
+          (λ e q. rw (e, ne-eqb (at (t .level) x) 1 (λ z. omega arith)))
+          (λ e q. rw (e, eq-eqb (at (t .level) x) 1 (omega (arith, q)))))
+
+      taker-parts : taker t (leftOf t left) ≡ cond (eqb (first (passes t (leftOf t left)) lows) 0) (first (passes t (leftOf t left)) highs)
+          (first (passes t (leftOf t left)) lows)
+      unfolding taker
+      taker-parts =
+          let p = passes t (leftOf t left) in
+          ap (first p) (parts ∙ ap (λ (l : List ℕ). lows ++ l) other-level)
+          ∙ first-parts p lows highs (λ i. omega (arith, count-keep-le (isLow t) 0 (leftOf t left), left-within 0, count-zero (t .n)))
+
+      abbrev Searched : ℕ → ℕ → ℕ → Type 0
+      Searched level s e =
+          FirstIn (inTime (padded (byRelease t)) (t .n) (t .release) (t .deadline) (capsAt t s) left) (padded (byRelease t)) entryOf (t .n) left
+          (bitAnd waiting (atLevel t level)) e
+
+      low-tested : (e : ℕ) → Searched 0 (t .normal) e → Tested 0 e
+      low-tested e k = test-of 0 (t .normal) (λ i z _. rw z) e k
+
+      high-tested : (e : ℕ) → Searched 1 (t .degraded) e → Tested 1 e
+      high-tested e k = test-of 1 (t .degraded) (λ i z _. rw (ne-eqb (at (t .level) i) 0 (λ y. omega (arith, eqb-true (at (t .level) i) 1 z)))) e k
+
+      -- an entry has a row of the table
+      pub taken-row : (e : ℕ) → 1 ≤ e → e ≤ t .n → In (getD (padded (sequence t)) (e - 1) 0) (rowsOf t)
+      taken-row e h k =
+          let n = sequence-length in
+          subst (λ (x : ℕ). In x (rowsOf t)) (sym (sequence-entry (e - 1) (omega arith))) (entry-in (sequence t) (same-sequence t) (e - 1) (omega arith))
+
+      -- the first LO row that passes takes the place
+      pub taken-low : (e : ℕ) → Searched 0 (t .normal) e → (e ≡ 0 → ⊥) → Taken t left waiting e
+      taken-low e k n =
+          let r = low-tested e k .found n in
+          record {
+            none = λ z. absurd (n z);
+            found = λ _. (
+              r .0,
+              r .1,
+              r .2,
+              sym (taker-parts
+                  ∙ ap (λ (j : ℕ). cond (eqb j 0) (first (passes t (leftOf t left)) highs) j) (sym (r .3))
+                  ∙ rw (ne-eqb (getD (padded (sequence t)) (e - 1) 0) 0 (λ z. omega (arith, rows-in t (getD (padded (sequence t)) (e - 1) 0) (taken-row e (r .0) (r .1)) .from)))),
+            );
+          }
+
+      -- where none does, the first HI row that passes does
+      pub taken-high : (d e : ℕ) → Searched 0 (t .normal) d → d ≡ 0 → Searched 1 (t .degraded) e → Taken t left waiting e
+      taken-high d e k z l =
+          let x : taker t (leftOf t left) ≡ first (passes t (leftOf t left)) highs = taker-parts
+          ∙ ap (λ (j : ℕ). cond (eqb j 0) (first (passes t (leftOf t left)) highs) (first (passes t (leftOf t left)) lows)) (low-tested d k .none z) in
+          let h = high-tested e l in
+          record {
+            none = λ y. x ∙ h .none y;
+            found = λ n. let r = h .found n in (r .0, r .1, r .2, sym (x ∙ sym (r .3)));
+          }
+
+  -- what is known of a speed's busy periods
+
+  module _ (s : ℕ) (s1 : 1 ≤ s) where
+    abbrev caps : ℕ → ℕ
+    caps j = at (capsAt t s) j
+
+    -- before the first sweep
+    pub known-first : (left : ℕ) → KnownAt (padded (byRelease t)) (t .n) (t .release) (t .deadline) (capsAt t s) entryOf left (zeros 64) 1 0
+    known-first left =
+        rw queue-is (known-start (releaseOf t) caps (deadlineOf t) (λ j. at entryOf j) (isLeft left) (byRelease t) (queue-of s s1)
+        (omega (arith, every-length t f (byRelease t) same-release, f .some)))
+
+    -- row i is placed
+    pub known-turn : (left i : ℕ) (period : List ℕ) (changed passing : ℕ)
+        → KnownAt (padded (byRelease t)) (t .n) (t .release) (t .deadline) (capsAt t s) entryOf left period changed passing → In i (rowsOf t) → bit left (i - 1) ≡ 1
+        → KnownAt (padded (byRelease t)) (t .n) (t .release) (t .deadline) (capsAt t s) entryOf (left - 2 ^ (i - 1)) period (bitOr changed (2 ^ at period i)) passing
+    known-turn left i period changed passing known k b =
+        let q = byRelease t in
+        let less = left - 2 ^ (i - 1) in
+        let a = place-of q i (omega (arith, same-release i)) in
+        let within : (x : ℕ) → isLeft less x ≡ true → isLeft left x ≡ true = λ x e.
+        by-eqb (x - 1) (i - 1)
+        (λ _ z. absurd (omega (arith, left-bit less x e, ap (bit less) z, cleared-same (i - 1) left b)))
+        (λ _ z. bit-left left x (sym (cleared-other (i - 1) (x - 1) left b z) ∙ left-bit less x e)) in
+        let others : (j : ℕ) → j < length q → (j ≡ a .place → ⊥) → isLeft less (row q j) ≡ isLeft left (row q j) = λ j h n.
+        ap (λ (m : ℕ). eqb m 1) (cleared-other (i - 1) (row q j - 1) left b
+        (λ z. queue-of s s1 .apart j (a .place) h (a .within) n (z ∙ ap (λ (m : ℕ). m - 1) (sym (a .is))))) in
+        let taken : Waits (isLeft left) q (a .place) = (a .within, bit-left left (row q (a .place)) (ap (λ (m : ℕ). bit left (m - 1)) (a .is) ∙ b)) in
+        rw queue-is (subst (λ (x : ℕ). Known (releaseOf t) caps (deadlineOf t) (λ j. at entryOf j) (isLeft less) q period (bitOr changed (2 ^ at period x)) passing) (a .is)
+        (known-placed (releaseOf t) caps (deadlineOf t) (λ j. at entryOf j) (isLeft left) q (queue-of s s1) (isLeft less) (a .place) within others taken
+        period changed passing (rw queue-is at known)))
+
+    -- its busy period begins at a place of the queue
+    pub period-place : (left i : ℕ) (period : List ℕ) (changed passing : ℕ)
+        → KnownAt (padded (byRelease t)) (t .n) (t .release) (t .deadline) (capsAt t s) entryOf left period changed passing → In i (rowsOf t) → bit left (i - 1) ≡ 1
+        → at period i < 64
+    period-place left i period changed passing known k b =
+        let q = byRelease t in
+        let a = place-of q i (omega (arith, same-release i)) in
+        let taken : Waits (isLeft left) q (a .place) = (a .within, bit-left left (row q (a .place)) (ap (λ (m : ℕ). bit left (m - 1)) (a .is) ∙ b)) in
+        let g : Known (releaseOf t) caps (deadlineOf t) (λ j. at entryOf j) (isLeft left) q period changed passing = rw queue-is at known in
+        omega (arith, g .groups .low (a .place) taken, ap (at period) (a .is), a .within, queue-of s s1 .few)

@@ -1,26 +1,36 @@
 // The planner's choice (section 4 of the rules): an order for a table, its lowest place first, or the rows left where none exists.
-// The first row is row 1; the rows left are a word in which row i is bit i - 1 (rule 4.8).
+// The first row is row 1; the rows left are a word in which row i is bit i - 1 (rule 4.8). Entries of the trial sequence and places of the queue
+// count from 0 where they are stored and as bits of a word, and from 1 where they are handed to functions on words.
 ghost use mathlib.Core.Path.{_≡_};
 ghost use mathlib.Core.List.{map};
-ghost use Prim.Native.Nat.{_≤_};
+ghost use Prim.Native.Nat.{_≤_, _<_};
+ghost use lib.Dec.{eqb};
+ghost use lib.ListN.{take};
 ghost use Rattle.rules.specs.Lists.{rowsTo};
+ghost use Rattle.rules.specs.Rows.{at};
 ghost use Rattle.rules.specs.Tables.{Accepted};
-ghost use Rattle.rules.specs.Choice.{padded, taker, choice, planFrom};
-ghost use Rattle.sweep.specs.Trials.{Columns};
-ghost use Rattle.planner.specs.Keys.{keyOf, trialKey};
+ghost use Rattle.rules.specs.Choice.{padded, choice, planFrom};
+ghost use Rattle.sweep.specs.Masks.{isLeft};
+ghost use Rattle.sweep.specs.Padded.{Rows};
+ghost use Rattle.planner.specs.Keys.{keyOf, keyIn, Soon};
+ghost use Rattle.planner.specs.Marks.{marks};
 ghost use Rattle.planner.specs.Prepared.{trialsOf};
-ghost use Rattle.planner.specs.Trying.{leftOf, trialPasses, Trial};
+ghost use Rattle.planner.specs.Entries.{entriesTo, Entries, timely};
+ghost use Rattle.planner.specs.Trying.{Speed, Grouped, KnownAt, Open, Renewed, inTime, FirstIn};
 ghost use Rattle.planner.specs.Promise.{Promise};
 use rules::Check;
 use rules::Planned;
 use rules::Planning;
 use rules::Table;
 
-// What a planning works out once: the rows by rising release, the trial sequence, and the caps in slots at supplies of
-// at least the normal and at least the degraded speed.
+// What a planning works out once: the rows by rising release, the trial sequence, each row's entry in it from 0, the entries of LO and of HI rows as
+// words, and the caps in slots at supplies of at least the normal and at least the degraded speed.
 struct Trials {
     queue: [u8; 64],
     sequence: [u8; 64],
+    entry: [u8; 64],
+    low: u64,
+    high: u64,
     normal: [u32; 64],
     degraded: [u32; 64],
 }
@@ -34,16 +44,48 @@ fn trial_key(level: u32, deadline: u32) -> u32
     if level == 0 { late } else { 2000000 + late }
 }
 
-// The keys of a table's rows.
-fn trial_keys(t: Table) -> [u32; 64]
-    requires { ⌜ Accepted t ⌝ }
-    ensures { λ r. ⌜ r ≡ padded (map (trialKey t) (rowsTo (t .n))) ⌝ }
+// The keys of n rows by their levels and deadlines (in slots).
+fn trial_keys<'a>(n: u32, level: &'a [u32; 64], deadline: &'a [u32; 64]) -> [u32; 64]
+    requires { ⌜ (n ≤ 64) × Soon n (now deadline) ⌝ }
+    ensures { λ r. ⌜ r ≡ padded (map (keyIn (now (level .entry)) (now (deadline .entry))) (rowsTo n)) ⌝ }
 {
     let mut out: [u32; 64] = [0; 64];
     let mut k: u32 = 0;
-    while k < t.n {
+    while k < n {
         let i = k as usize;
-        out[i] = trial_key(t.level[i], t.deadline[i]);
+        out[i] = trial_key(level[i], deadline[i]);
+        k += 1;
+    }
+    out
+}
+
+// The entries of the trial sequence, in a word, whose rows are of this level.
+fn entries_at<'a>(sequence: &'a [u8; 64], level: &'a [u32; 64], n: u32, wanted: u32) -> u64
+    requires { ⌜ (n ≤ 64) × Rows (now sequence) n ⌝ }
+    ensures { λ r. ⌜ r ≡ marks (λ i. eqb (at (now (level .entry)) i) wanted) (take n (now (sequence .entry))) ⌝ }
+{
+    let mut word: u64 = 0;
+    let mut k: u32 = 0;
+    while k < n {
+        let row = sequence[k as usize];
+        if sweep::entry(level, row) == wanted {
+            word = sweep::with(word, (k + 1) as u8);
+        }
+        k += 1;
+    }
+    word
+}
+
+// The entry of each row of the sequence, from 0, and 0 for all other rows.
+fn entries(sequence: &[u8; 64], n: u32) -> [u8; 64]
+    requires { ⌜ (n ≤ 64) × Rows (now sequence) n ⌝ }
+    ensures { λ r. ⌜ r ≡ entriesTo (now (sequence .entry)) n ⌝ }
+{
+    let mut out: [u8; 64] = [0; 64];
+    let mut k: u32 = 0;
+    while k < n {
+        let row = sequence[k as usize];
+        out[(row - 1) as usize] = k as u8;
         k += 1;
     }
     out
@@ -54,94 +96,243 @@ fn prepare(t: Table) -> Trials
     requires { ⌜ Accepted t ⌝ }
     ensures { λ w. ⌜ w ≡ trialsOf t ⌝ }
 {
-    let keys = trial_keys(t);
+    let keys = trial_keys(t.n, &t.level, &t.deadline);
     let queue = sweep::sorted(&t.release, t.n);
     let sequence = sweep::sorted(&keys, t.n);
-    let normal = sweep::caps(t, t.normal, t.normal);
-    let degraded = sweep::caps(t, t.normal, t.degraded);
+    let entry = entries(&sequence, t.n);
+    let low = entries_at(&sequence, &t.level, t.n, 0);
+    let high = entries_at(&sequence, &t.level, t.n, 1);
+    let normal = sweep::needs(t.n, t.loading, &t.work, t.normal);
+    let degraded = sweep::degraded_caps(t.n, t.loading, &t.work, &t.level, &normal, t.degraded);
     Trials {
         queue: queue,
         sequence: sequence,
+        entry: entry,
+        low: low,
+        high: high,
         normal: normal,
         degraded: degraded,
     }
 }
 
-// The trial of a row (rule 4.4): it finishes in time with all other rows left above it, at the normal speed if it is LO, at the
-// degraded speed if it is HI. Releases, deadlines and caps in slots.
-fn meets_deadline<'a>(
+// The trials (rule 4.4) of the rows left from place `first` of the queue to before place `end`, where all of them finish at one clock: the entries of
+// those that finish by their deadlines, as a word. Clock and deadlines are in slots.
+fn in_time<'a>(
+    queue: &'a [u8; 64],
+    deadline: &'a [u32; 64],
+    entry: &'a [u8; 64],
+    left: u64,
+    first: u32,
+    end: u32,
+    clock: u32,
+) -> u64
+    requires { ⌜ (end ≤ 64) × Rows (now queue) end × Entries (now entry) ⌝ }
+    ensures { λ r. ⌜ r ≡ timely (λ j. isLeft left j) (λ j. at (now (deadline .entry)) j) (λ j. at (now (entry .entry)) j) clock (now (queue .entry)) first end ⌝ }
+{
+    let mut word: u64 = 0;
+    let mut k = first;
+    while k < end {
+        let row = queue[k as usize];
+        if sweep::has(left, row) {
+            if clock <= sweep::entry(deadline, row) {
+                word = word | (1 << entry[(row - 1) as usize]);
+            }
+        }
+        k += 1;
+    }
+    word
+}
+
+// Sweeps the rows left of one busy period, that which began at place `begin` of the queue: without a row it may have fallen into several. Notes of
+// each row the place where its busy period begins, and gives the entries of those that finish by their deadlines, as a word. Rows of a busy
+// period finish together, when its busy time ends. Releases, deadlines and caps in slots.
+fn renew<'a>(
     queue: &'a [u8; 64],
     n: u32,
     release: &'a [u32; 64],
     deadline: &'a [u32; 64],
-    level: &'a [u32; 64],
-    normal: &'a [u32; 64],
-    degraded: &'a [u32; 64],
+    cap: &'a [u32; 64],
+    entry: &'a [u8; 64],
     left: u64,
-    row: u8,
-) -> bool
-    requires { ⌜ (1 ≤ row) × (row ≤ 64) × Columns (now queue) n (now release) (now normal) × Columns (now queue) n (now release) (now degraded) ⌝ }
-    ensures { λ b. ⌜ b ≡ trialPasses (now (queue .entry)) n (now (release .entry)) (now (deadline .entry)) (now (level .entry))
-        (now (normal .entry)) (now (degraded .entry)) left row ⌝ }
+    begin: u8,
+    period: &mut [u8; 64],
+) -> u64
+    requires { ⌜ Speed (now queue) n (now release) (now cap) (now entry) × Grouped (now queue) n (now release) (now cap) left (now period) × (begin < n) ⌝ }
+    ensures { λ r. ⌜ Renewed (now (queue .entry)) n (now (release .entry)) (now (deadline .entry)) (now (cap .entry)) (now (entry .entry)) left begin
+        (now (period .entry)) (now (period .exit)) r ⌝ }
 {
-    let from = sweep::entry(release, row);
-    let due = sweep::entry(deadline, row);
-    if sweep::entry(level, row) == 0 {
-        sweep::finish(queue, n, release, normal, left, from) <= due
-    } else {
-        sweep::finish(queue, n, release, degraded, left, from) <= due
-    }
-}
-
-// The first row left of the trial sequence that may take the lowest place, 0 where none may (rules 4.2, 4.5).
-fn taker(t: Table, w: Trials, left: u64) -> u8
-    requires { ⌜ Trial t w left ⌝ }
-    ensures { λ r. ⌜ r ≡ taker t (leftOf t left) ⌝ }
-{
-    let mut tried: u32 = 0;
-    while tried < t.n {
-        let row = w.sequence[tried as usize];
+    let mut passing: u64 = 0;
+    let mut busy: u32 = 0;
+    let mut first = begin as u32;
+    let mut k = begin as u32;
+    while k < n {
+        let row = queue[k as usize];
         if sweep::has(left, row) {
-            if meets_deadline(
-                &w.queue,
-                t.n,
-                &t.release,
-                &t.deadline,
-                &t.level,
-                &w.normal,
-                &w.degraded,
-                left,
-                row,
-            ) {
-                return row;
+            let i = (row - 1) as usize;
+            if period[i] != begin {
+                return passing | in_time(queue, deadline, entry, left, first, k, busy);
             }
+            let r = release[i];
+            if busy <= r {
+                passing = passing | in_time(queue, deadline, entry, left, first, k, busy);
+                first = k;
+            }
+            busy = sweep::busy_after(busy, r, cap[i]);
+            period[i] = first as u8;
         }
-        tried += 1;
+        k += 1;
     }
-    0
+    passing | in_time(queue, deadline, entry, left, first, k, busy)
 }
 
-// The choice for an accepted table (rules 4.1 to 4.6). The place being filled is how many rows are left (rule 4.9).
+// What a search finds and leaves known at one speed: the entry, from 1, of the first row that passes, 0 where none does; the busy periods that have
+// changed since they were swept, by the places where they begin; and the entries known to pass, both as words.
+struct Search {
+    found: u8,
+    changed: u64,
+    passing: u64,
+}
+
+// The first of the open entries whose row passes at one speed (rules 4.2, 4.3). A row that passed still does with fewer rows above it; so
+// busy periods that have changed are swept anew only where the first open entry is not known to pass.
+fn first_in_time<'a>(
+    queue: &'a [u8; 64],
+    n: u32,
+    release: &'a [u32; 64],
+    deadline: &'a [u32; 64],
+    cap: &'a [u32; 64],
+    entry: &'a [u8; 64],
+    left: u64,
+    word: u64,
+    changed: u64,
+    passing: u64,
+    period: &mut [u8; 64],
+) -> Search
+    requires { ⌜ Speed (now queue) n (now release) (now cap) (now entry)
+        × KnownAt (now queue) n (now release) (now deadline) (now cap) (now entry) left (now period) changed passing
+        × Open (now queue) (now entry) n left word ⌝ }
+    ensures { λ s. ⌜ FirstIn (inTime (now (queue .entry)) n (now (release .entry)) (now (deadline .entry)) (now (cap .entry)) left)
+        (now (queue .entry)) (now (entry .entry)) n left word (s .found)
+        × KnownAt (now (queue .entry)) n (now (release .entry)) (now (deadline .entry)) (now (cap .entry)) (now (entry .entry)) left (now (period .exit))
+        (s .changed) (s .passing) ⌝ }
+{
+    let mut renewing = changed;
+    let mut known = passing;
+    if word == 0 {
+        return Search {
+            found: 0,
+            changed: changed,
+            passing: passing,
+        };
+    }
+    let next = sweep::lowest(word);
+    if sweep::has(passing, next) {
+        return Search {
+            found: next,
+            changed: changed,
+            passing: passing,
+        };
+    }
+    while renewing != 0 {
+        let begin = sweep::lowest(renewing);
+        renewing = sweep::without(renewing, begin);
+        known = known
+            | renew(
+                queue,
+                n,
+                release,
+                deadline,
+                cap,
+                entry,
+                left,
+                begin - 1,
+                period,
+            );
+    }
+    let passed = word & known;
+    if passed == 0 {
+        return Search {
+            found: 0,
+            changed: renewing,
+            passing: known,
+        };
+    }
+    let found = sweep::lowest(passed);
+    Search {
+        found: found,
+        changed: renewing,
+        passing: known,
+    }
+}
+
+// The choice for an accepted table (rules 4.1 to 4.6). The place being filled is how many rows are left (rule 4.9). A row left is waiting at its
+// entry of the trial sequence. A placed row changes the busy period that it stood in, at either speed, and no other.
 fn choose(t: Table) -> Planning
     requires { ⌜ Accepted t ⌝ }
     ensures { λ r. ⌜ r ≡ planFrom (choice t) ⌝ }
 {
+    let n = t.n;
     let w = prepare(t);
     let mut order: [u8; 64] = [0; 64];
-    let mut left = sweep::first_rows(t.n);
+    let mut left = sweep::first_rows(n);
+    let mut waiting = left;
     let mut place = sweep::how_many(left);
+    let mut period: [u8; 64] = [0; 64];
+    let mut changed: u64 = 1;
+    let mut passing: u64 = 0;
+    let mut slow_period: [u8; 64] = [0; 64];
+    let mut slow_changed: u64 = 1;
+    let mut slow_passing: u64 = 0;
     while place > 0 {
-        let row = taker(t, w, left);
-        if row == 0 {
+        let low = first_in_time(
+            &w.queue,
+            n,
+            &t.release,
+            &t.deadline,
+            &w.normal,
+            &w.entry,
+            left,
+            waiting & w.low,
+            changed,
+            passing,
+            &mut period,
+        );
+        changed = low.changed;
+        passing = low.passing;
+        let mut entry = low.found;
+        if entry == 0 {
+            let high = first_in_time(
+                &w.queue,
+                n,
+                &t.release,
+                &t.deadline,
+                &w.degraded,
+                &w.entry,
+                left,
+                waiting & w.high,
+                slow_changed,
+                slow_passing,
+                &mut slow_period,
+            );
+            slow_changed = high.changed;
+            slow_passing = high.passing;
+            entry = high.found;
+        }
+        if entry == 0 {
             let empty: [u8; 64] = [0; 64];
             return Planning {
                 answer: Planned::NoOrder(left),
                 order: empty,
             };
         }
+        let row = w.sequence[(entry - 1) as usize];
+        let i = (row - 1) as usize;
         order[(place - 1) as usize] = row;
         left = sweep::without(left, row);
+        waiting = sweep::without(waiting, entry);
         place = sweep::how_many(left);
+        changed = changed | (1 << period[i]);
+        slow_changed = slow_changed | (1 << slow_period[i]);
     }
     Planning {
         answer: Planned::Ordered,

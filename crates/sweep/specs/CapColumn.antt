@@ -1,28 +1,28 @@
--- The caps of a table's rows as a column.
+-- The needs and caps of a table's rows as columns.
 use Prim.Native.Nat.{ℕ, suc, _-_, _≤_, _<_}
-use mathlib.Core.Bool.{cond}
-use mathlib.Core.Path.{_≡_, refl}
+use mathlib.Core.Bool.{Bool, true, false, cond}
+use mathlib.Core.Path.{_≡_, refl, ap, _∙_}
 use mathlib.Core.List.{List, map}
 use native.Mathlib.Omega.{arith}
 use lib.Dec.{eqb}
-use lib.ListN.{getD, set}
+use lib.ListN.{getD}
 use Rattle.rules.specs.declared.Table.{Table}
-use Rattle.rules.specs.Lists.{rowsTo}
 use Rattle.rules.specs.Need.{need}
-use Rattle.rules.specs.Rows.{at, workOf}
+use Rattle.rules.specs.Rows.{at, rowsOf, workOf, needOf, isLow}
 use Rattle.rules.specs.Tables.{Accepted}
 use Rattle.rules.specs.Choice.{padded}
+use Rattle.theory.specs.Agree.{map-agree}
 use Rattle.theory.specs.Caps.{cap}
-use Rattle.theory.specs.Facts.{facts}
-use Rattle.sweep.specs.Padded.{column-more}
+use Rattle.theory.specs.Facts.{facts, rows-in}
+use Rattle.sweep.specs.Padded.{map-same, padded-at}
 
--- the limits within which the code's numbers hold every cap: rows, slots of loading, and work units
-pub record Limited (t : Table) : Type 0 where
-  pub few : t .n ≤ 64
-  pub loads : t .loading ≤ 16
-  pub light : (k : ℕ) → k < t .n → getD (t .work) k 0 ≤ 1000000
+-- the limits within which the code's numbers hold every need: rows, slots of loading, and work units
+pub record Limited (n loading : ℕ) (work : List ℕ) : Type 0 where
+  pub few : n ≤ 64
+  pub loads : loading ≤ 16
+  pub light : (k : ℕ) → k < n → getD work k 0 ≤ 1000000
 
-pub limited : (t : Table) → Accepted t → Limited t
+pub limited : (t : Table) → Accepted t → Limited (t .n) (t .loading) (t .work)
 limited t h =
     let f = facts t h in
     record {
@@ -33,24 +33,29 @@ limited t h =
           rw e at l;
     }
 
--- the cap of a row of this level and work, in slots, with k slots of loading; speeds in work units per slot
-abbrev pub capOf : ℕ → ℕ → ℕ → ℕ → ℕ → ℕ
-capOf k level work low high = cond (eqb level 0) (need k work low) (need k work high)
+-- the cap, in slots, of a row of this level with this need at N, at supplies of at least s work units per slot
+abbrev pub degradedCap : ℕ → ℕ → ℕ → ℕ → ℕ → ℕ
+degradedCap level normalNeed loading work s = cond (eqb level 0) normalNeed (need loading work s)
 
--- row i's need, in slots: at low if it is LO, at high if it is HI
-unfoldable pub needAt : Table → ℕ → ℕ → ℕ → ℕ
-needAt t low high i = capOf (t .loading) (at (t .level) i) (workOf t i) low high
+-- the rows' needs at N as a column, in slots
+abbrev pub normalNeeds : Table → List ℕ
+normalNeeds t = padded (map (needOf t) (rowsOf t))
 
--- with LO rows at N these are the caps at supplies of at least s
-pub caps-normal : (t : Table) (s k : ℕ) → padded (map (needAt t (t .normal) s) (rowsTo k)) ≡ padded (map (cap t s) (rowsTo k))
-unfolding cap needAt
-caps-normal t s k = refl
+-- at supplies of at least N they are the rows' caps, for LO rows as for HI rows
+pub caps-normal : (t : Table) → normalNeeds t ≡ padded (map (cap t (t .normal)) (rowsOf t))
+unfolding cap
+caps-normal t = ap padded (map-agree (needOf t) (cap t (t .normal)) (λ i. either (isLow t i) (needOf t i)) (rowsOf t))
+  where
+    either : (b : Bool) (x : ℕ) → x ≡ cond b x x
+    either true x = refl
+    either false x = refl
 
-need-entry : (t : Table) (low high k : ℕ) → capOf (t .loading) (getD (t .level) k 0) (getD (t .work) k 0) low high ≡ needAt t low high (suc k)
-unfolding needAt
-need-entry t low high k = let e : suc k - 1 ≡ k = omega arith in rw e
-
--- one more row: the one at index k
-pub caps-more : (t : Table) (low high k v : ℕ) (out : List ℕ) → k < 64 → out ≡ padded (map (needAt t low high) (rowsTo k))
-    → v ≡ capOf (t .loading) (getD (t .level) k 0) (getD (t .work) k 0) low high → set out k v ≡ padded (map (needAt t low high) (rowsTo (suc k)))
-caps-more t low high k v out h e q = rw (e, q, need-entry t low high k) (column-more (needAt t low high) k h)
+-- what `degraded_caps` makes of the column of needs at N are the caps at supplies of at least G
+pub caps-degraded : (t : Table) → Accepted t → (column caps : List ℕ) → column ≡ normalNeeds t
+    → caps ≡ padded (map (λ i. degradedCap (at (t .level) i) (at column i) (t .loading) (workOf t i) (t .degraded)) (rowsOf t))
+    → caps ≡ padded (map (cap t (t .degraded)) (rowsOf t))
+unfolding cap
+caps-degraded t h column caps e made =
+    made ∙ ap padded
+    (map-same (λ i. degradedCap (at (t .level) i) (at column i) (t .loading) (workOf t i) (t .degraded)) (cap t (t .degraded)) (rowsOf t)
+    (λ i k. let r = rows-in t i k in rw (e, padded-at (needOf t) (t .n) i (r .from) (r .upTo) (facts t h .few))))

@@ -1,4 +1,4 @@
--- What a trial finds in an accepted table, with the columns that `sorted` and `caps` make of it.
+-- What a trial finds in an accepted table, with the columns that `sorted`, `needs` and `degraded_caps` make of it.
 use Prim.Native.Nat.{ℕ, zero, suc, _+_, _-_, _≤_, max}
 use mathlib.Core.Bool.{Bool, true, _&&_}
 use mathlib.Core.Path.{_≡_, refl, sym, ap, ap₂, subst, _∙_}
@@ -93,7 +93,7 @@ module _ (t : Table) (accepted : Accepted t) where
       releases in
       omega (arith, rw e at z))
 
-  -- what `finish` requires, with what `sorted` makes of the releases and `caps` of the table at s work units per slot
+  -- what `finish` requires, with the queue that `sorted` makes of the releases and the caps, in slots, at s work units per slot
   pub columns : (s : ℕ) (queue caps : List ℕ) → 1 ≤ s → queue ≡ padded (byRelease t) → caps ≡ padded (map (cap t s) (rowsOf t))
       → Columns queue (t .n) (t .release) caps
   columns s queue caps s1 p q =

@@ -157,7 +157,7 @@ pub keep-same : (f g : ℕ → Bool) (l : List ℕ) → ((x : ℕ) → In x l �
 keep-same f g [] h = refl
 keep-same f g (x ∷ l) h = rw (h x (in-head x l), keep-same f g l (λ y i. h y (in-tail y x l i)))
 
-count-tail : (x y : ℕ) (l : List ℕ) → count x l ≤ count x (y ∷ l)
+pub count-tail : (x y : ℕ) (l : List ℕ) → count x l ≤ count x (y ∷ l)
 count-tail x y l = by-bool (eqb x y) (λ e. rw e (omega arith)) (λ e. rw e (omega arith))
 
 not-zero : (x : ℕ) (l : List ℕ) → count 0 (x ∷ l) ≡ 0 → 1 ≤ x

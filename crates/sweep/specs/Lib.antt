@@ -1,7 +1,10 @@
 pub mod Masks
 pub mod Holds
+pub mod Lowest
 pub mod Padded
 pub mod Sorts
+pub mod Rises
+pub mod Ranks
 pub mod Trials
 pub mod CapColumn
 pub mod Finds

@@ -9,7 +9,7 @@ use lib.Arith.{lt-one}
 use lib.Pow.{shr-shr, shl-exact, pow-pos, pow-lt}
 use lib.Dec.{eqb, lit<}
 use lib.Bits.{bitAnd, bitOr, and-step, and-le-l, and-mask, and-high, or-disjoint}
-use lib.Count.{ones, ones-step, ones-ones}
+use lib.Count.{ones, ones-step}
 use borrow.Author.Tests.{eq-eqb, ne-eqb, eqb-true, eqb-false}
 
 -- bit i of m: 0 or 1
@@ -93,9 +93,6 @@ cleared-ones (suc i) m h =
 half-more : (i m : ℕ) → (m + 2 ^ suc i) / 2 ≡ m / 2 + 2 ^ i
 half-more i m = omega (arith, pow-suc 2 i)
 
-odd-more : (i m : ℕ) → (m + 2 ^ suc i) % 2 ≡ m % 2
-odd-more i m = omega (arith, pow-suc 2 i)
-
 -- setting a clear bit: the bit is 1, the others are as they were, and the count grows by one
 pub set-same : (i m : ℕ) → bit m i ≡ 0 → bit (m + 2 ^ i) i ≡ 1
 set-same zero m h = let e = bit-zero m in let f = bit-zero (m + 1) in omega arith
@@ -131,9 +128,6 @@ above (suc n) (suc i) m l h = bit-suc m i ∙ above n i (m / 2) (omega (arith, p
 
 pub full-above : (n i : ℕ) → n ≤ i → bit (2 ^ n - 1) i ≡ 0
 full-above n i h = above n i (2 ^ n - 1) (omega (arith, pow-pos n)) h
-
-pub full-ones : (n : ℕ) → ones (2 ^ n - 1) ≡ n
-full-ones n = ones-ones n
 
 -- what the machine computes, as powers
 

@@ -5,11 +5,13 @@ use mathlib.Core.List.{List, [], _∷_, _++_, map, append-assoc}
 use native.Mathlib.Numerals.{add-one}
 use native.Mathlib.Omega.{arith}
 use lib.ListN.{length, getD, take, drop, set, replicate, length-append, length-replicate, List·getD-append, List·getD-eq-default}
-use lib.Seq.{take-append-add, take-append-seam, drop-append-seam, set-append-seam, getD-at, getD-append-add, drop-cons, length-take-le, getD-take}
+use lib.Seq.{take-append-add, take-append-seam, set-append-seam, getD-at, getD-append-add, drop-cons, length-take-le, getD-take}
 use Rattle.rules.specs.Lists.{rowsTo}
 use Rattle.rules.specs.Rows.{at}
 use Rattle.rules.specs.Choice.{padded}
 use Rattle.theory.specs.Tests.{by-ltb}
+use Rattle.theory.specs.Places.{length-rows}
+use Rattle.theory.specs.Counts.{In, in-head, in-tail}
 
 -- n zeros
 abbrev pub zeros : ℕ → List ℕ
@@ -45,7 +47,7 @@ take-replicate zero m x h = refl
 take-replicate (suc n) zero x h = absurd (omega arith)
 take-replicate (suc n) (suc m) x h = ap (λ (r : List ℕ). x ∷ r) (take-replicate n m x (omega arith))
 
-pub zeros-cons : (n : ℕ) → 1 ≤ n → zeros n ≡ 0 ∷ zeros (n - 1)
+zeros-cons : (n : ℕ) → 1 ≤ n → zeros n ≡ 0 ∷ zeros (n - 1)
 zeros-cons zero h = absurd (omega arith)
 zeros-cons (suc n) h = let e : suc n - 1 ≡ n = omega arith in rw e
 
@@ -61,13 +63,10 @@ module _ (l : List ℕ) (h : length l ≤ 64) where
   pub padded-take : take (length l) (padded l) ≡ l
   padded-take = rw padded-zeros (take-append-seam l (zeros (64 - length l)))
 
-  pub padded-drop : drop (length l) (padded l) ≡ zeros (64 - length l)
-  padded-drop = rw padded-zeros (drop-append-seam l (zeros (64 - length l)))
-
   pub padded-entry : (j : ℕ) → j < length l → getD (padded l) j 0 ≡ getD l j 0
   padded-entry j q = rw padded-zeros (List·getD-append l (zeros (64 - length l)) 0 j q)
 
-zeros-entry : (n j : ℕ) → getD (zeros n) j 0 ≡ 0
+pub zeros-entry : (n j : ℕ) → getD (zeros n) j 0 ≡ 0
 zeros-entry zero j = refl
 zeros-entry (suc n) zero = refl
 zeros-entry (suc n) (suc j) = zeros-entry n j
@@ -93,12 +92,20 @@ padded-more l v h =
       e,
     )
 
+-- figures that agree on the rows of a list
+pub map-same : (f g : ℕ → ℕ) (l : List ℕ) → ((x : ℕ) → In x l → f x ≡ g x) → map f l ≡ map g l
+map-same f g [] h = refl
+map-same f g (x ∷ l) h = ap₂ (λ (y : ℕ) (m : List ℕ). y ∷ m) (h x (in-head x l)) (map-same f g l (λ y i. h y (in-tail y x l i)))
+
+pub map-append : (f : ℕ → ℕ) (a b : List ℕ) → map f (a ++ b) ≡ map f a ++ map f b
+map-append f [] b = refl
+map-append f (x ∷ a) b = rw (map-append f a b)
+
 -- a figure of each of the first n rows, as a column
 
 module _ (f : ℕ → ℕ) where
   map-last : (l : List ℕ) (x : ℕ) → map f (l ++ (x ∷ [])) ≡ map f l ++ (f x ∷ [])
-  map-last [] x = refl
-  map-last (y ∷ l) x = ap (λ (r : List ℕ). f y ∷ r) (map-last l x)
+  map-last l x = map-append f l (x ∷ [])
 
   pub rows-length : (n : ℕ) → length (map f (rowsTo n)) ≡ n
   rows-length zero = refl
@@ -133,3 +140,13 @@ module _ (f : ℕ → ℕ) where
       let e = rows-length k in
       let p = padded-more (map f (rowsTo k)) (f (suc k)) (omega arith) in
       rw (map-last (rowsTo k) (suc k)) (ap (λ (j : ℕ). set (padded (map f (rowsTo k))) j (f (suc k))) (sym e) ∙ p)
+
+  -- the same, as a loop over the rows takes it
+  pub column-next : (k v : ℕ) (out : List ℕ) → k < 64 → out ≡ padded (map f (rowsTo k)) → v ≡ f (k + 1) → set out k v ≡ padded (map f (rowsTo (k + 1)))
+  column-next k v out h e q = rw (e, q, add-one k) (column-more k h)
+
+-- one row more, in the rows' own order
+pub rows-next : (k : ℕ) (out : List ℕ) → k < 64 → out ≡ padded (rowsTo k) → set out k (k + 1) ≡ padded (rowsTo (k + 1))
+rows-next k out h e =
+    let l = length-rows k in
+    rw (e, add-one k) (ap (λ (j : ℕ). set (padded (rowsTo k)) j (suc k)) (sym l) ∙ padded-more (rowsTo k) (suc k) (omega arith))

@@ -6,12 +6,11 @@ use mathlib.Core.List.{List, [], _∷_, map}
 use native.Mathlib.Omega.{arith}
 use borrow.Author.Tests.{leb-true}
 use Rattle.rules.specs.declared.Table.{Table}
-use Rattle.rules.specs.declared.Check.the-variants.{Passed}
 use Rattle.rules.specs.declared.Planned.the-variants.{Ordered}
 use Rattle.rules.specs.declared.Planning.{Planning}
 use Rattle.rules.specs.Rows.{at, rowsOf, deadlineOf}
 use Rattle.rules.specs.Tables.{Accepted}
-use Rattle.rules.specs.Orders.{isOrder, checkOrder, checkBoth}
+use Rattle.rules.specs.Orders.{isOrder}
 use Rattle.rules.specs.Correct.{Correct}
 use Rattle.rules.specs.Worst.{worstFinish, meets}
 use Rattle.rules.specs.Choice.{padded}
@@ -34,11 +33,6 @@ pub record Right (t : Table) (o : List ℕ) : Type 0 where
 pub record Timed (t : Table) (o finishes : List ℕ) : Type 0 where
   pub right : Right t o
   pub worst : finishes ≡ padded (map (worstFinish t o) (rowsOf t))
-
--- the checks of table and order pass
-pub both-pass : (t : Table) (o : List ℕ) → Right t o → checkBoth t o ≡ Passed
-unfolding checkBoth checkOrder
-both-pass t o r = rw (r .accepted, r .order)
 
 -- at most 64 rows
 pub few : (t : Table) (o : List ℕ) → Right t o → t .n ≤ 64

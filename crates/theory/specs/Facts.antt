@@ -152,6 +152,10 @@ facts t h =
     s = leb (t .degraded) (t .normal)
 
 -- a table and an order that pass the checks of the table and 6
+pub both-pass : (t : Table) (o : List ℕ) → Accepted t → isOrder t o ≡ true → checkBoth t o ≡ Passed
+unfolding checkBoth checkOrder
+both-pass t o a e = rw (a, e)
+
 pub both-accepted : (t : Table) (o : List ℕ) → checkBoth t o ≡ Passed → Accepted t
 unfolding checkBoth
 both-accepted t o e = go (checkTable t) e

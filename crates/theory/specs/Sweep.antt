@@ -57,7 +57,7 @@ module _ (rel cap : ℕ → ℕ) where
   backlog-upto l s zero = omega (arith, upto-late 0 0 0 l s (omega arith))
   backlog-upto l s (suc u) = omega (arith, backlog-upto l s u, upto-step 0 u 0 l s)
 
-  sweep-ge : (a b : ℕ) (l : List ℕ) → b ≤ sweep a b l
+  pub sweep-ge : (a b : ℕ) (l : List ℕ) → b ≤ sweep a b l
   sweep-ge a b [] = omega arith
   sweep-ge a b (x ∷ xs) =
       by-bool (ltb a (rel x) && leb b (rel x))

@@ -3,7 +3,7 @@
 use Prim.Native.Nat.{ℕ, _+_, _-_, _≤_}
 use mathlib.Core.Bool.{true}
 use mathlib.Core.List.{List}
-use mathlib.Core.Logic.{_⊎_, inl, inr}
+use mathlib.Core.Logic.{⊎-elim}
 use mathlib.Core.Path.{_≡_, refl, sym, ap, _∙_}
 use native.Mathlib.Omega.{arith}
 use lib.ListN.{length, getD, drop}
@@ -86,10 +86,6 @@ due-requires-2 : tie.Need-due-requires-2 Inv-loop μ-loop
 unfolding closedRun
 due-requires-2 c κs = rw (c .close-late .ensures) (few (c .before .before))
 
-either : {A B P : Type 0} → A ⊎ B → (A → P) → (B → P) → P
-either (inl x) f g = f x
-either (inr y) f g = g y
-
 -- whether the clock was looked at or not, the record is the next one
 joined : (c : tie.Joined2 Inv-loop μ-loop) → Looked (worked-turn (c .before) .before .loop .run) (supply-of (worked-turn (c .before))) (c .if2 .run) (c .if2 .due)
 joined c =
@@ -98,9 +94,10 @@ joined c =
     let r = turn .before .loop .run in
     let v = supply-of turn in
     let w = b .before .work .ensures in
-    either (c .if2 .came)
+    ⊎-elim
     (λ x. look-taken r v _ (c .if2 .run) (c .if2 .due) w (x .3 ∙ x .1 .ensures) (x .4 ∙ x .2 .ensures ∙ ap dueOf (sym (x .3))))
     (λ x. rw (x .1, x .2) (look-left r v _ _ w (turn .before .loop .inv .6) (x .0 .left)))
+    (c .if2 .came)
 
 add-slots : tie.Need-add-slots Inv-loop μ-loop
 add-slots c =

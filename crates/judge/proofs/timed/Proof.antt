@@ -4,10 +4,9 @@ use native.Mathlib.Omega.{arith}
 use borrow.Author.Needs.{needs}
 use mathlib.Core.Path.{_≡_, refl, sym, subst, _∙_}
 use lib.ListN.{length, take, getD, length-set}
-use Rattle.sweep.specs.CapColumn.{Limited, limited, caps-normal}
+use Rattle.sweep.specs.CapColumn.{Limited, limited, caps-normal, caps-degraded}
 use Rattle.sweep.specs.Holds.{Holds, holds-empty}
 use Rattle.judge.specs.Checked.{checked}
-use Rattle.judge.specs.Needs.{needs-column}
 use Rattle.judge.specs.Stored.{Stored, stored-none, stored-more, stored-all, place-range, place-free, place-down, place-finish}
 use Rattle.judge.proofs.timed.Statement.{statement}
 use Rattle.judge.proofs.timed.Tie as tie
@@ -18,41 +17,45 @@ Inv-loop t order n queue normal degraded out₀ down₀ k₀ out down k = (k ≤
 abbrev μ-loop : tie.MeasureT-loop
 μ-loop t order n queue normal degraded out₀ down₀ k₀ out down k = n - k
 
+-- the places of the code, each from a later one: the queue is about to be made, then the needs, then the caps at the degraded speed
+abbrev queue-next : tie.After-needs-arg Inv-loop μ-loop → tie.After-sorted-arg Inv-loop μ-loop
+queue-next c = c .before .before .before
+
+abbrev needs-made : tie.After-normal Inv-loop μ-loop → tie.After-needs Inv-loop μ-loop
+needs-made c = c .before .before .before .before
+
 -- the start, from the loop's head
 abbrev start : tie.At-loop Inv-loop μ-loop → tie.Start Inv-loop μ-loop
-start l = l .before .before .before .before .before .before
+start l = queue-next (needs-made (l .before .before) .before) .before .before
 
 -- the turn, from where a row's worst finish is about to be found
 abbrev turn-of : tie.After-degraded Inv-loop μ-loop → tie.In-loop Inv-loop μ-loop
 turn-of c = c .before .before .before .before
 
-limits : (c : tie.After-release2 Inv-loop μ-loop) → Limited (c .before .before .args .t)
+limits : (c : tie.After-sorted-arg Inv-loop μ-loop) → let t = c .before .before .args .t1 in Limited (t .n) (t .loading) (t .work)
 limits c =
     let s = c .before .before in
-    limited (s .args .t) (checked (s .args .t) (s .args .t2) (s .pre) .accepted)
-
-few : (c : tie.After-release2 Inv-loop μ-loop) → c .before .before .args .t .n ≤ 64
-few c = limits c .few
+    limited (s .args .t1) (checked (s .args .t1) (s .args .t2) (s .pre) .accepted)
 
 sorted-requires : tie.Need-sorted-requires Inv-loop μ-loop
-sorted-requires c κs = few c
+sorted-requires c κs = limits c .few
 
-caps-requires : tie.Need-caps-requires Inv-loop μ-loop
-caps-requires c κs = limits (c .before)
+needs-requires : tie.Need-needs-requires Inv-loop μ-loop
+needs-requires c κs = limits (queue-next c)
 
-caps-requires-2 : tie.Need-caps-requires-2 Inv-loop μ-loop
-caps-requires-2 c κs = limits (c .before .before)
+degraded-caps-requires : tie.Need-degraded-caps-requires Inv-loop μ-loop
+degraded-caps-requires c κs = limits (queue-next (needs-made c .before))
 
 loop-holds : tie.Need-loop-holds Inv-loop μ-loop
 loop-holds c =
-    let a = c .before .before .before .before .before .args in
-    (omega arith, refl, holds-empty, stored-none (a .t) (a .t2))
+    let a = queue-next (needs-made (c .before) .before) .before .before .args in
+    (omega arith, refl, holds-empty, stored-none (a .t1) (a .t2))
 
 cast-row : tie.Need-cast-row Inv-loop μ-loop
 cast-row c = search needs
 
 array-read-row : tie.Need-array-read-row Inv-loop μ-loop
-array-read-row c = omega (arith, few (c .before .before .before .before .before))
+array-read-row c = omega (arith, limits (queue-next (needs-made (c .before .before .before) .before)) .few)
 
 -- the row at the place
 abbrev row-at : tie.In-loop Inv-loop μ-loop → ℕ
@@ -63,7 +66,7 @@ range c =
     let s = start (c .before) in
     let o = s .args .t2 in
     let long : length o ≡ 64 = search needs in
-    place-range (s .args .t) o (checked (s .args .t) o (s .pre)) long (c .before .loop .k) (c .loop-test .taken)
+    place-range (s .args .t1) o (checked (s .args .t1) o (s .pre)) long (c .before .loop .k) (c .loop-test .taken)
 
 with-requires : tie.Need-with-requires Inv-loop μ-loop
 with-requires c κs =
@@ -72,18 +75,21 @@ with-requires c κs =
     let o = s .args .t2 in
     let long : length o ≡ 64 = search needs in
     let r = range c in
-    (r .0, r .1, place-free (s .args .t) o (checked (s .args .t) o (s .pre)) long (l .k) (c .loop-test .taken) (l .down) (l .inv .2))
+    (r .0, r .1, place-free (s .args .t1) o (checked (s .args .t1) o (s .pre)) long (l .k) (c .loop-test .taken) (l .down) (l .inv .2))
 
 swept-requires : tie.Need-swept-requires Inv-loop μ-loop
 swept-requires c κs =
     let i = turn-of c in
-    let p = i .before .before in
-    let s = start (i .before) in (
+    let made = i .before .before in
+    let needed = needs-made (made .before) in
+    let s = start (i .before) in
+    let t = s .args .t1 in
+    let ok = checked t (s .args .t2) (s .pre) .accepted in (
       record {
-        accepted = checked (s .args .t) (s .args .t2) (s .pre) .accepted;
-        queued = p .before .before .sorted .ensures;
-        atNormal = p .before .caps .ensures ∙ caps-normal (s .args .t) (s .args .t .normal) (s .args .t .n);
-        atDegraded = p .caps2 .ensures ∙ caps-normal (s .args .t) (s .args .t .degraded) (s .args .t .n);
+        accepted = ok;
+        queued = needed .before .before .before .sorted .ensures;
+        atNormal = needed .needs .ensures ∙ caps-normal t;
+        atDegraded = caps-degraded t ok (needed .needs .result) (made .degraded-caps .result) (needed .needs .ensures) (made .degraded-caps .ensures);
       },
       range i .0,
       range i .1,
@@ -115,7 +121,7 @@ loop-again c =
     let i = turn-of (c .before) in
     let s = start (i .before) in
     let l = i .before .loop in
-    let t = s .args .t in
+    let t = s .args .t1 in
     let o = s .args .t2 in
     let long : length o ≡ 64 = search needs in
     let k = i .loop-test .taken in
@@ -134,11 +140,11 @@ returns : tie.Need-returns Inv-loop μ-loop
 returns c =
     let l = c .before .loop in
     let s = start (c .before) in
-    let t = s .args .t in
+    let t = s .args .t1 in
     let o = s .args .t2 in
     let long : length o ≡ 64 = search needs in
     let e : l .k ≡ t .n = omega arith in
-    (c .before .before .before .caps .ensures ∙ needs-column t (t .n), stored-all t o (checked t o (s .pre)) long (l .out) (l .inv .1) (subst (λ (k : ℕ). Stored t o k (l .out)) e (l .inv .3)))
+    (needs-made (c .before .before .before) .needs .ensures, stored-all t o (checked t o (s .pre)) long (l .out) (l .inv .1) (subst (λ (k : ℕ). Stored t o k (l .out)) e (l .inv .3)))
 
 pub timed-spec : {M : Type 1} → statement M
 timed-spec =
@@ -147,8 +153,8 @@ timed-spec =
     Inv-loop
     μ-loop
     sorted-requires
-    caps-requires
-    caps-requires-2
+    needs-requires
+    degraded-caps-requires
     loop-holds
     cast-row
     array-read-row

@@ -1,25 +1,48 @@
--- The loop's invariant: the choice goes on from the rows left and the rows placed, and the place is how many rows are left.
-use Prim.Native.Nat.{_≤_, _-_}
+-- The loop's invariant: the choice goes on from the rows left and the rows placed, the place is how many rows are left, their entries wait, and
+-- what is known of the busy periods at either speed is so of the rows left.
+use Prim.Native.Nat.{ℕ, _≤_, _<_, _-_}
 use native.Mathlib.Omega.{arith}
 use borrow.Author.Needs.{needs}
-use mathlib.Core.Path.{_≡_, refl, sym, ap, _∙_}
+use mathlib.Core.Path.{_≡_, refl, sym, ap, subst}
+use mathlib.Core.Logic.{⊎-elim}
 use lib.Count.{ones}
+use lib.ListN.{getD}
+use Rattle.rules.specs.Rows.{at}
+use Rattle.rules.specs.Choice.{taker}
 use Rattle.theory.specs.Facts.{facts}
-use Rattle.sweep.specs.Masks.{bit, cleared-ones}
+use Rattle.sweep.specs.Masks.{bit, cleared-ones, one-shl}
 use Rattle.sweep.specs.Padded.{zeros}
+use Rattle.planner.specs.Trying.{leftOf, KnownAt}
+use Rattle.planner.specs.Taking.{Waiting, Taken, waiting-start}
+use Rattle.planner.specs.Turns.{KnownIn, known-same, normal-speed, degraded-speed, open-entries, normal-first, degraded-first, low-taken, high-taken, taken-range}
+use Rattle.planner.specs.Turns.{row-is, row-some, normal-within, degraded-within, waiting-next, normal-next, degraded-next}
 use Rattle.planner.specs.Placing.{Placing, placing-start, placing-done, placing-stuck, placing-turn, taker-range, taker-bit}
 use Rattle.planner.proofs.choose.Statement.{statement}
 use Rattle.planner.proofs.choose.Tie as tie
 
 abbrev Inv-loop : tie.InvT-loop
-Inv-loop t w order₀ left₀ place₀ order left place = (place ≤ 64) × Placing t order left place
+Inv-loop t n w order₀ left₀ waiting₀ place₀ period₀ changed₀ passing₀ slow-period₀ slow-changed₀ slow-passing₀ order left waiting place period changed passing
+    slow-period slow-changed slow-passing =
+    (place ≤ 64) × Placing t order left place × Waiting t left waiting
+    × KnownAt (w .queue) (t .n) (t .release) (t .deadline) (w .normal) (w .entry) left period changed passing
+    × KnownAt (w .queue) (t .n) (t .release) (t .deadline) (w .degraded) (w .entry) left slow-period slow-changed slow-passing
 
 abbrev μ-loop : tie.MeasureT-loop
-μ-loop t w order₀ left₀ place₀ order left place = ones left
+μ-loop t n w order₀ left₀ waiting₀ place₀ period₀ changed₀ passing₀ slow-period₀ slow-changed₀ slow-passing₀ order left waiting place period changed passing
+    slow-period slow-changed slow-passing = ones left
 
--- the start, from the loop's head
+-- the places of the code, each from a later one: the start, a turn, the trials at N, those at G
+abbrev prepared : tie.At-loop Inv-loop μ-loop → tie.After-prepare Inv-loop μ-loop
+prepared l = l .before .before .before
+
 abbrev start : tie.At-loop Inv-loop μ-loop → tie.Start Inv-loop μ-loop
-start l = l .before .before .before .before
+start l = prepared l .before
+
+abbrev turn-of : tie.After-period Inv-loop μ-loop → tie.In-loop Inv-loop μ-loop
+turn-of c = c .before .before .before .before .before .before .before .before
+
+abbrev failed : tie.After-slow-period Inv-loop μ-loop → tie.Then1 Inv-loop μ-loop
+failed c = c .before .before .before .before .before .before .before .before
 
 prepare-requires : tie.Need-prepare-requires Inv-loop μ-loop
 prepare-requires c κs = search needs
@@ -32,40 +55,153 @@ how-many-requires c κs = search needs
 
 loop-holds : tie.Need-loop-holds Inv-loop μ-loop
 loop-holds c =
-    let s = c .before .before .before in
-    let p = placing-start (s .args .t) (s .pre) (zeros 64) (c .before .first-rows .result) (c .how-many .result) refl (c .before .first-rows .ensures)
-    (c .how-many .ensures) in
-    (omega (arith, p .few, facts _ (s .pre) .few), p)
+    let w = c .before .before in
+    let s = w .before in
+    let t = s .args .t1 in
+    let first = c .before .first-rows in
+    let p = placing-start t (s .pre) (zeros 64) (first .result) (c .how-many .result) refl (first .ensures) (c .how-many .ensures) in (
+      omega (arith, p .few, facts _ (s .pre) .few),
+      p,
+      waiting-start t (s .pre) (first .result) (first .ensures),
+      normal-first t (s .pre) (w .prepare .result) (w .prepare .ensures) (first .result),
+      degraded-first t (s .pre) (w .prepare .result) (w .prepare .ensures) (first .result),
+    )
 
-taker-requires : tie.Need-taker-requires Inv-loop μ-loop
-taker-requires c κs =
-    let l = c .before in
-    record { accepted = start l .pre; prepared = l .before .before .before .prepare .ensures; holds = l .loop .inv .1 .holds }
+first-in-time-requires : tie.Need-first-in-time-requires Inv-loop μ-loop
+first-in-time-requires c κs =
+    let l = turn-of c .before in
+    let w = prepared l in
+    let s = start l in
+    let t = s .args .t1 in
+    let v = w .prepare .result in (
+      normal-speed t (s .pre) v (w .prepare .ensures),
+      l .loop .inv .3,
+      open-entries t (s .pre) v (w .prepare .ensures) (l .loop .left) (l .loop .waiting) (v .low)
+          (l .loop .inv .2),
+    )
+
+first-in-time-requires-2 : tie.Need-first-in-time-requires-2 Inv-loop μ-loop
+first-in-time-requires-2 c κs =
+    let l = turn-of (failed c .before .before) .before in
+    let w = prepared l in
+    let s = start l in
+    let t = s .args .t1 in
+    let v = w .prepare .result in (
+      degraded-speed t (s .pre) v (w .prepare .ensures),
+      l .loop .inv .4,
+      open-entries t (s .pre) v (w .prepare .ensures) (l .loop .left) (l .loop .waiting) (v .high)
+          (l .loop .inv .2),
+    )
+
+-- after both searches: the entry of the row that takes the place, and what is known at G
+module _ (c : tie.Joined1 Inv-loop μ-loop) where
+  abbrev turn : tie.In-loop Inv-loop μ-loop
+  turn = turn-of (c .before .before)
+
+  abbrev head : tie.At-loop Inv-loop μ-loop
+  head = turn .before
+
+  abbrev begun : tie.Start Inv-loop μ-loop
+  begun = start head
+
+  taken : Taken (begun .args .t1) (head .loop .left) (head .loop .waiting) (c .if1 .entry)
+  taken =
+      let w = prepared head .prepare in
+      let i = head .loop .inv in
+      ⊎-elim
+      (λ v. subst (Taken (begun .args .t1) (head .loop .left) (head .loop .waiting)) (sym (v .13))
+      (high-taken (begun .args .t1) (begun .pre) (w .result) (w .ensures) (head .loop .left) (head .loop .waiting) (i .1 .holds) (i .2)
+      (c .before .first-in-time .result .found) (v .9 .result .found) (c .before .first-in-time .ensures .0) (v .0 .taken) (v .9 .ensures .0)))
+      (λ v. subst (Taken (begun .args .t1) (head .loop .left) (head .loop .waiting)) (sym (v .4))
+      (low-taken (begun .args .t1) (begun .pre) (w .result) (w .ensures) (head .loop .left) (head .loop .waiting) (i .1 .holds) (i .2)
+      (c .before .first-in-time .result .found) (c .before .first-in-time .ensures .0) (v .0 .left)))
+      (c .if1 .came)
+
+  known : KnownIn (begun .args .t1) (begun .pre) (prepared head .prepare .result) (prepared head .prepare .ensures) (prepared head .prepare .result .degraded) (head .loop .left)
+      (c .if1 .slow-period) (c .if1 .slow-changed) (c .if1 .slow-passing)
+  known =
+      let t = begun .args .t1 in
+      let w = prepared head .prepare .result in
+      let j = c .if1 in
+      ⊎-elim
+      (λ v. known-same (w .queue) (t .n) (t .release) (t .deadline) (w .degraded) (w .entry) (head .loop .left) (j .slow-period) _ (j .slow-changed) _ (j .slow-passing) _
+      (v .10) (v .11) (v .12) (v .9 .ensures .1))
+      (λ v. known-same (w .queue) (t .n) (t .release) (t .deadline) (w .degraded) (w .entry) (head .loop .left) (j .slow-period) _ (j .slow-changed) _ (j .slow-passing) _
+      (v .1) (v .2) (v .3) (head .loop .inv .4))
+      (c .if1 .came)
 
 returns : tie.Need-returns Inv-loop μ-loop
 returns c =
-    let l = c .before .before .before in
-    let s = start l in
-    placing-stuck (s .args .t) (s .pre) (l .loop .order) (l .loop .left) (l .loop .place) (l .loop .inv .1) (c .before .before .loop-test .taken)
-    (sym (c .before .taker .ensures) ∙ c .if1 .taken)
+    let j = c .before in
+    let l = head j in
+    let s = begun j in
+    placing-stuck (s .args .t1) (s .pre) (l .loop .order) (l .loop .left) (l .loop .place) (l .loop .inv .1) (turn j .loop-test .taken)
+    (taken j .none (c .if2 .taken))
 
--- the row found at a turn is left
-module _ (c : tie.Else1 Inv-loop μ-loop) where
-  abbrev head : tie.At-loop Inv-loop μ-loop
-  head = c .before .before .before
+-- the row taken is left
+module _ (c : tie.Else2 Inv-loop μ-loop) where
+  abbrev entered : tie.At-loop Inv-loop μ-loop
+  entered = head (c .before)
 
-  abbrev entry : tie.Start Inv-loop μ-loop
-  entry = start head
+  abbrev first : tie.Start Inv-loop μ-loop
+  first = begun (c .before)
 
-  range : (1 ≤ c .before .taker .result) × (c .before .taker .result ≤ 64)
+  abbrev mine : ℕ
+  mine = getD (prepared entered .prepare .result .sequence) (c .before .if1 .entry - 1) 0
+
+  entry-range : (1 ≤ c .before .if1 .entry) × (c .before .if1 .entry ≤ first .args .t1 .n) × (bit (entered .loop .waiting) (c .before .if1 .entry - 1) ≡ 1)
+  entry-range =
+      let w = prepared entered .prepare in
+      taken-range (first .args .t1) (first .pre) (w .result) (w .ensures) (entered .loop .left) (entered .loop .waiting) (entered .loop .inv .1 .holds)
+      (entered .loop .inv .2) (c .before .if1 .entry) (taken (c .before)) (c .if2 .left)
+
+  is : mine ≡ taker (first .args .t1) (leftOf (first .args .t1) (entered .loop .left))
+  is =
+      let w = prepared entered .prepare in
+      row-is (first .args .t1) (first .pre) (w .result) (w .ensures) (entered .loop .left) (entered .loop .waiting) (entered .loop .inv .1 .holds)
+      (entered .loop .inv .2) (c .before .if1 .entry) (taken (c .before)) (c .if2 .left)
+
+  some : mine ≡ 0 → ⊥
+  some =
+      let w = prepared entered .prepare in
+      row-some (first .args .t1) (first .pre) (w .result) (w .ensures) (entered .loop .left) (entered .loop .waiting) (entered .loop .inv .1 .holds)
+      (entered .loop .inv .2) (c .before .if1 .entry) (taken (c .before)) (c .if2 .left)
+
+  range : (1 ≤ mine) × (mine ≤ 64)
   range =
-      taker-range (entry .args .t) (entry .pre) (head .loop .order) (head .loop .left) (head .loop .place) (head .loop .inv .1)
-      (c .before .before .loop-test .taken) (c .before .taker .result) (c .before .taker .ensures) (c .if1 .left)
+      taker-range (first .args .t1) (first .pre) (entered .loop .order) (entered .loop .left) (entered .loop .place) (entered .loop .inv .1)
+      (turn (c .before) .loop-test .taken) mine is some
 
-  held : bit (head .loop .left) (c .before .taker .result - 1) ≡ 1
+  held : bit (entered .loop .left) (mine - 1) ≡ 1
   held =
-      taker-bit (entry .args .t) (entry .pre) (head .loop .order) (head .loop .left) (head .loop .place) (head .loop .inv .1)
-      (c .before .before .loop-test .taken) (c .before .taker .result) (c .before .taker .ensures) (c .if1 .left)
+      taker-bit (first .args .t1) (first .pre) (entered .loop .order) (entered .loop .left) (entered .loop .place) (entered .loop .inv .1)
+      (turn (c .before) .loop-test .taken) mine is some
+
+  slow-within : at (c .before .if1 .slow-period) mine < 64
+  slow-within =
+      let w = prepared entered .prepare in
+      degraded-within (first .args .t1) (first .pre) (w .result) (w .ensures) (entered .loop .left) (entered .loop .waiting) (entered .loop .inv .1 .holds)
+      (entered .loop .inv .2) (c .before .if1 .entry) (taken (c .before)) (c .if2 .left) held
+      (c .before .if1 .slow-period) (c .before .if1 .slow-changed) (c .before .if1 .slow-passing) (known (c .before))
+
+-- the places after a row was taken, from a later one
+abbrev took : tie.After-how-many2 Inv-loop μ-loop → tie.Else2 Inv-loop μ-loop
+took c = c .before .before .before .before .before
+
+sub-row : tie.Need-sub-row Inv-loop μ-loop
+sub-row c = search needs
+
+cast-row : tie.Need-cast-row Inv-loop μ-loop
+cast-row c = search needs
+
+element-copy-out-row : tie.Need-element-copy-out-row Inv-loop μ-loop
+element-copy-out-row c = let r = entry-range (c .before) in omega (arith, r .0, r .1, facts _ (first (c .before) .pre) .few)
+
+sub-i : tie.Need-sub-i Inv-loop μ-loop
+sub-i c = range (c .before .before) .0
+
+cast-i : tie.Need-cast-i Inv-loop μ-loop
+cast-i c = omega (arith, range (c .before .before) .1)
 
 sub-order : tie.Need-sub-order Inv-loop μ-loop
 sub-order c = search needs
@@ -77,31 +213,87 @@ array-write-order : tie.Need-array-write-order Inv-loop μ-loop
 array-write-order c = search needs
 
 without-requires : tie.Need-without-requires Inv-loop μ-loop
-without-requires c κs = (range c .0, range c .1, held c)
+without-requires c κs = let e = c .before .before in (range e .0, range e .1, held e)
+
+without-requires-2 : tie.Need-without-requires-2 Inv-loop μ-loop
+without-requires-2 c κs =
+    let e = c .before .before .before in
+    let r = entry-range e in
+    (r .0, omega (arith, r .1, facts _ (first e .pre) .few), r .2)
 
 how-many-requires-2 : tie.Need-how-many-requires-2 Inv-loop μ-loop
 how-many-requires-2 c κs = search needs
 
+array-read-changed : tie.Need-array-read-changed Inv-loop μ-loop
+array-read-changed c = let r = range (took c) in omega (arith, r .0, r .1)
+
+cast-changed : tie.Need-cast-changed Inv-loop μ-loop
+cast-changed c =
+    let e = took c in
+    let s = first e in
+    let l = entered e in
+    let w = prepared l .prepare in
+    let h = normal-within (s .args .t1) (s .pre) (w .result) (w .ensures) (l .loop .left) (l .loop .waiting) (l .loop .inv .1 .holds)
+    (l .loop .inv .2) (e .before .if1 .entry) (taken (e .before)) (e .if2 .left) (held e) _
+    (e .before .before .first-in-time .result .changed) (e .before .before .first-in-time .result .passing) (e .before .before .first-in-time .ensures .1) in
+    omega (arith, h)
+
+shl-changed : tie.Need-shl-changed Inv-loop μ-loop
+shl-changed c =
+    let e = took c in
+    let s = first e in
+    let l = entered e in
+    let w = prepared l .prepare in
+    let h = normal-within (s .args .t1) (s .pre) (w .result) (w .ensures) (l .loop .left) (l .loop .waiting) (l .loop .inv .1 .holds)
+    (l .loop .inv .2) (e .before .if1 .entry) (taken (e .before)) (e .if2 .left) (held e) _
+    (e .before .before .first-in-time .result .changed) (e .before .before .first-in-time .result .passing) (e .before .before .first-in-time .ensures .1) in
+    h
+
+array-read-slow-changed : tie.Need-array-read-slow-changed Inv-loop μ-loop
+array-read-slow-changed c = let r = range (took c) in omega (arith, r .0, r .1)
+
+cast-slow-changed : tie.Need-cast-slow-changed Inv-loop μ-loop
+cast-slow-changed c = omega (arith, slow-within (took c))
+
+shl-slow-changed : tie.Need-shl-slow-changed Inv-loop μ-loop
+shl-slow-changed c = slow-within (took c)
+
 loop-less : tie.Need-loop-less Inv-loop μ-loop
 loop-less c =
-    let e = c .before .before in
-    omega (arith, cleared-ones (e .before .taker .result - 1) (head e .loop .left) (held e), ap ones (c .before .without .ensures))
+    let e = took (c .before) in
+    omega (arith, cleared-ones (mine e - 1) (entered e .loop .left) (held e), ap ones (c .before .before .before .without .ensures))
 
 loop-again : tie.Need-loop-again Inv-loop μ-loop
 loop-again c =
-    let e = c .before .before in
-    let l = head e in
-    let s = entry e in
-    let p = placing-turn (s .args .t) (s .pre) (l .loop .order) (l .loop .left) (l .loop .place) (l .loop .inv .1)
-    (e .before .before .loop-test .taken) (e .before .taker .result) (e .before .taker .ensures) (e .if1 .left)
-    (c .before .without .result) (c .how-many2 .result) (c .before .without .ensures) (c .how-many2 .ensures) in
-    (omega (arith, p .few, facts _ (s .pre) .few), p)
+    let e = took (c .before) in
+    let s = first e in
+    let t = s .args .t1 in
+    let l = entered e in
+    let w = prepared l .prepare in
+    let gone = c .before .before .before .without in
+    let low = e .before .before .first-in-time in
+    let high = e .before .if1 in
+    let p = placing-turn t (s .pre) (l .loop .order) (l .loop .left) (l .loop .place) (l .loop .inv .1)
+    (turn (e .before) .loop-test .taken) (mine e) (is e) (some e)
+    (gone .result) (c .before .how-many2 .result) (gone .ensures) (c .before .how-many2 .ensures) in
+    let near = normal-within t (s .pre) (w .result) (w .ensures) (l .loop .left) (l .loop .waiting) (l .loop .inv .1 .holds)
+    (l .loop .inv .2) (e .before .if1 .entry) (taken (e .before)) (e .if2 .left) (held e) _ (low .result .changed) (low .result .passing) (low .ensures .1) in (
+      omega (arith, p .few, facts _ (s .pre) .few),
+      p,
+      rw (gone .ensures, c .before .before .without2 .ensures) (waiting-next t (s .pre) (w .result) (w .ensures) (l .loop .left) (l .loop .waiting) (l .loop .inv .1 .holds)
+          (l .loop .inv .2) (e .before .if1 .entry) (taken (e .before)) (e .if2 .left) (held e)),
+      rw (gone .ensures, one-shl _ near) (normal-next t (s .pre) (w .result) (w .ensures) (l .loop .left) (l .loop .waiting) (l .loop .inv .1 .holds)
+          (l .loop .inv .2) (e .before .if1 .entry) (taken (e .before)) (e .if2 .left) (held e) _ (low .result .changed) (low .result .passing) (low .ensures .1)),
+      rw (gone .ensures, one-shl (at (high .slow-period) (mine e)) (slow-within e)) (degraded-next t (s .pre) (w .result) (w .ensures) (l .loop .left) (l .loop .waiting)
+          (l .loop .inv .1 .holds) (l .loop .inv .2) (e .before .if1 .entry) (taken (e .before)) (e .if2 .left) (held e)
+          (high .slow-period) (high .slow-changed) (high .slow-passing) (known (e .before))),
+    )
 
 returns-2 : tie.Need-returns-2 Inv-loop μ-loop
 returns-2 c =
     let l = c .before in
     let s = start l in
-    placing-done (s .args .t) (s .pre) (l .loop .order) (l .loop .left) (l .loop .place) (l .loop .inv .1) (omega arith)
+    placing-done (s .args .t1) (s .pre) (l .loop .order) (l .loop .left) (l .loop .place) (l .loop .inv .1) (omega arith)
 
 pub choose-spec : {M : Type 1} → statement M
 choose-spec =
@@ -113,13 +305,26 @@ choose-spec =
     first-rows-requires
     how-many-requires
     loop-holds
-    taker-requires
+    first-in-time-requires
+    first-in-time-requires-2
     returns
+    sub-row
+    cast-row
+    element-copy-out-row
+    sub-i
+    cast-i
     sub-order
     cast-order
     array-write-order
     without-requires
+    without-requires-2
     how-many-requires-2
+    array-read-changed
+    cast-changed
+    shl-changed
+    array-read-slow-changed
+    cast-slow-changed
+    shl-slow-changed
     loop-less
     loop-again
     returns-2)

@@ -1,44 +1,99 @@
 -- Each column is what its callee ensures, and the sort by trial key is the trial sequence.
 use borrow.Author.Needs.{needs}
-use mathlib.Core.Path.{_∙_}
-use Rattle.sweep.specs.CapColumn.{limited, caps-normal}
+use Prim.Native.Nat.{ℕ, _≤_}
+use mathlib.Core.Path.{sym, subst, _∙_}
+use mathlib.Core.List.{List}
+use Rattle.rules.specs.Rows.{at}
+use Rattle.sweep.specs.CapColumn.{limited, caps-normal, caps-degraded}
+use Rattle.sweep.specs.Padded.{Rows}
+use Rattle.sweep.specs.Sorts.{sorted-rows}
 use Rattle.theory.specs.Facts.{facts}
+use Rattle.planner.specs.Keys.{keys-of, soon-at}
 use Rattle.planner.specs.Prepared.{prepared}
 use Rattle.planner.proofs.prepare.Statement.{statement}
 use Rattle.planner.proofs.prepare.Tie as tie
 
--- the places of the code, each from a later one: the keys are made, the rows are sorted by release
+-- the places of the code, each from a later one: the keys are made, the rows are sorted by release and by trial key, the words of both levels and
+-- the needs are made
 abbrev keys-made : tie.After-sorted → tie.After-trial-keys
 keys-made c = c .before .before .before
 
-abbrev released-sorted : tie.After-caps → tie.After-sorted
-released-sorted c = c .before .before .before
+abbrev start : tie.After-trial-keys → tie.Start
+start c = c .before .before .before .before
+
+abbrev entries-made : tie.After-entries-at-arg → tie.After-entries
+entries-made c = c .before .before .before
+
+abbrev both-sorted : tie.After-entries-at-arg → tie.After-sorted2
+both-sorted c = entries-made c .before .before
+
+abbrev low-made : tie.After-entries-at-arg2 → tie.After-entries-at
+low-made c = c .before .before .before
+
+abbrev high-made : tie.After-needs-arg → tie.After-entries-at2
+high-made c = c .before .before
+
+abbrev needs-made : tie.After-normal → tie.After-needs
+needs-made c = c .before .before .before .before
+
+abbrev keys-before : tie.After-sorted2 → tie.After-trial-keys
+keys-before c = keys-made (c .before .before)
+
+abbrev sorted-before : tie.After-needs-arg → tie.After-sorted2
+sorted-before c = both-sorted (low-made (high-made c .before) .before)
 
 trial-keys-requires : tie.Need-trial-keys-requires
-trial-keys-requires c κs = search needs
+trial-keys-requires c κs =
+    let s = c .before .before .before in
+    (facts _ (s .pre) .few, soon-at _ (s .pre))
 
 sorted-requires : tie.Need-sorted-requires
-sorted-requires c κs = facts _ (c .before .before .before .pre) .few
+sorted-requires c κs = facts _ (start (c .before .before) .pre) .few
 
 sorted-requires-2 : tie.Need-sorted-requires-2
-sorted-requires-2 c κs = facts _ (keys-made (c .before) .before .pre) .few
+sorted-requires-2 c κs = facts _ (start (keys-made (c .before)) .pre) .few
 
-caps-requires : tie.Need-caps-requires
-caps-requires c κs = limited _ (keys-made (c .before .before) .before .pre)
+-- the sequence is of row numbers
+sequenced : (c : tie.After-sorted2) → (start (keys-before c) .args .t1 .n ≤ 64) × Rows (c .sorted2 .result) (start (keys-before c) .args .t1 .n)
+sequenced c =
+    let k = keys-before c in
+    let n = start k .args .t1 .n in
+    let few = facts _ (start k .pre) .few in
+    (few, subst (λ (l : List ℕ). Rows l n) (sym (c .sorted2 .ensures)) (sorted-rows (λ i. at (k .trial-keys .result) i) n few))
 
-caps-requires-2 : tie.Need-caps-requires-2
-caps-requires-2 c κs = limited _ (keys-made (released-sorted c) .before .pre)
+entries-requires : tie.Need-entries-requires
+entries-requires c κs = sequenced (c .before)
+
+entries-at-requires : tie.Need-entries-at-requires
+entries-at-requires c κs = sequenced (both-sorted c)
+
+entries-at-requires-2 : tie.Need-entries-at-requires-2
+entries-at-requires-2 c κs = sequenced (both-sorted (low-made c .before))
+
+needs-requires : tie.Need-needs-requires
+needs-requires c κs = limited _ (start (keys-before (sorted-before c)) .pre)
+
+degraded-caps-requires : tie.Need-degraded-caps-requires
+degraded-caps-requires c κs = limited _ (start (keys-before (sorted-before (needs-made c .before))) .pre)
 
 returns : tie.Need-returns
 returns c =
-    let r = released-sorted (c .before) in
-    let k = keys-made r in
-    let s = k .before in
-    prepared (s .args .t1) (s .pre)
-    (r .sorted .result) (k .trial-keys .result) (c .before .before .sorted2 .result) (c .before .caps .result) (c .caps2 .result)
-    (r .sorted .ensures) (k .trial-keys .ensures)
-    (c .before .before .sorted2 .ensures) (c .before .caps .ensures ∙ caps-normal (s .args .t1) (s .args .t1 .normal) (s .args .t1 .n))
-    (c .caps2 .ensures ∙ caps-normal (s .args .t1) (s .args .t1 .degraded) (s .args .t1 .n))
+    let needed = needs-made (c .before) in
+    let high = high-made (needed .before) in
+    let low = low-made (high .before) in
+    let entered = entries-made (low .before) in
+    let second = both-sorted (low .before) in
+    let queued = second .before .before in
+    let k = keys-made queued in
+    let s = start k in
+    let t = s .args .t1 in
+    prepared t (s .pre)
+    (queued .sorted .result) (k .trial-keys .result) (second .sorted2 .result) (entered .entries .result) (needed .needs .result) (c .degraded-caps .result)
+    (low .entries-at .result) (high .entries-at2 .result)
+    (queued .sorted .ensures) (k .trial-keys .ensures ∙ keys-of t (t .n)) (second .sorted2 .ensures) (entered .entries .ensures)
+    (low .entries-at .ensures) (high .entries-at2 .ensures)
+    (needed .needs .ensures ∙ caps-normal t)
+    (caps-degraded t (s .pre) (needed .needs .result) (c .degraded-caps .result) (needed .needs .ensures) (c .degraded-caps .ensures))
 
 pub prepare-spec : {M : Type 1} → statement M
 prepare-spec =
@@ -47,6 +102,9 @@ prepare-spec =
     trial-keys-requires
     sorted-requires
     sorted-requires-2
-    caps-requires
-    caps-requires-2
+    entries-requires
+    entries-at-requires
+    entries-at-requires-2
+    needs-requires
+    degraded-caps-requires
     returns)

@@ -7,16 +7,15 @@ use mathlib.Core.Path.{_≡_, refl, sym, ap, _∙_}
 use mathlib.Core.List.{map}
 use Rattle.rules.specs.Lists.{rowsTo}
 use Rattle.rules.specs.Choice.{padded}
-use Rattle.theory.specs.Facts.{facts}
-use Rattle.planner.specs.Keys.{trialKey, keys-more, soon-at}
+use Rattle.planner.specs.Keys.{keyIn, keys-more}
 use Rattle.planner.proofs.trial_keys.Statement.{statement}
 use Rattle.planner.proofs.trial_keys.Tie as tie
 
 abbrev Inv-loop : tie.InvT-loop
-Inv-loop t out₀ k₀ out k = (k ≤ t .n) × (t .n ≤ 64) × (out ≡ padded (map (trialKey t) (rowsTo k)))
+Inv-loop n level deadline out₀ k₀ out k = (k ≤ n) × (out ≡ padded (map (keyIn level deadline) (rowsTo k)))
 
 abbrev μ-loop : tie.MeasureT-loop
-μ-loop t out₀ k₀ out k = t .n - k
+μ-loop n level deadline out₀ k₀ out k = n - k
 
 -- the turn that a row's release and deadline were read in
 abbrev turn-of : tie.After-trial-key-arg2 Inv-loop μ-loop → tie.In-loop Inv-loop μ-loop
@@ -24,7 +23,7 @@ turn-of c = c .before .before
 
 loop-holds : tie.Need-loop-holds Inv-loop μ-loop
 unfolding padded
-loop-holds c = (omega arith, facts _ (c .pre) .few, refl)
+loop-holds c = (omega arith, refl)
 
 cast-i : tie.Need-cast-i Inv-loop μ-loop
 cast-i c = search needs
@@ -44,8 +43,7 @@ element-copy-out-trial-key-2 c = search needs
 trial-key-requires : tie.Need-trial-key-requires Inv-loop μ-loop
 trial-key-requires c κs =
     let turn = turn-of c in
-    let s = turn .before .before in
-    soon-at (s .args .t1) (s .pre) (turn .before .loop .k) (turn .loop-test .taken)
+    turn .before .before .pre .1 (turn .before .loop .k) (turn .loop-test .taken)
 
 mul-out : tie.Need-mul-out Inv-loop μ-loop
 mul-out c = search needs
@@ -63,22 +61,20 @@ loop-again : tie.Need-loop-again Inv-loop μ-loop
 loop-again c =
     let turn = turn-of (c .before) in
     let s = turn .before .before in
+    let a = s .args in
     let l = turn .before .loop in
-    let t = s .args .t1 in
     let taken = turn .loop-test .taken in (
       omega arith,
-      l .inv .1,
-      keys-more t (l .k) (c .trial-key .result) (l .out) (omega arith) (l .inv .2) (c .trial-key .ensures)
-          ∙ ap (λ (j : ℕ). padded (map (trialKey t) (rowsTo j))) (sym (add-one (l .k))),
+      keys-more (a .level .now) (a .deadline .now) (l .k) (c .trial-key .result) (l .out) (omega (arith, s .pre .0)) (l .inv .1) (c .trial-key .ensures)
+          ∙ ap (λ (j : ℕ). padded (map (keyIn (a .level .now) (a .deadline .now)) (rowsTo j))) (sym (add-one (l .k))),
     )
 
 returns : tie.Need-returns Inv-loop μ-loop
 returns c =
-    let s = c .before .before in
+    let a = c .before .before .args in
     let l = c .before .loop in
-    let t = s .args .t1 in
-    let e : l .k ≡ t .n = omega arith in
-    l .inv .2 ∙ ap (λ (j : ℕ). padded (map (trialKey t) (rowsTo j))) e
+    let e : l .k ≡ a .n = omega arith in
+    l .inv .1 ∙ ap (λ (j : ℕ). padded (map (keyIn (a .level .now) (a .deadline .now)) (rowsTo j))) e
 
 pub trial-keys-spec : {M : Type 1} → statement M
 trial-keys-spec =

@@ -3,7 +3,8 @@ use borrow.Author.Needs.{needs}
 use native.Mathlib.Omega.{arith}
 use Rattle.rules.specs.Fields.{written}
 use Rattle.fields.specs.Wrote.{wrote-then}
-use Rattle.text.specs.Slacks.{few, both-pass}
+use Rattle.theory.specs.Facts.{both-pass}
+use Rattle.text.specs.Slacks.{few}
 use Rattle.text.proofs.put_order.Statement.{statement}
 use Rattle.text.proofs.put_order.Tie as tie
 
@@ -12,7 +13,7 @@ abbrev first-put : tie.After-put-places-arg → tie.After-put-pair
 first-put c = c .before .before .before
 
 worst-finishes-requires : tie.Need-worst-finishes-requires
-worst-finishes-requires c κs = let s = c .before in both-pass (s .args .t) (s .args .order) (s .pre .0)
+worst-finishes-requires c κs = let s = c .before in both-pass (s .args .t) (s .args .order) (s .pre .0 .accepted) (s .pre .0 .order)
 
 put-pair-requires : tie.Need-put-pair-requires
 put-pair-requires c κs = search needs

@@ -1,0 +1,126 @@
+-- A turn of the choice over what a planning has prepared.
+use Prim.Native.Nat.{ℕ, _-_, _^_, _≤_, _<_}
+use mathlib.Core.Path.{_≡_, refl}
+use mathlib.Core.List.{List}
+use native.Mathlib.Omega.{arith}
+use lib.Bits.{bitAnd, bitOr}
+use lib.ListN.{getD}
+use Rattle.rules.specs.declared.Table.{Table}
+use Rattle.rules.specs.Rows.{at, rowsOf}
+use Rattle.rules.specs.Tables.{Accepted}
+use Rattle.rules.specs.Choice.{sequence, taker, padded}
+use Rattle.theory.specs.Counts.{In}
+use Rattle.theory.specs.Facts.{TableFacts, facts, rows-in}
+use Rattle.sweep.specs.Holds.{Holds}
+use Rattle.sweep.specs.Masks.{bit}
+use Rattle.sweep.specs.Padded.{zeros}
+use Rattle.planner.specs.declared.Trials.{Trials}
+use Rattle.planner.specs.Prepared.{trialsOf}
+use Rattle.planner.specs.Trying.{leftOf, Speed, KnownAt, Open, inTime, FirstIn}
+use Rattle.planner.specs.Taking.{Waiting, Taken, speed-of, opened, waiting-turn, taken-low, taken-high, taken-row, known-first, known-turn, period-place}
+
+-- what is known of the same busy periods
+pub known-same : (queue : List ℕ) (n : ℕ) (release deadline cap entry : List ℕ) (left : ℕ) (p p' : List ℕ) (c c' k k' : ℕ) → p ≡ p' → c ≡ c' → k ≡ k'
+    → KnownAt queue n release deadline cap entry left p' c' k' → KnownAt queue n release deadline cap entry left p c k
+known-same queue n release deadline cap entry left p p' c c' k k' x y z w = rw (x, y, z) w
+
+module _ (t : Table) (accepted : Accepted t) (w : Trials) (prepared : w ≡ trialsOf t) where
+  f : TableFacts t
+  f = facts t accepted
+
+  -- what is known at supplies of at least the speed of these caps
+  abbrev pub KnownIn : List ℕ → ℕ → List ℕ → ℕ → ℕ → Type 0
+  KnownIn caps left period changed passing = KnownAt (w .queue) (t .n) (t .release) (t .deadline) caps (w .entry) left period changed passing
+
+  -- what the trials at either speed ask for
+
+  pub normal-speed : Speed (w .queue) (t .n) (t .release) (w .normal) (w .entry)
+  unfolding trialsOf
+  normal-speed = rw prepared (speed-of t accepted (t .normal) (f .runs))
+
+  pub degraded-speed : Speed (w .queue) (t .n) (t .release) (w .degraded) (w .entry)
+  unfolding trialsOf
+  degraded-speed = rw prepared (speed-of t accepted (t .degraded) (f .crawls))
+
+  pub open-entries : (left waiting m : ℕ) → Waiting t left waiting → Open (w .queue) (w .entry) (t .n) left (bitAnd waiting m)
+  unfolding trialsOf
+  open-entries left waiting m q = rw prepared (opened t accepted left waiting q m)
+
+  -- before the first sweep
+
+  pub normal-first : (left : ℕ) → KnownIn (w .normal) left (zeros 64) 1 0
+  unfolding trialsOf
+  normal-first left = rw prepared (known-first t accepted (t .normal) (f .runs) left)
+
+  pub degraded-first : (left : ℕ) → KnownIn (w .degraded) left (zeros 64) 1 0
+  unfolding trialsOf
+  degraded-first left = rw prepared (known-first t accepted (t .degraded) (f .crawls) left)
+
+  -- the entry found
+
+  module _ (left waiting : ℕ) (holds : Holds left (leftOf t left)) (q : Waiting t left waiting) where
+    abbrev Search : List ℕ → ℕ → ℕ → Type 0
+    Search caps level e =
+        FirstIn (inTime (w .queue) (t .n) (t .release) (t .deadline) caps left) (w .queue) (w .entry) (t .n) left (bitAnd waiting level) e
+
+    pub low-taken : (e : ℕ) → Search (w .normal) (w .low) e → (e ≡ 0 → ⊥) → Taken t left waiting e
+    unfolding trialsOf
+    low-taken e k n = taken-low t accepted left holds waiting q e (rw prepared at k) n
+
+    pub high-taken : (d e : ℕ) → Search (w .normal) (w .low) d → d ≡ 0 → Search (w .degraded) (w .high) e → Taken t left waiting e
+    unfolding trialsOf
+    high-taken d e k z l = taken-high t accepted left holds waiting q d e (rw prepared at k) z (rw prepared at l)
+
+    -- the row at the entry taken
+    module _ (e : ℕ) (k : Taken t left waiting e) (some : e ≡ 0 → ⊥) where
+      abbrev mine : ℕ
+      mine = getD (w .sequence) (e - 1) 0
+
+      pub taken-range : (1 ≤ e) × (e ≤ t .n) × (bit waiting (e - 1) ≡ 1)
+      taken-range = let r = k .found some in (r .0, r .1, r .2)
+
+      pub row-is : mine ≡ taker t (leftOf t left)
+      unfolding trialsOf
+      row-is = rw prepared (k .found some .3)
+
+      row-in : In mine (rowsOf t)
+      unfolding trialsOf
+      row-in = rw prepared (taken-row t accepted left holds waiting q e (taken-range .0) (taken-range .1))
+
+      pub row-some : mine ≡ 0 → ⊥
+      row-some z = omega (arith, rows-in t mine row-in .from)
+
+      module _ (b : bit left (mine - 1) ≡ 1) where
+        pub waiting-next : Waiting t (left - 2 ^ (mine - 1)) (waiting - 2 ^ (e - 1))
+        unfolding trialsOf
+        waiting-next =
+            let r = taken-range in
+            rw prepared (waiting-turn t accepted left waiting q e (getD (padded (sequence t)) (e - 1) 0) (r .0) (r .1) refl (r .2) (rw prepared at b))
+
+        module _ (period : List ℕ) (changed passing : ℕ) where
+          -- its busy period begins at a place of the queue, and changes
+
+          pub normal-within : KnownIn (w .normal) left period changed passing → at period mine < 64
+          unfolding trialsOf
+          normal-within known =
+              rw prepared (period-place t accepted (t .normal) (f .runs) left (getD (padded (sequence t)) (e - 1) 0) period changed passing (rw prepared at known)
+              (rw prepared at row-in) (rw prepared at b))
+
+          pub degraded-within : KnownIn (w .degraded) left period changed passing → at period mine < 64
+          unfolding trialsOf
+          degraded-within known =
+              rw prepared (period-place t accepted (t .degraded) (f .crawls) left (getD (padded (sequence t)) (e - 1) 0) period changed passing (rw prepared at known)
+              (rw prepared at row-in) (rw prepared at b))
+
+          pub normal-next : KnownIn (w .normal) left period changed passing → KnownIn (w .normal) (left - 2 ^ (mine - 1)) period (bitOr changed (2 ^ at period mine)) passing
+          unfolding trialsOf
+          normal-next known =
+              rw prepared (known-turn t accepted (t .normal) (f .runs) left (getD (padded (sequence t)) (e - 1) 0) period changed passing (rw prepared at known)
+              (rw prepared at row-in) (rw prepared at b))
+
+          pub degraded-next : KnownIn (w .degraded) left period changed passing
+              → KnownIn (w .degraded) (left - 2 ^ (mine - 1)) period (bitOr changed (2 ^ at period mine)) passing
+          unfolding trialsOf
+          degraded-next known =
+              rw prepared (known-turn t accepted (t .degraded) (f .crawls) left (getD (padded (sequence t)) (e - 1) 0) period changed passing (rw prepared at known)
+              (rw prepared at row-in) (rw prepared at b))
