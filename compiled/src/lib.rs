@@ -7,9 +7,9 @@
 //! | `sheets`  | tables on which the planner has little or much to do           |
 //! | `stack`   | the most bytes of stack that each call takes                   |
 //!
-//! The reference is the package `model`, which works every slot. Its module
-//! `plain`, by the library's algorithm, is tested against the rest of it and
-//! stands in for it where it would take too long.
+//! The reference is the package `model`, which works every slot. Its modules
+//! `plain` and `planners`, which sweep as the library does, are tested against the
+//! rest of it and stand in for it where it would take too long.
 
 pub mod library;
 pub mod raw;

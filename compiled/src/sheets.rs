@@ -31,9 +31,11 @@ pub fn hard(n: u32) -> Table {
 
 /// Rows of which few pass (n is a multiple of 4). In each group three LO rows of
 /// one slot after their loading time (slots) just fit if their HI row stands below
-/// them, and the groups follow each other in time. The HI row of the first group
-/// has the latest deadline, so the first group is placed first, after the LO rows
-/// of all others have been tried again at every place.
+/// them, and the groups follow each other in time: each is a busy period of its own,
+/// at both speeds. As long as the HI row of a group waits, its LO rows are late
+/// wherever they are tried. The HI row of the first group has the latest deadline, so
+/// the first group is placed first, each of its rows after the LO rows of all other
+/// groups have been tried and failed.
 pub fn hard_loading(n: u32, loading: u32) -> Table {
     let mut rows = Vec::new();
     for group in 0..n / 4 {
@@ -53,6 +55,69 @@ pub fn hard_loading(n: u32, loading: u32) -> Table {
         });
     }
     Table::of(5, 2, loading, &rows)
+}
+
+/// Rows in one busy period, at either speed and at every place. Every other one is a
+/// LO row of one slot after its loading time (slots), the rest are HI rows of one slot
+/// at N and three at G. Two of each are released at every multiple of the time that a
+/// LO row takes. The k-th LO row has time for k LO rows, so that none of them is in
+/// time before the last HI row, which all have time, is placed. No table in one busy
+/// period takes more trials, n * n / 4 + n for an even n: whichever of its rows stands
+/// lowest finishes when it ends, and so the row of a level that is tried first fails
+/// only if they all do.
+pub fn one_period(n: u32, loading: u32) -> Table {
+    let row = |index: u32| {
+        let (number, is_low) = (index / 2, index % 2 == 1);
+        let (deadline, level) = if is_low {
+            ((number + 1) * (loading + 1), LO)
+        } else {
+            (10_000 - number, HI)
+        };
+        Row {
+            release: number / 2 * (loading + 1),
+            work: 5,
+            deadline,
+            level,
+        }
+    };
+    let rows: Vec<Row> = (0..n).map(row).collect();
+    Table::of(5, 2, loading, &rows)
+}
+
+/// Rows that are released one after another, 2 slots and a loading time (slots) apart,
+/// so that busy periods break and join as rows are placed. At N they take 3, 2, 2, 2,
+/// 2, 2, 2 and 1 slots in turn after loading: eight of them fill the time until the
+/// next is released, and their busy period ends just there. Every third row is HI and
+/// takes 1 or 2 slots more at G, where all rows are in one busy period at first. Each
+/// deadline is the row's worst finish under the order in which the row released first
+/// stands lowest, then the last, the second, the last but one and so on; so that order
+/// is correct and leaves no slot to spare. In the table every other row comes first.
+pub fn staggered(n: u32, loading: u32) -> Table {
+    let turns: Vec<u32> = (0..n).step_by(2).chain((1..n).step_by(2)).collect();
+    let row = |&turn: &u32| Row {
+        release: turn * (2 + loading),
+        work: 10 * [3, 2, 2, 2, 2, 2, 2, 1][turn as usize % 8],
+        deadline: 1_000_000,
+        level: if turn % 3 == 2 { HI } else { LO },
+    };
+    let rows: Vec<Row> = turns.iter().map(row).collect();
+    let table = Table::of(10, 7, loading, &rows);
+    let mut places: Vec<u8> = (1..=n as u8).collect();
+    places.sort_by_key(|&row| {
+        let turn = turns[row as usize - 1];
+        std::cmp::Reverse((2 * turn).min(2 * (n - 1 - turn) + 1))
+    });
+    due_at_finishes(&table, &order_of(&places))
+}
+
+/// The table with the worst finishes under this order as deadlines.
+fn due_at_finishes(table: &Table, order: &Order) -> Table {
+    let (number, finishes) = plain::finishes(table, order);
+    assert_eq!(number, 0, "the table and the order are accepted");
+    Table {
+        deadline: finishes,
+        ..*table
+    }
 }
 
 /// A hard table with the longest range of speeds, N of 1,000 and G of 1 work unit per
@@ -97,13 +162,11 @@ pub fn tight(random: &mut Random, n: u32, ranges: Ranges) -> Table {
 
 /// This accepted table with such deadlines.
 pub fn tightened(random: &mut Random, table: &Table) -> Table {
-    let (mut table, n) = (*table, table.n);
-    let order = random_order(random, n);
-    let (number, finishes) = plain::finishes(&table, &order);
-    assert_eq!(number, 0, "a table in these ranges is accepted");
+    let n = table.n;
+    let mut table = due_at_finishes(table, &random_order(random, n));
     let spare = random.between(0, 3);
-    for (deadline, finish) in table.deadline.iter_mut().zip(finishes).take(n as usize) {
-        *deadline = finish + random.between(0, spare);
+    for deadline in &mut table.deadline[..n as usize] {
+        *deadline += random.between(0, spare);
     }
     if random.once_in(2) {
         let index = random.between(0, n - 1) as usize;

@@ -1,35 +1,21 @@
 //! The planner of the library against the model's, and on tables for which the
-//! model takes too long against the plain one, which is compared with the model
-//! here as well. Every loading time from 0 to 16 slots comes up.
+//! model takes too long against the plain ones, which are compared with the model
+//! here as well. Every loading time from 0 to 16 slots comes up. Where busy periods
+//! and ties decide: `periods`.
 
 mod common;
 
+use common::planning::{by_both, compare, compare_all, compare_plain};
 use common::{
     for_each_small_table, large_table, small_table, spoil_table, Loadings, Tally, MODEL_LARGE,
     TABLE_CHECKS,
 };
 use compiled::library;
-use compiled::sheets::{easy, easy_loading, hard, hard_loading, largest, tight};
+use compiled::sheets::{easy_loading, hard_loading, largest, one_period, staggered, tight};
 use model::order::NO_ORDER;
-use model::plain;
-use model::plan::{plan, Plan};
+use model::plan::Plan;
 use model::random::Random;
-use model::table::{check_table, Table, LO, MOST_LOADING};
-
-fn compare_all(table: &Table, tally: &mut Tally<u32>) -> u32 {
-    let of_model = plan(table);
-    assert_eq!(plain::plan(table), of_model, "the plain planner: {table:?}");
-    compare(table, &of_model, tally);
-    of_model.number
-}
-
-fn compare(table: &Table, expected: &Plan, tally: &mut Tally<u32>) {
-    let answer = library::plan(table);
-    assert_eq!(answer, *expected, "{table:?}");
-    assert!(answer.number == 0 || answer.order == NO_ORDER);
-    assert!((answer.number == 7) == (answer.left != 0));
-    tally.saw(answer.number);
-}
+use model::table::{check_table, Table, LO};
 
 #[test]
 fn all_small_tables() {
@@ -76,8 +62,11 @@ fn larger_tables_that_the_model_plans() {
         loadings.saw(number, &table);
     }
     for n in [4, 16, 64] {
-        for table in [easy(n), hard(n), easy_loading(n, 3), hard_loading(n, 1)] {
-            compare_all(&table, &mut tally);
+        for loading in [0, 1, 3] {
+            compare_all(&easy_loading(n, loading), &mut tally);
+            compare_all(&hard_loading(n, loading), &mut tally);
+            compare_all(&one_period(n, loading), &mut tally);
+            compare_all(&staggered(n, loading), &mut tally);
         }
     }
     tally.assert_common(&[0, 7], 50);
@@ -95,9 +84,8 @@ fn random_large_tables() {
     ];
     for _ in 0..100_000 {
         let table = large_table(&mut random);
-        let (expected, tried) = plain::plan_and_trials(&table);
-        compare(&table, &expected, &mut tally);
-        by_answer[usize::from(expected.number == 7)].saw(expected.number, &table);
+        let (number, tried) = compare_plain(&table, &mut tally);
+        by_answer[usize::from(number == 7)].saw(number, &table);
         trials.saw(tried.ilog2());
     }
     tally.assert_common(&[0, 7], 25_000);
@@ -105,21 +93,6 @@ fn random_large_tables() {
     for loadings in &by_answer {
         loadings.assert_every(700);
     }
-}
-
-#[test]
-fn hard_and_easy_sheets() {
-    let mut tally = Tally::new("planner, hard and easy sheets");
-    for n in (4..=64).step_by(4) {
-        for loading in 0..=MOST_LOADING {
-            for table in [easy_loading(n, loading), hard_loading(n, loading)] {
-                compare(&table, &plain::plan(&table), &mut tally);
-            }
-        }
-    }
-    tally.assert_common(&[0], 32 * 17);
-    let (_, most) = plain::plan_and_trials(&hard(64));
-    assert!(most > 1_000, "the hard sheet takes {most} trials");
 }
 
 #[test]
@@ -158,7 +131,7 @@ fn largest_works() {
                 order: NO_ORDER,
                 left: u64::MAX,
             };
-            assert_eq!(plain::plan(&table), none);
+            assert_eq!(by_both(&table).0, none);
             compare(&table, &none, &mut tally);
         }
     }

@@ -4,32 +4,33 @@
 //! Everything here states a rule of docs/RULES.md, slot by slot, in the most
 //! direct way, and cites its number. Nothing is made fast by theory: a worst finish is found by
 //! working every slot up to it. Compiled code is compared with this model, so
-//! a line that needs an argument to be believed does not belong here. The one
-//! exception is `plain`, which finds worst finishes by one sweep: the tests of the
-//! compiled library compare it with the other modules, and none of them uses it.
+//! a line that needs an argument to be believed does not belong here. The exceptions
+//! are `plain` and `planners`, which find worst finishes by sweeps: the tests of the
+//! compiled library compare them with the other modules, and none of those uses them.
 //!
 //! Units: clocks, releases, deadlines, loading times, needs, finishes, slacks and
 //! closing slots are in slots; work is in work units; speeds and supplies are in
 //! work units per slot. Rows and places count from 1; row 0 means "no row".
 //!
-//! | module    | states                                                       |
-//! |-----------|--------------------------------------------------------------|
-//! | `table`   | rows, tables, need, allowance, checks 3, 4, 11 and 5         |
-//! | `order`   | orders by value, check 6, every arrangement of some rows     |
-//! | `run`     | the state of a run, the step by either rule, kept deadlines  |
-//! | `calls`   | the two run calls on paper, with number 8                    |
-//! | `record`  | the run record, check 9, one slot and forward on a record    |
-//! | `plan`    | worst finish, slack, the planner's choice                    |
-//! | `judge`   | the judge of orders                                          |
-//! | `speeds`  | the least workable speeds, by a scan over all of the range   |
-//! | `sheet`   | the sheet's fields, its reader and its writer                |
-//! | `place`   | where a refused sheet is at fault                           |
-//! | `report`  | the report: its figures, lines and totals                    |
-//! | `program` | the planning program from input bytes to output bytes        |
-//! | `cases`   | cases worked out by hand, P1 to P4 among them                |
-//! | `before`  | answers from before tables had a loading time                |
-//! | `random`  | a fixed-seed generator of numbers and tables for tests       |
-//! | `plain`   | the same answers by one sweep, for large tables and measures |
+//! | module     | states                                                       |
+//! |------------|--------------------------------------------------------------|
+//! | `table`    | rows, tables, need, allowance, checks 3, 4, 11 and 5         |
+//! | `order`    | orders by value, check 6, every arrangement of some rows     |
+//! | `run`      | the state of a run, the step by either rule, kept deadlines  |
+//! | `calls`    | the two run calls on paper, with number 8                    |
+//! | `record`   | the run record, check 9, one slot and forward on a record    |
+//! | `plan`     | worst finish, slack, the planner's choice                    |
+//! | `judge`    | the judge of orders                                          |
+//! | `speeds`   | the least workable speeds, by a scan over all of the range   |
+//! | `sheet`    | the sheet's fields, its reader and its writer                |
+//! | `place`    | where a refused sheet is at fault                            |
+//! | `report`   | the report: its figures, lines and totals                    |
+//! | `program`  | the planning program from input bytes to output bytes        |
+//! | `cases`    | cases worked out by hand, P1 to P4 among them                |
+//! | `before`   | answers from before tables had a loading time                |
+//! | `random`   | a fixed-seed generator of numbers and tables for tests       |
+//! | `plain`    | the same answers by sweeps, for large tables and measures    |
+//! | `planners` | planning with a sweep for each trial, and for each place     |
 
 pub mod before;
 pub mod calls;
@@ -39,6 +40,7 @@ pub mod order;
 pub mod place;
 pub mod plain;
 pub mod plan;
+pub mod planners;
 pub mod program;
 pub mod random;
 pub mod record;

@@ -1,135 +1,24 @@
-//! The same answers in plain Rust, by the algorithm that the library uses: a
-//! worst finish is found by one sweep over the rows above by release, and not
-//! by working every slot. Tests compare it with the model on small tables, use
-//! it in the model's place on large ones, and the measurements take it as the
-//! measure of what Rust without proofs costs.
+//! The same answers in plain Rust, by sweeps (`planners`): a worst finish is found
+//! by one pass over the rows above by release, and not by working every slot. Tests
+//! compare it with the model on small tables, use it in the model's place on large
+//! ones, and the measurements take it as the measure of what Rust without proofs
+//! costs.
 //!
-//! Clocks, needs, caps and finishes are in slots; rows stand at index row - 1.
+//! Clocks, needs and finishes are in slots; rows stand at index row - 1.
 
 use crate::calls::LAST_CLOCK;
 use crate::judge::Verdict;
-use crate::order::{Order, NO_ORDER};
+use crate::order::Order;
 use crate::plan::Plan;
+use crate::planners::left::{sweep_speed, Left};
 use crate::record::Record;
 use crate::report::{figure, LAST_LINE, PLACE_LINE};
 use crate::sheet::{read_sheet, write_field, write_line, FIRST_LINE, LINE_END, ROW_LINE};
 use crate::speeds::{Least, Sought};
-use crate::table::{check_table, need, Table, HI, LO, ROWS};
+use crate::table::{check_table, need, Table, HI, ROWS};
 
-/// What a row can take in its worst runs, and the rows by release.
-struct Load<'a> {
-    table: &'a Table,
-    /// Slots that each row takes at most where every slot supplies N.
-    at_normal: [u32; ROWS],
-    /// Slots that each row takes at most where every slot supplies G.
-    at_degraded: [u32; ROWS],
-    /// Row indices by rising release.
-    by_release: [u8; ROWS],
-}
-
-impl Load<'_> {
-    fn of(table: &Table) -> Load<'_> {
-        let mut load = Load {
-            table,
-            at_normal: [0; ROWS],
-            at_degraded: [0; ROWS],
-            by_release: std::array::from_fn(|index| index as u8),
-        };
-        for row in 1..=table.n as u8 {
-            let index = row as usize - 1;
-            let at_normal = need(table, row, table.normal);
-            load.at_normal[index] = at_normal;
-            // A LO row takes no more than its allowance (rule 1.9).
-            load.at_degraded[index] = if table.level[index] == LO {
-                at_normal
-            } else {
-                need(table, row, table.degraded)
-            };
-        }
-        let rows = &mut load.by_release[..table.n as usize];
-        rows.sort_unstable_by_key(|&index| table.release[index as usize]);
-        load
-    }
-
-    /// The worst finish of the row at `index` under the rows of `above`, a word
-    /// that may or may not hold the row itself.
-    fn finish(&self, index: usize, above: u64) -> u32 {
-        let mine = self.table.release[index];
-        let with_row = above | 1 << index;
-        let caps = if self.table.level[index] == LO {
-            &self.at_normal
-        } else {
-            &self.at_degraded
-        };
-        let mut end = 0;
-        for &other in &self.by_release[..self.table.n as usize] {
-            let other = other as usize;
-            if with_row >> other & 1 == 0 {
-                continue;
-            }
-            let release = self.table.release[other];
-            if release > mine && end <= release {
-                return end;
-            }
-            end = end.max(release) + caps[other];
-        }
-        end
-    }
-
-    fn meets(&self, index: usize, above: u64) -> bool {
-        self.finish(index, above) <= self.table.deadline[index]
-    }
-
-    /// All row indices in their trial sequence (rule 4.3).
-    fn trial_sequence(&self) -> Vec<u8> {
-        let mut sequence: Vec<u8> = (0..self.table.n as u8).collect();
-        sequence.sort_unstable_by_key(|&index| {
-            let index = index as usize;
-            let falling = u32::MAX - self.table.deadline[index];
-            (self.table.level[index], falling, index)
-        });
-        sequence
-    }
-}
-
-/// The planner.
-pub fn plan(table: &Table) -> Plan {
-    plan_and_trials(table).0
-}
-
-/// The planner, and how many rows it tried until it had its answer.
-pub fn plan_and_trials(table: &Table) -> (Plan, u32) {
-    let refusal = check_table(table);
-    if refusal != 0 {
-        return (answer(refusal, NO_ORDER, 0), 0);
-    }
-    let load = Load::of(table);
-    let mut waiting = load.trial_sequence();
-    let mut left = u64::MAX >> (ROWS as u32 - table.n);
-    let mut order = NO_ORDER;
-    let mut trials = 0;
-    while let Some(place) = waiting.len().checked_sub(1) {
-        let passing = waiting.iter().position(|&index| {
-            trials += 1;
-            load.meets(index as usize, left)
-        });
-        let Some(position) = passing else {
-            return (answer(7, NO_ORDER, left), trials);
-        };
-        let index = waiting.remove(position);
-        left &= !(1 << index);
-        order[place] = index + 1;
-    }
-    (answer(0, order, 0), trials)
-}
-
-fn answer(number: u32, order: Order, left: u64) -> Plan {
-    Plan {
-        number,
-        order,
-        left,
-    }
-}
+/// The planner: of the two, the one that is faster on hard sheets.
+pub use crate::planners::each_place::{plan, plan_and_trials};
 
 /// The least workable speed: every speed of the range is planned, from the least
 /// on, until one has an order.
@@ -207,12 +96,18 @@ pub fn finishes(table: &Table, order: &Order) -> (u32, [u32; ROWS]) {
     if refusal != 0 {
         return (refusal, finishes);
     }
-    let load = Load::of(table);
-    let mut above = 0;
-    for &row in &order[..table.n as usize] {
+    let places = &order[..table.n as usize];
+    let mut turns = [0; ROWS];
+    for (place, &row) in places.iter().enumerate() {
+        turns[row as usize - 1] = place as u8;
+    }
+    // From the lowest place up, so that the rows left are those above and the row itself.
+    let mut left = Left::of(table, &turns[..places.len()]);
+    for (place, &row) in places.iter().enumerate().rev() {
         let index = row as usize - 1;
-        finishes[index] = load.finish(index, above);
-        above |= 1 << index;
+        let speed = sweep_speed(table.level[index]);
+        finishes[index] = left.finish(place, speed, u32::MAX);
+        left.take(place);
     }
     (0, finishes)
 }

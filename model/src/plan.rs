@@ -109,37 +109,48 @@ pub fn word_of(rows: &[u8]) -> u64 {
 /// the trial sequence that passes (rules 4.1 and 4.5). Where every row fails,
 /// the answer is 7 (rule 4.6).
 pub fn plan(table: &Table) -> Plan {
+    plan_and_trials(table).0
+}
+
+/// The planner's choice, and how many trials it takes: one for each row that is
+/// tried at a place, the one that passes among them (rules 4.2 and 4.4).
+pub fn plan_and_trials(table: &Table) -> (Plan, u32) {
     let refusal = check_table(table);
     if refusal != 0 {
-        return Plan {
+        let plan = Plan {
             number: refusal,
             order: NO_ORDER,
             left: 0,
         };
+        return (plan, 0);
     }
     let mut left: Vec<u8> = (1..=table.n as u8).collect();
     let mut placed: Vec<u8> = Vec::new();
+    let mut trials = 0;
     while !left.is_empty() {
-        let first_to_pass = trial_sequence(table, &left)
-            .into_iter()
-            .find(|&row| passes_lowest(table, &left, &placed, row));
+        let first_to_pass = trial_sequence(table, &left).into_iter().find(|&row| {
+            trials += 1;
+            passes_lowest(table, &left, &placed, row)
+        });
         match first_to_pass {
             Some(row) => {
                 left.retain(|&other| other != row);
                 placed.insert(0, row);
             }
             None => {
-                return Plan {
+                let plan = Plan {
                     number: 7,
                     order: NO_ORDER,
                     left: word_of(&left),
-                }
+                };
+                return (plan, trials);
             }
         }
     }
-    Plan {
+    let plan = Plan {
         number: 0,
         order: order_of(&placed),
         left: 0,
-    }
+    };
+    (plan, trials)
 }

@@ -2,6 +2,8 @@
 //! orders, supplies, lent bytes.
 #![allow(dead_code)]
 
+pub mod periods;
+pub mod planning;
 pub mod records;
 pub mod sheets;
 
@@ -38,6 +40,13 @@ impl<Kind: Ord + Debug> Tally<Kind> {
             let times = self.seen.get(kind).copied().unwrap_or(0);
             assert!(times >= least, "{}: {kind:?} only {times} times", self.of);
         }
+    }
+
+    /// Fails unless these came up, and no other ones.
+    pub fn assert_only(&self, kinds: &[Kind]) {
+        let seen: Vec<&Kind> = self.seen.keys().collect();
+        let expected: Vec<&Kind> = kinds.iter().collect();
+        assert_eq!(seen, expected, "{}", self.of);
     }
 }
 

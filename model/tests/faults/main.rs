@@ -1,13 +1,14 @@
 //! The faults of section 14 of the rules, but for the check of rule 14.11, each built
 //! into a planner of its own, and the smallest tables on which that planner and
-//! the true one differ. `speeds` has faults in the search for the least workable
-//! speed, `late` those of runs that drop late previews and of check 9. Run with
-//! `--nocapture` to read the tables.
+//! the true one differ. `sweeps` has faults of planners whose trials share sweeps,
+//! `speeds` faults in the search for the least workable speed, `late` those of runs
+//! that drop late previews and of check 9. Run with `--nocapture` to read the tables.
 
 mod late;
 mod planners;
 mod search;
 mod speeds;
+mod sweeps;
 
 use model::cases::{p1, p2, p3, p4, serving, table as table_of};
 use model::order::{order_of, NO_ORDER};

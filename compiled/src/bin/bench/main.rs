@@ -1,28 +1,30 @@
-//! Measures the compiled library against plain Rust by the same algorithm.
+//! Measures the compiled library against plain Rust.
 //!
 //!     cargo run --offline --release --bin bench
+//!     cargo run --offline --release --bin bench -- plans
 //!     cargo run --offline --release --bin bench -- slots
 //!     cargo run --offline --release --bin bench -- searches
 //!
 //! The headline is the ratio: the library's time divided by plain Rust's, both
 //! from this run, this machine and the same inputs. No time is asserted. With the
-//! word `slots` one slot and forward alone are timed. With the word `searches` nothing
-//! is timed: each search for a least speed is made once, for tools/plannings.sh, which
-//! counts its plannings.
+//! word `plans` planning alone is timed, with the word `slots` one slot and forward.
+//! With the word `searches` nothing is timed: each search for a least speed is made
+//! once, for tools/plannings.sh, which counts its plannings.
 
 mod pairs;
+mod plans;
 mod searches;
 mod slots;
 
 use compiled::raw::{self, TableWords};
-use compiled::sheets::{easy, hard, hard_loading};
+use compiled::sheets::hard;
 use compiled::stack;
 use model::order::{order_of, Order};
 use model::plain;
 use model::record::Record;
 use model::report::LONGEST_REPORT;
 use model::sheet::LONGEST_SHEET;
-use model::table::{Table, HI, MOST_LOADING};
+use model::table::{Table, HI};
 use std::hint::black_box;
 
 /// Row counts by which every cost is shown.
@@ -31,9 +33,16 @@ const ROW_COUNTS: [u32; 4] = [8, 16, 32, 64];
 fn main() {
     match std::env::args().nth(1).as_deref() {
         Some("searches") => searches::make_each_once(),
+        Some("plans") => measure_plans(),
         Some("slots") => measure_slots(),
         _ => measure_all(),
     }
+}
+
+/// Planning alone.
+fn measure_plans() {
+    print_conditions();
+    plans::measure();
 }
 
 /// One slot and forward alone.
@@ -49,17 +58,13 @@ fn print_conditions() {
     println!("write them whole, but of a sheet's or a report's buffer just the text. Run");
     println!("records stay in place from slot to slot; a forward call starts from a copy of a");
     println!("fresh record, and one slot about a deadline from a copy of its record, which is");
-    println!("in the time of both. K is 0 slots where it is not named; the sheets planned with");
-    println!("K of 16 slots are hard ones.");
+    println!("in the time of both. K is 0 slots where it is not named.");
     println!("Times are the best of several batches that take turns.\n");
 }
 
 fn measure_all() {
-    print_conditions();
+    measure_plans();
     pairs::print_head();
-    for_each_count(|n| measure_plan("hard", &hard(n)));
-    for_each_count(|n| measure_plan("K 16", &hard_loading(n, MOST_LOADING)));
-    for_each_count(|n| measure_plan("easy", &easy(n)));
     for_each_count(|n| measure_judge(&hard(n)));
     for_each_count(|n| measure_write(&hard(n)));
     for_each_count(|n| measure_report(&hard(n)));
@@ -97,28 +102,12 @@ impl Input {
     }
 }
 
-fn measure_plan(kind: &str, table: &Table) {
-    let (_, trials) = plain::plan_and_trials(table);
-    let what = format!("plan, {kind} ({trials} trials)");
-    let input = Input::of(table);
-    let (mut order, mut left) = ([0; 64], 0);
-    let mut library = || {
-        // SAFETY: every pointer is to memory of the size that the library names.
-        black_box(unsafe { raw::jb_plan(black_box(&input.words), &mut order, &mut left) });
-        black_box((&order, left));
-    };
-    let mut plain = || {
-        black_box(plain::plan(black_box(&input.table)));
-    };
-    pairs::measure(&what, table.n, &mut library, &mut plain);
-}
-
 fn measure_judge(table: &Table) {
     let input = Input::of(table);
     let (mut yes, mut row, mut slack) = (0, 0, 0);
     let mut library = || {
         let (words, order) = black_box((&input.words, &input.order));
-        // SAFETY: as in `measure_plan`.
+        // SAFETY: every pointer is to memory of the size that the library names.
         black_box(unsafe { raw::jb_judge(words, order, &mut yes, &mut row, &mut slack) });
         black_box((yes, row, slack));
     };
@@ -134,7 +123,7 @@ fn measure_write(table: &Table) {
     let (mut sheet, mut length) = ([0; LONGEST_SHEET], 0);
     let mut library = || {
         let (lent, room) = (sheet.as_mut_ptr(), sheet.len());
-        // SAFETY: as in `measure_plan`.
+        // SAFETY: as in `measure_judge`.
         black_box(unsafe { raw::jb_write(black_box(&input.words), lent, room, &mut length) });
         black_box((&sheet, length));
     };
@@ -152,7 +141,7 @@ fn measure_report(table: &Table) {
     let mut library = || {
         let (words, order) = black_box((&input.words, &input.order));
         let (lent, room) = (report.as_mut_ptr(), report.len());
-        // SAFETY: as in `measure_plan`.
+        // SAFETY: as in `measure_judge`.
         black_box(unsafe { raw::jb_report(words, order, lent, room, &mut length) });
         black_box((&report, length));
     };

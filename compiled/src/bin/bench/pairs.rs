@@ -57,6 +57,34 @@ pub fn measure_with_part(
     );
 }
 
+/// Prints the head of the table of calls that are measured against two in plain Rust.
+pub fn print_head_with_two(count: &str, first: &str, second: &str) {
+    println!(
+        "{:<28}{:>5}{count:>8}{:>16}{first:>16}{:>8}{second:>16}{:>8}",
+        "what", "rows", "library", "ratio", "ratio"
+    );
+}
+
+/// Measures a call and two in plain Rust that do the same on so many rows, and prints
+/// their line, with this count and the ratios of the call to either.
+pub fn measure_with_two(
+    what: &str,
+    [rows, count]: [u32; 2],
+    library: &mut dyn FnMut(),
+    first: &mut dyn FnMut(),
+    second: &mut dyn FnMut(),
+) {
+    let [of_library, of_first, of_second] = best([library, first, second]);
+    println!(
+        "{what:<28}{rows:>5}{count:>8}{:>16}{:>16}{:>8.2}{:>16}{:>8.2}",
+        in_words(of_library),
+        in_words(of_first),
+        of_library / of_first,
+        in_words(of_second),
+        of_library / of_second
+    );
+}
+
 /// Nanoseconds that each of these takes: the best of its batches, which take turns
 /// with those of the others.
 fn best<const COUNT: usize>(mut calls: [&mut dyn FnMut(); COUNT]) -> [f64; COUNT] {

@@ -1,0 +1,137 @@
+//! The planner in plain Rust, twice: `each_trial` sweeps for each row that it tries,
+//! `each_place` once for each place, for all rows that are tried there.
+//!
+//! A sweep goes through the rows left by rising release and adds up what they take:
+//! where the processor is free by the next release a busy period ends, and that is the
+//! worst finish of each row in it that stands below all others.
+//!
+//! Clocks, caps, deadlines and finishes are in slots. A row's turn is where it stands
+//! in the trial sequence, from 0 on; words have a bit for each turn.
+
+pub mod each_place;
+pub mod each_trial;
+pub mod left;
+
+use crate::order::NO_ORDER;
+use crate::plan::Plan;
+use crate::table::{check_table, Table, LATEST_DEADLINE, ROWS};
+use left::{sweep_speed, Left, Sorted};
+
+/// The trial sequence (rule 4.3), and whose turn is still to come.
+struct Trials {
+    /// The row of each turn.
+    rows: [u8; ROWS],
+    /// The turn of each row, which stands at index row - 1.
+    turns: [u8; ROWS],
+    /// The deadline of each turn's row.
+    deadlines: [u32; ROWS],
+    /// The rows left.
+    left: u64,
+    /// The rows that are tried at each speed: LO rows at N, HI rows at G.
+    tried: [u64; 2],
+}
+
+impl Trials {
+    fn of(table: &Table) -> Trials {
+        let n = table.n as usize;
+        let sequence = Sorted::by(n, |index| {
+            table.level[index] << 20 | (LATEST_DEADLINE - table.deadline[index])
+        });
+        let mut trials = Trials {
+            rows: [0; ROWS],
+            turns: [0; ROWS],
+            deadlines: [0; ROWS],
+            left: u64::MAX >> (ROWS - n),
+            tried: [0; 2],
+        };
+        for (turn, index) in sequence.indices().enumerate() {
+            trials.rows[turn] = index as u8 + 1;
+            trials.turns[index] = turn as u8;
+            trials.deadlines[turn] = table.deadline[index];
+            trials.tried[sweep_speed(table.level[index])] |= 1 << turn;
+        }
+        trials
+    }
+
+    /// The first of these rows alone, if it passes with this finish, else none.
+    fn first_if_it_passes(&self, rows: u64, finish: u32) -> u64 {
+        let turn = rows.trailing_zeros() as usize;
+        if turn < ROWS && finish <= self.deadlines[turn] {
+            1 << turn
+        } else {
+            0
+        }
+    }
+
+    /// How many rows left come no later than this turn.
+    fn up_to(&self, turn: usize) -> u32 {
+        (self.left & u64::MAX >> (ROWS - 1 - turn)).count_ones()
+    }
+
+    /// The rows left as the planner tells them (rule 4.8).
+    fn word(&self) -> u64 {
+        let turns = turns_in(self.left);
+        turns.map(|turn| 1 << (self.rows[turn] - 1)).sum()
+    }
+}
+
+/// The turns whose bits are set, first to last.
+fn turns_in(mut word: u64) -> impl Iterator<Item = usize> {
+    std::iter::from_fn(move || {
+        let turn = word.trailing_zeros() as usize;
+        word &= word.checked_sub(1)?;
+        Some(turn)
+    })
+}
+
+/// How a planner finds the row for a place.
+trait Sweeps {
+    /// Before the first place.
+    fn of(trials: &Trials, left: &Left) -> Self;
+
+    /// The first turn whose row passes.
+    fn first_to_pass(&self, trials: &Trials, left: &Left) -> Option<usize>;
+
+    /// The row that stood at `at` has its place now and is left no more.
+    fn renew(&mut self, trials: &Trials, left: &Left, at: usize);
+}
+
+/// The answer, and how many rows were tried for it. It is part of each function that
+/// calls it, so that those which only answer count nothing.
+#[inline(always)]
+fn planned<By: Sweeps>(table: &Table) -> (Plan, u32) {
+    let refusal = check_table(table);
+    if refusal != 0 {
+        return (refused(refusal, 0), 0);
+    }
+    let n = table.n as usize;
+    let mut trials = Trials::of(table);
+    let mut left = Left::of(table, &trials.turns[..n]);
+    let mut sweeps = By::of(&trials, &left);
+    let (mut order, mut tried) = (NO_ORDER, 0);
+    for place in (0..n).rev() {
+        let Some(turn) = sweeps.first_to_pass(&trials, &left) else {
+            tried += trials.left.count_ones();
+            return (refused(7, trials.word()), tried);
+        };
+        tried += trials.up_to(turn);
+        order[place] = trials.rows[turn];
+        trials.left &= !(1 << turn);
+        let at = left.take(turn);
+        sweeps.renew(&trials, &left, at);
+    }
+    let plan = Plan {
+        number: 0,
+        order,
+        left: 0,
+    };
+    (plan, tried)
+}
+
+fn refused(number: u32, left: u64) -> Plan {
+    Plan {
+        number,
+        order: NO_ORDER,
+        left,
+    }
+}
