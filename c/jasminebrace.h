@@ -50,32 +50,38 @@
  *     jb_least_normal          9,472
  *     jb_read_least_degraded   9,472
  *     jb_read_least_normal     9,472
- *     jb_judge                 8,192
- *     jb_judge_rows            9,984
- *     jb_finishes              7,168
- *     jb_report                7,936
+ *     jb_judge                 6,656
+ *     jb_judge_rows            8,448
+ *     jb_finishes              5,376
+ *     jb_report                6,400
  *     jb_fresh                 4,096
  *     jb_coming                9,216
  *     jb_slot                 11,776
  *     jb_forward              12,032
- *     jb_program              11,520
+ *     jb_program              11,776
  *     jb_version                 512
  * The functions of the last part add the few words of their own frame. jb_need and
  * jb_is_dropped_for_deadline call jb_finishes on a table of their own: they take its
  * stack and 1,360 bytes besides.
  *
  * Bare boards. The archive's code uses xmm registers by SSE and SSE2
- * instructions, and no x87, MMX or AVX. SSE must be enabled before the first
+ * instructions, and no x87, MMX or AVX. Of later instructions it has tzcnt,
+ * which older processors take for bsf: the same for all but 0, of which it is
+ * never asked. SSE must be enabled before the first
  * call: CR0.EM and CR0.TS clear, CR4.OSFXSR set. A handler that interrupts a
  * call saves and restores the xmm registers if it, or what it calls, uses them.
  * A handler that calls these functions saves and restores whatever the
  * convention lets a call change: all xmm registers too. Each call needs a stack
  * aligned to 16 bytes and a clear direction flag, as the convention asks: a
- * handler sees to both before it calls. The archive's code keeps nothing below
- * the stack pointer: it does not use the red zone of 128 bytes. The convention
- * allows it to your memcpy and memset and to your own code: if they use it, a
- * handler that interrupts them needs a stack of its own; if they do not (gcc
- * -mno-red-zone), it may run on theirs.
+ * handler sees to both before it calls. The calls that plan (jb_plan,
+ * jb_least_degraded, jb_least_normal, jb_read_least_degraded,
+ * jb_read_least_normal and jb_program) use the red zone, the 128 bytes below the
+ * stack pointer: a handler that interrupts one of them needs a stack of its own;
+ * else plan before interrupts are let in. All other calls, those of every slot
+ * among them, keep nothing below the stack pointer. The convention allows it to
+ * your memcpy and memset and to your own code too: if they use it, what was said
+ * holds of them; if they do not (gcc -mno-red-zone), a handler may run on their
+ * stack.
  * The stack figures were measured with Linux's memcpy and memset and hold no
  * frames of interrupts: add yours. tools/firmware_test.sh looks through the
  * archive's code for what is said here of registers and the red zone.

@@ -46,7 +46,7 @@ CONCLUDED = Path("crates/conclusions/specs/Conclusions.antt")
 NO_CODE = re.compile(r"""//[^\n]*|/\*.*?\*/|b?"(?:\\.|[^"\\])*"|b?'(?:\\[^\n]|[^'\\\n])'""", re.S)
 EXTERN_C = re.compile(r'\bextern\s+"C"')
 HEAD = re.compile(r"\b(pub\s+)?((?:(?:const|unsafe|extern)\s+)*)fn\s+(\w+)")
-CONTRACT = re.compile(r"\s*(requires|ensures)\s*(?=\{)")
+CONTRACT = re.compile(r"\s*(ghost|requires|ensures)(?:\s+[^\s{]+)?\s*(?=\{)")
 IMPL = re.compile(r"^impl\b[^{;]*?\b(\w+)\s*(?:<[^{]*>)?\s*\{", re.M)
 CLOSING = {"(": ")", "[": "]", "{": "}"}
 
@@ -72,10 +72,10 @@ def after_group(code, at):
 
 
 class Function:
-    """A function of a crate: its name, and where its contract stands."""
+    """A function of a crate: its name, and where its contract and its body stand."""
 
     def __init__(self, crate, path, code, head, owner):
-        self.crate, self.path = crate, path
+        self.crate, self.path, self.code = crate, path, code
         self.line = code.count("\n", 0, head.start()) + 1
         self.public = head.group(1) is not None
         self.extern = "extern" in head.group(2)
@@ -97,6 +97,7 @@ class Function:
                 at = after_group(code, at)
             else:
                 at += 1
+        self.body = at
         self.end = after_group(code, at) if at < len(code) and code[at] == "{" else at + 1
 
     def has(self, part):

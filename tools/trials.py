@@ -1,0 +1,486 @@
+#!/usr/bin/env python3
+"""A trial divides nothing, and a planning works out each need once, before its trials: looks through the source, from the loop that tries
+the rows of a place, from the loop that fills the places and from the whole planning down through every crate that they call.
+
+    trials.py              looks through crates/*/src, and lists the ways of calls from planning to needs
+    trials.py --self-test  checks that faults put into copies of the sources are found, and that what is no code is not taken for one
+
+Contracts, comments and texts are no code. A name leads to every function and constant that it may be: to all of that name in the crate and
+in what `use` brings, and that of a method to all in every crate. So more is looked through than is called, never less. It is a fault if
+
+  - what a trial or the filling of a place comes to divides, takes a remainder or names NEED;
+  - a name that is called, or a path, there or in what PLAN comes to, leads to nothing in these sources and is not among the operations
+    built into the language, or leads to a function without a body;
+  - TRIAL, PLACES, PLAN, SWEEP or NEED is not one function, or TRIAL or PLACES has no loop;
+  - the loop of TRIAL calls nothing; TRIAL is called outside of the loops of PLACES, or not in them; SWEEP is called outside of TRIAL, or not
+    in it;
+  - PLAN does not come to PLACES;
+  - PLAN comes to NEED in a function that is not among ASKING, or in one of these by no way of calls or by more than one; or around
+    the calls of such a way there is no loop, or another besides the one over the rows; or what PLAN comes to calls itself: then ways have
+    no end;
+  - a function's end or a contract is not understood.
+
+That one loop takes each row once is not looked at here: contracts say what it leaves of each row.
+
+One line is printed for each fault, and the exit status is 1 if there is any.
+"""
+
+import argparse
+import re
+import sys
+import tempfile
+from pathlib import Path
+
+# How sources are read is said in the script beside this one, and no compiled file of it is left in the tree.
+sys.path.insert(0, str(Path(__file__).resolve().parent))
+sys.dont_write_bytecode = True
+
+from entries import after_group, blanked, copied, functions_of
+
+# Its loop tries the rows of a place; the loop of the second fills the places; the third is the whole planning.
+TRIAL = "planner::first_in_time"
+PLACES = "planner::choose"
+PLAN = "planner::plan"
+# The pass over the rows left that finds a finish, and the need of a job.
+SWEEP = "planner::renew"
+NEED = "checks::need"
+# Where a planning works out needs: each row's at N, and a HI row's at G.
+ASKING = ("sweep::needs", "sweep::degraded_cap")
+
+# All that the language has besides functions of its crates; none of it divides.
+BUILT_IN = re.compile(r"[iu](8|16|32|64|size)::(MAX|MIN|leading_zeros|trailing_zeros|count_ones)|\.len")
+KEYWORDS = {"as", "break", "else", "for", "if", "in", "let", "loop", "match", "mut", "return", "while"}
+
+DIVIDES = re.compile(r"[/%]=?")
+DIVIDING_NAME = re.compile(r"(?<![a-z])(?:div|rem)(?![a-z])|multiple_of")
+PATH = re.compile(r"(?<![\w'])[A-Za-z_]\w*(?:\s*::\s*[A-Za-z_]\w*)*")
+OF_A_VALUE = re.compile(r"(?<!\.)\.\s*$")
+CALLED = re.compile(r"\s*!?\s*\(|\s*!\s*[\[{]")
+# A call of something that has no name, or whose name goes on in a way that the language does not have.
+NAMELESS = re.compile(r"[)\]]\s*\(|::\s*<")
+LOOP = re.compile(r"\b(?:while|loop|for)\b")
+GOES_ON = re.compile(r"\s*(?:(?:else\b|[-=<>!&|^+*/%.])[^{};]*)?(?=\{)")
+AFTER_ITEM = re.compile(r"\s*(?:$|[}#]|(?:pub|fn|const|struct|enum|type|impl|mod|use|ghost|extern)\b)")
+
+USE = re.compile(r"(?<!ghost )\buse\s+([^;]+);")
+BRANCH = re.compile(r"[^,{}]+(?:\{(?:[^{}]|\{[^{}]*\})*\})?")
+MODULE = re.compile(r"\bmod\s+(\w+)")
+TYPE = re.compile(r"\b(?:struct|enum|type)\s+(\w+)")
+ENUM = re.compile(r"\benum\s+\w+\s*(?=\{)")
+CONSTANT = re.compile(r"\bconst\s+(\w+)\s*:[^=]*=")
+
+
+class Part:
+    """A piece of code with a name: the body of a function, a loop of one, the value of a constant; nothing of a type or a variant."""
+
+    def __init__(self, name, path, code, start, end):
+        self.name, self.path, self.code, self.start, self.end = name, path, code, start, end
+        self.crate = path.parts[1]
+
+    def line(self, at):
+        return self.code.count("\n", 0, at) + 1
+
+    def where(self, at):
+        return f"{self.path}:{self.line(at)}"
+
+    def found(self, pattern):
+        return pattern.finditer(self.code, self.start, self.end)
+
+    def loops(self):
+        """The loops of this part, each with its head."""
+        loops = []
+        for head in self.found(LOOP):
+            at = head.end()
+            while self.code[at] != "{":
+                at = after_group(self.code, at) if self.code[at] in "([" else at + 1
+            # A head may have blocks or patterns with braces of its own before the loop's block.
+            while (more := GOES_ON.match(self.code, at)) is not None:
+                at = after_group(self.code, more.end())
+            loops.append(Part(self.name, self.path, self.code, head.start(), at))
+        return loops
+
+
+def imported(tree, before=()):
+    """The names that a `use` brings, each with its path; those of a whole module come under *."""
+    head, brace, inner = tree.partition("{")
+    written, *renamed = re.split(r"\s+as\s+", head.strip())
+    path = (*before, *re.findall(r"\w+|\*", written))
+    if brace:
+        return [name for branch in BRANCH.findall(inner.rstrip()[:-1]) if branch.strip() for name in imported(branch, path)]
+    return [(renamed[0] if renamed else path[-1], path)]
+
+
+class Crate:
+    """What the names of a crate may lead to: its own parts, those that it imports, and which words begin a path of its own."""
+
+    def __init__(self):
+        self.parts, self.imports, self.heads = {}, {}, {"Self"}
+
+    def add(self, plain, part):
+        self.parts.setdefault(plain, []).append(part)
+
+    def read(self, name, path, code):
+        """Everything in a file but its functions."""
+        for tree in USE.findall(code):
+            for plain, whole in imported(tree):
+                self.imports.setdefault(plain, []).append(whole)
+        self.heads.update(MODULE.findall(code), TYPE.findall(code))
+        known = TYPE.findall(code)
+        for enum in ENUM.finditer(code):
+            known += re.findall(r"\b[A-Z]\w*", code[enum.end() : after_group(code, enum.end())])
+        for plain in known:
+            self.add(plain, Part(f"{name}::{plain}", path, code, 0, 0))
+        for constant in CONSTANT.finditer(code):
+            end = constant.end()
+            while end < len(code) and code[end] != ";":
+                end = after_group(code, end) if code[end] in "([{" else end + 1
+            self.add(constant.group(1), Part(f"{name}::{constant.group(1)}", path, code, constant.end(), end))
+
+
+def shown(way):
+    return " > ".join(f"{part.name}:{part.line(at)}" for part, at in way)
+
+
+class Trials:
+    """The sources, the parts that trials come to, the ways from planning to the need, and the faults found so far."""
+
+    def __init__(self, root):
+        self.crates, self.functions, self.known, self.faults = {}, [], {}, []
+        self.reached, self.needs = {}, []
+        for path in sorted(root.glob("crates/*/src/**/*.rt")):
+            name, code = path.relative_to(root).parts[1], blanked(path.read_text(encoding="utf-8"))
+            self.crates.setdefault(name, Crate()).read(name, path.relative_to(root), code)
+            if (comment := code.find("--")) >= 0:
+                whole = Part(name, path.relative_to(root), code, 0, len(code))
+                self.fault(whole.where(comment), "'--' is not read here: a comment of a contract stands above its function")
+        for function in functions_of(root)[0]:
+            self.functions.append(Part(function.name, function.path, function.code, function.body, function.end))
+            self.crates[function.crate].add(function.plain, self.functions[-1])
+            if not AFTER_ITEM.match(function.code, function.end):
+                self.fault(function.where(), f"where {function.name} ends is not understood")
+
+    def fault(self, where, what):
+        self.faults.append(f"{where}: {what}")
+
+    def named(self, name):
+        """The function of this name; a fault if there is not one."""
+        found = [part for part in self.functions if part.name == name]
+        if len(found) != 1:
+            self.fault("crates", f"there are {len(found)} functions {name}, not one")
+        return found[0] if len(found) == 1 else None
+
+    def check(self):
+        trial, places, plan, sweep, need = [self.named(name) for name in (TRIAL, PLACES, PLAN, SWEEP, NEED)]
+        if None not in (trial, places, plan, sweep, need):
+            self.check_starts(trial, places, sweep)
+            self.check_trials([trial, *places.loops()])
+            self.check_planning(plan, places)
+            self.check_needs(plan)
+        return self.faults
+
+    def check_starts(self, trial, places, sweep):
+        """The trials are where this search starts, and nowhere else."""
+        for part in (trial, places):
+            if not part.loops():
+                self.fault(part.where(part.start), f"{part.name} has no loop")
+        if trial.loops() and not any(self.next(loop) for loop in trial.loops()):
+            self.fault(trial.where(trial.start), f"the loop of {TRIAL} calls nothing")
+        self.check_callers(trial, places.loops(), f"the loops of {PLACES}")
+        self.check_callers(sweep, [trial], TRIAL)
+
+    def check_callers(self, called, callers, said):
+        """A function is called in these parts, and nowhere else."""
+        inside = {(part.path, at) for part in callers for at in self.calls(part, called)}
+        if not inside:
+            self.fault("crates", f"{called.name} is not called in {said}")
+        for part in self.functions:
+            for at in self.calls(part, called):
+                if (part.path, at) not in inside:
+                    self.fault(part.where(at), f"{part.name} calls {called.name} outside of {said}")
+
+    def check_trials(self, starts):
+        self.reached = self.followed(starts)
+        for part, chain in self.reached.items():
+            for mark in part.found(DIVIDES):
+                self.fault(part.where(mark.start()), f"a trial divides ({mark.group()}): {chain}")
+            for at, name, targets in self.names(part):
+                if any(target.name == NEED for target in targets):
+                    self.fault(part.where(at), f"a trial works out a need ({name}): {chain}")
+                elif DIVIDING_NAME.search(name):
+                    self.fault(part.where(at), f"a trial divides ({name}): {chain}")
+                elif not targets:
+                    self.fault(part.where(at), f"a trial uses {name}, which cannot be followed: {chain}")
+
+    def check_planning(self, plan, places):
+        """Planning comes to the trials, and all that it comes to can be followed."""
+        followed = self.followed([plan])
+        for part, chain in followed.items():
+            if part in self.functions and part.code[part.start] != "{":
+                self.fault(part.where(part.start), f"{part.name} has no body: {chain}")
+            for at, name, targets in self.names(part):
+                if not targets and part not in self.reached:
+                    self.fault(part.where(at), f"planning uses {name}, which cannot be followed: {chain}")
+        if places not in followed:
+            self.fault(plan.where(plan.start), f"{PLAN} does not come to {PLACES}")
+
+    def check_needs(self, plan):
+        """One way of calls leads to each place where planning works out needs, and one loop is on it."""
+        self.needs = list(self.ways(plan, (plan,), ()))
+        for way in self.needs:
+            part, at = way[-1]
+            if part.name not in ASKING:
+                self.fault(part.where(at), f"{part.name} works out needs of a planning besides {' and '.join(ASKING)}: {shown(way)}")
+            loops = sum(loop.start <= at < loop.end for part, at in way for loop in part.loops())
+            if loops != 1:
+                self.fault(part.where(at), f"{loops} loops, not one, are around a need: {shown(way)}")
+        for name in ASKING:
+            ways = [shown(way) for way in self.needs if way[-1][0].name == name]
+            if len(ways) != 1:
+                self.fault("crates", f"{len(ways)} ways, not one, lead from {PLAN} to {NEED} in {name}: {'; '.join(ways) or 'none'}")
+
+    def followed(self, starts):
+        """Every part that these may come to, they among them, each with the names on the way there."""
+        chains, waiting = {part: part.name for part in starts}, list(starts)
+        while waiting:
+            part = waiting.pop(0)
+            for target in self.next(part):
+                if target not in chains:
+                    chains[target] = f"{chains[part]} > {target.name}"
+                    waiting.append(target)
+        return chains
+
+    def ways(self, part, entered, before):
+        """Every way of calls to the need, as the functions and places of the calls."""
+        for at, _, targets in self.names(part):
+            way = (*before, (part, at))
+            for target in targets:
+                if target.name == NEED:
+                    yield way
+                elif target in entered:
+                    self.fault(part.where(at), f"planning comes back to {target.name}: {shown(way)}")
+                else:
+                    yield from self.ways(target, (*entered, target), way)
+
+    def calls(self, part, called):
+        """The places in a part where a function may be called."""
+        return [at for at, _, targets in self.names(part) if called in targets]
+
+    def next(self, part):
+        """The parts with code that a part may come to at once."""
+        return [target for _, _, targets in self.names(part) for target in targets if target.end > 0]
+
+    def names(self, part):
+        """The names in a part that lead to others, and those that should and lead to none: place, name, and where it leads."""
+        if part not in self.known:
+            self.known[part] = [(mark.start(), mark.group(), []) for mark in part.found(NAMELESS)]
+            self.known[part] += filter(None, (self.name(part, found) for found in part.found(PATH)))
+        return self.known[part]
+
+    def name(self, part, found):
+        path = tuple(re.findall(r"\w+", found.group()))
+        called = CALLED.match(part.code, found.end()) is not None and path[0] not in KEYWORDS
+        if not OF_A_VALUE.search(part.code, part.start, found.start()):
+            written, targets = "::".join(path), self.targets(part.crate, path)
+        elif called:
+            written, targets = f".{path[0]}", [target for crate in self.crates.values() for target in crate.parts.get(path[0], [])]
+        else:
+            # A field.
+            return None
+        leads = called or len(path) > 1
+        return (found.start(), written, targets) if targets or (leads and not BUILT_IN.fullmatch(written)) else None
+
+    def targets(self, name, path, used=frozenset()):
+        """All that a path written in the crate of this name may lead to, by its own names and by imports that are not used yet."""
+        crate = self.crates[name]
+        while len(path) > 1 and path[0] in ("crate", "self", "super"):
+            path = path[1:]
+        found = list(crate.parts.get(path[-1], [])) if len(path) == 1 or path[0] in crate.heads else []
+        if len(path) > 1 and path[0] in self.crates:
+            found += self.targets(path[0], path[1:], used)
+        for plain, whole in [(plain, whole) for plain in (path[0], "*") for whole in crate.imports.get(plain, [])]:
+            if (name, plain, whole) not in used:
+                goes_on = whole[:-1] + path if plain == "*" else whole + path[1:]
+                found += self.targets(name, goes_on, used | {(name, plain, whole)})
+        return list(dict.fromkeys(found))
+
+
+# ---- self-test
+
+# What a planning works out before its trials.
+PREPARE = "planner::prepare"
+
+
+def changed(name, change):
+    """An edit of a function: what stands before its body, its body, and what stands after it are put together anew."""
+    def put(folder):
+        part = Trials(folder).named(name)
+        text = (folder / part.path).read_text(encoding="utf-8")
+        (folder / part.path).write_text(change(text[: part.start], text[part.start : part.end], text[part.end :]), encoding="utf-8")
+    return put
+
+
+def first(name, code):
+    """Code at the beginning of a function."""
+    return changed(name, lambda before, body, after: f"{before}{{ {code} {body[1:]}{after}")
+
+
+def becomes(name, body):
+    """Another body of a function."""
+    return changed(name, lambda before, _, after: before + body + after)
+
+
+def with_clause(name, clause):
+    """One more clause of a function's contract."""
+    return changed(name, lambda before, body, after: f"{before}{clause}\n{body}{after}")
+
+
+def looped(name, code):
+    """Code at the beginning of a function's first loop."""
+    def put(folder):
+        loop = Trials(folder).named(name).loops()[0]
+        text = (folder / loop.path).read_text(encoding="utf-8")
+        at = loop.code.index("{", loop.start) + 1
+        (folder / loop.path).write_text(f"{text[:at]} {code} {text[at:]}", encoding="utf-8")
+    return put
+
+
+def added(crate, code, file="lib.rt"):
+    """Code at the end of a crate's file, which is made if there is none."""
+    def put(folder):
+        with (folder / "crates" / crate / "src" / file).open("a", encoding="utf-8") as source:
+            source.write(f"\n{code}\n")
+    return put
+
+
+def edits():
+    """Name of a fault, what puts it into a copy, and the pieces of what must be said of it."""
+    crate, sweep = SWEEP.split("::")
+    planner, trial = TRIAL.split("::")
+    rows, high = ASKING
+    hidden = "fn hidden(work: u32) -> u32\n    ensures { λ r. ⌜ r ≡ r ⌝ }\n{\n    checks::need(0, work, 1)\n}"
+    halved = "impl Table { fn halved(self) -> u32 { self.n / 2 } }"
+    return [
+        ("a division in the trial", [looped(TRIAL, "let a = 7 / 2;")], f"a trial divides (/): {TRIAL}"),
+        ("a division beside the trial", [looped(PLACES, "let mut a = 7; a /= 2;")], f"a trial divides (/=): {PLACES}"),
+        ("a division in a loop's head", [first(PLACES, "while (S { a: 1 }).a < 7 / 2 {}")], f"a trial divides (/): {PLACES}"),
+        ("a division after a head's braces", [first(PLACES, "while let S { a } = b { let c = 7 / 2; }")], f"a trial divides (/): {PLACES}"),
+        ("a remainder in the sweep", [first(SWEEP, "let mut a = 7; a %= 2;")], f"a trial divides (%=): .. > {SWEEP}"),
+        ("a remainder two crates down", [first(SWEEP, "checks::odd(7);"), added("checks", "pub fn odd(a: u32) -> u32 { a % 2 }")],
+         f"crates/checks/src/lib.rt .. a trial divides (%): .. > {SWEEP} > checks::odd"),
+        ("a division in a constant", [first(SWEEP, "for a in 0..HALF[0] {}"), added(crate, "const HALF: [u32; 1] = [64 / 2];")],
+         f"a trial divides (/): .. > {SWEEP} > {crate}::HALF"),
+        ("a division in a method", [first(SWEEP, "let a = t.halved();"), added("rules", halved)],
+         f"a trial divides (/): .. > {SWEEP} > Table::halved"),
+        ("a call that divides", [first(SWEEP, "let a = u32::div_euclid(7, 2);")], "a trial divides (u32::div_euclid)"),
+        ("a method that divides", [first(SWEEP, "let a = 7.is_multiple_of(2);")], "a trial divides (.is_multiple_of)"),
+        ("the need in the sweep", [first(SWEEP, "checks::need(0, 1, 1);")], f"a trial works out a need (checks::need): .. > {SWEEP}"),
+        ("the need behind a new function", [first(SWEEP, "hidden(1);"), added(crate, hidden)],
+         f"a trial works out a need (checks::need): .. > {SWEEP} > {crate}::hidden"),
+        ("the need in another file", [first(SWEEP, "crate::more::hidden(1);"), added(crate, "mod more;"), added(crate, hidden, "more.rt")],
+         f"crates/{crate}/src/more.rt:5: a trial works out a need"),
+        ("the need under another name", [first(SWEEP, "slots(0, 1, 1);"), added(crate, "use checks::{need as slots};")],
+         f"a trial works out a need (slots): .. > {SWEEP}"),
+        ("the need from a whole crate", [first(SWEEP, "(need)(0, 1, 1);"), added(crate, "use checks::*;")],
+         f"a trial works out a need (need): .. > {SWEEP}"),
+        ("the need from a crate between", [first(SWEEP, "rules::slots(0, 1, 1);"), added("rules", "pub use checks::need as slots;")],
+         f"a trial works out a need (rules::slots): .. > {SWEEP}"),
+        ("a call into no crate of these", [first(SWEEP, f"io::{sweep}(1);")], f"a trial uses io::{sweep}, which cannot be followed"),
+        ("a call of an unknown name", [first(SWEEP, "unknown(1);")], f"a trial uses unknown, which cannot be followed: .. > {SWEEP}"),
+        ("a method of an unknown name", [first(SWEEP, "left.unknown(1);")], "a trial uses .unknown, which cannot be followed"),
+        ("a constant of no crate of these", [first(SWEEP, "let a = io::LIMIT;")], "a trial uses io::LIMIT, which cannot be followed"),
+        ("a macro", [first(SWEEP, "unknown!(left);")], "a trial uses unknown, which cannot be followed"),
+        ("a call with types", [first(SWEEP, "unknown::<u8>(1);")], "a trial uses ::<, which cannot be followed"),
+        ("a call of no name", [first(SWEEP, "(left)(1);")], "a trial uses )(, which cannot be followed"),
+        ("an unknown call in planning", [first(PLAN, "unknown(1);")], f"planning uses unknown, which cannot be followed: {PLAN}"),
+        ("the trial under another name", [changed(TRIAL, lambda a, body, b: a.replace(f"fn {trial}", "fn other") + body + b)],
+         f"there are 0 functions {TRIAL}, not one"),
+        ("two trials of one name", [added(planner, f"mod more {{ fn {trial}() {{}} }}")], f"there are 2 functions {TRIAL}, not one"),
+        ("a trial without a loop", [becomes(TRIAL, "{ checks::and_then() }")], f"{TRIAL} has no loop"),
+        ("a trial that calls nothing", [becomes(TRIAL, "{ while true { rules::Check::Passed; } }")], f"the loop of {TRIAL} calls nothing"),
+        ("a trial that does not sweep", [becomes(TRIAL, "{ while true { checks::and_then(); } }")], f"{SWEEP} is not called in {TRIAL}"),
+        ("a sweep elsewhere", [looped(PLACES, f"{sweep}(t);")], f"{PLACES} calls {SWEEP} outside of {TRIAL}"),
+        ("a sweep from another crate", [first("judge::timed", f"{crate}::{sweep}(t);")], f"judge::timed calls {SWEEP} outside of {TRIAL}"),
+        ("a trial elsewhere", [first(PLAN, f"{trial}(t);")], f"{PLAN} calls {TRIAL} outside of the loops of {PLACES}"),
+        ("a trial before the places", [first(PLACES, f"{trial}(t);")], f"{PLACES} calls {TRIAL} outside of the loops of {PLACES}"),
+        ("places without trials", [becomes(PLACES, "{ while true {} }")], f"{TRIAL} is not called in the loops of {PLACES}"),
+        ("places without a loop", [becomes(PLACES, "{ }")], f"{PLACES} has no loop"),
+        ("a planning without places", [becomes(PLAN, "{ }")], f"{PLAN} does not come to {PLACES}"),
+        ("a planning without needs", [becomes(PLAN, "{ }")], f"0 ways, not one, lead from {PLAN} to {NEED} in {rows}"),
+        ("needs at N twice", [first(PREPARE, "let a = sweep::needs(1);")], f"2 ways, not one, lead from {PLAN} to {NEED} in {rows}"),
+        ("a preparation twice", [first(PLACES, "let a = prepare(t);")], f"2 ways, not one, lead from {PLAN} to {NEED} in {high}"),
+        ("a row's need twice", [looped(rows, "checks::need(0, 1, 1);")], f"2 ways, not one, lead from {PLAN} to {NEED} in {rows}"),
+        ("a HI row's need twice", [first(high, "checks::need(0, 1, 1);")], f"2 ways, not one, lead from {PLAN} to {NEED} in {high}"),
+        ("a need in the preparation", [first(PREPARE, "checks::need(0, 1, 1);")],
+         f"{PREPARE} works out needs of a planning besides {rows} and {high}: {PLAN}"),
+        ("needs at N in a loop", [becomes(PREPARE, "{ while true { sweep::needs(1); } sweep::degraded_caps(1) }")],
+         f"2 loops, not one, are around a need: {PLAN} .. {rows}"),
+        ("a need of one row", [becomes(rows, "{ checks::need(0, 1, 1) }")], f"0 loops, not one, are around a need: {PLAN} .. {rows}"),
+        ("a planning that calls itself", [first(PREPARE, "plan(t);")], f"planning comes back to {PLAN}: {PLAN} .. {PREPARE}"),
+        ("a sweep without a body", [becomes(SWEEP, ";")], f"{SWEEP} has no body: {PLAN}"),
+        ("a preparation without a body", [becomes(PREPARE, ";")], f"{PREPARE} has no body: {PLAN}"),
+        ("a contract of another kind", [with_clause(SWEEP, "keeps { 0 }")], f"where {SWEEP} ends is not understood"),
+        ("a comment in a contract", [with_clause(SWEEP, "ensures { 0 -- {\n }")], f"crates/{crate}/src/lib.rt .. '--' is not read here"),
+    ]
+
+
+def no_faults():
+    """What is no fault, and what puts it into a copy."""
+    crate = SWEEP.split("::")[0]
+    clauses = "ghost { 7 / 2 } requires { checks::need 7 } ensures named { ⟦checks::need(0, 1, 1)⟧ { 7 % 2 } }"
+    return [
+        ("nothing", []),
+        ("comments and texts", [first(SWEEP, "/* 7 / 2 { */ let a = b\"checks::need(7 % 2) }\"; // unknown(7 / 2)\n let b = b'/';")]),
+        ("contracts", [with_clause(SWEEP, clauses)]),
+        ("built-in operations", [first(SWEEP, "let a = u64::trailing_zeros(left) >> u32::MIN; let b = queue.len();")]),
+        ("brackets after words of the language", [first(SWEEP, "if (n > 0) & !(n > 64) { return (n); }")]),
+        ("a value of an enum", [first(SWEEP, "let a = C::Refused(rules::Refusal::NoRoom);"), added(crate, "use rules::Check as C;")]),
+        ("divisions outside of trials", [first(PLAN, f"let a = {crate}::half(7) / 2;"), added(crate, "fn half(a: u32) -> u32 { a / 2 }")]),
+    ]
+
+
+def faults_of(root, puts):
+    """The faults of a copy with these edits."""
+    with tempfile.TemporaryDirectory() as folder:
+        copied(root, Path(folder))
+        for put in puts:
+            put(Path(folder))
+        return Trials(Path(folder)).check()
+
+
+def self_test(root):
+    missed, wrong = 0, 0
+    for name, puts, told in edits():
+        if not any(all(piece in fault for piece in told.split(" .. ")) for fault in faults_of(root, puts)):
+            missed += 1
+            print(f"self-test: not found: {name}")
+    for name, puts in no_faults():
+        if faults := faults_of(root, puts):
+            wrong += 1
+            print(f"self-test: taken for a fault: {name}: {faults[0]}")
+    faulty, sound = len(edits()), len(no_faults())
+    print(f"trials: {faulty - missed} of {faulty} faults put in were found, {sound - wrong} of {sound} copies without one passed")
+    return missed + wrong
+
+
+def main():
+    parser = argparse.ArgumentParser(description="Looks for divisions and needs in what a trial calls.")
+    parser.add_argument("--self-test", action="store_true", help="check that faults put into copies are found")
+    arguments = parser.parse_args()
+    root = Path(__file__).resolve().parent.parent
+    if arguments.self_test:
+        return 1 if self_test(root) else 0
+    trials = Trials(root)
+    faults = trials.check()
+    for fault in faults:
+        print(fault)
+    if not faults:
+        names = sorted({part.name for part in trials.reached})
+        print(f"trials: no division, no need and nothing unknown in {', '.join(names)}")
+        print(f"trials: {len(trials.needs)} ways of calls lead from {PLAN} to a need, one to each place where it is worked out")
+        for way in trials.needs:
+            print(f"  {shown(way)}")
+    return 1 if faults else 0
+
+
+if __name__ == "__main__":
+    sys.exit(main())
