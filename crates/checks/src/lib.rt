@@ -1,4 +1,4 @@
-// The need of a job (rules 1.8, 1.10), checks 3, 4, 11, 5 and 6 on tables and orders (section 5 of the rules), and check 10 on lent bytes
+// The need of a job (rules 1.8, 1.10), checks 3, 4, 11, 5, 12 and 6 on tables and orders (section 5 of the rules), and check 10 on lent bytes
 // (rule 10.10).
 ghost use mathlib.Core.Path.{_≡_};
 ghost use mathlib.Core.Bool.{_&&_};
@@ -8,19 +8,23 @@ ghost use lib.ListN.{length, getD, drop};
 ghost use Rattle.rules.specs.Lists.{all, allZero, count, rowsTo};
 ghost use Rattle.rules.specs.Need.{workSlots, need};
 ghost use Rattle.rules.specs.Rows.{rowsOf};
-ghost use Rattle.rules.specs.Tables.{countOk, speedsOk, loadingOk, rowOk, tailOk, checkTable};
+ghost use Rattle.rules.specs.Tables.{countOk, speedsOk, loadingOk, rowOk, promiseOk, tailOk, checkTable};
 ghost use Rattle.rules.specs.Orders.{checkOrder, andThen, checkBoth};
 ghost use Rattle.rules.specs.Lent.{checkRoom};
-ghost use Rattle.checks.specs.Limits.{limitsOk};
+ghost use Rattle.checks.specs.Limits.{limitsOk, partOk};
 use rules::Check;
 use rules::Refusal;
 use rules::Table;
 
-// The slots that work units take at speed work units per slot: the quotient, and one more for a rest. 0 at speed 0.
+// The slots that work units take at speed work units per slot: the quotient, and one more for a rest. 0 at speed 0, and 0 for no work, which is
+// not divided.
 fn work_slots(work: u32, speed: u32) -> u32
     ensures { λ r. ⌜ r ≡ workSlots work speed ⌝ }
 {
     if speed == 0 {
+        return 0;
+    }
+    if work == 0 {
         return 0;
     }
     if work % speed == 0 {
@@ -82,6 +86,32 @@ fn rows_ok(t: Table) -> bool
     true
 }
 
+// A row promises what it may: no more than its work, in work units, and nothing if its level is not LO.
+fn promise_ok(work: u32, level: u32, promised: u32) -> bool
+    ensures { λ r. ⌜ r ≡ partOk work level promised ⌝ }
+{
+    if work < promised {
+        return false;
+    }
+    if level == 0 { true } else { promised == 0 }
+}
+
+// Each of the first n rows promises what it may.
+fn promises_ok(t: Table) -> bool
+    requires { ⌜ t .n ≤ 64 ⌝ }
+    ensures { λ r. ⌜ r ≡ all (promiseOk t) (rowsOf t) ⌝ }
+{
+    let n = t.n as usize;
+    let mut k: usize = 0;
+    while k < n {
+        if !promise_ok(t.work[k], t.level[k], t.promised[k]) {
+            return false;
+        }
+        k += 1;
+    }
+    true
+}
+
 // Whether the column's entries after row n are all zero.
 pub fn zero_after(n: u32, column: &[u32; 64]) -> bool
     requires { ⌜ length (now column) ≡ 64 ⌝ }
@@ -111,10 +141,13 @@ fn tail_ok(t: Table) -> bool
     if !zero_after(n, &t.deadline) {
         return false;
     }
-    zero_after(n, &t.level)
+    if !zero_after(n, &t.level) {
+        return false;
+    }
+    zero_after(n, &t.promised)
 }
 
-// Checks 3, 4, 11 and 5 on any table.
+// Checks 3, 4, 11, 5 and 12 on any table.
 pub fn check_table(t: Table) -> Check
     ensures { λ r. ⌜ r ≡ checkTable t ⌝ }
 {
@@ -132,6 +165,9 @@ pub fn check_table(t: Table) -> Check
     }
     if !tail_ok(t) {
         return Check::Refused(Refusal::RowLimits);
+    }
+    if !promises_ok(t) {
+        return Check::Refused(Refusal::Promised);
     }
     Check::Passed
 }

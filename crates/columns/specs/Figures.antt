@@ -1,6 +1,6 @@
 -- A row's figures apart from its table and record: what the code tests of one row and of the columns. That it is what
 -- the definitions say of a record's row is shown above, in record/specs/Sound and in the proofs of the record's functions.
-use Prim.Native.Nat.{ℕ, _+_, _-_, _≤_, _<_}
+use Prim.Native.Nat.{ℕ, _+_, _-_, _≤_, _<_, max}
 use mathlib.Core.Bool.{Bool, true, false, cond, not, _&&_, _||_}
 use mathlib.Core.List.{List}
 use mathlib.Core.Path.{_≡_, _∙_}
@@ -12,10 +12,10 @@ use Rattle.rules.specs.Need.{need}
 use Rattle.rules.specs.Rows.{at}
 use Rattle.theory.specs.Tests.{by-bool, by-eqb, and-left, and-right, and-false, not-is}
 
--- a row of this work, level, speed N and loading is over with these work units got and slots used: done, or LO with its allowance used up
--- (rules 2.6, 2.7)
-unfoldable pub over : ℕ → ℕ → ℕ → ℕ → ℕ → ℕ → Bool
-over work level normal loading got used = eqb got work || (eqb level 0 && leb (need loading work normal) used)
+-- a row of this work, level, promised part, speeds N and G and loading is over with these work units got and slots used: done, or LO with its
+-- allowance used up (rules 1.9, 2.6, 2.7)
+unfoldable pub over : ℕ → ℕ → ℕ → ℕ → ℕ → ℕ → ℕ → ℕ → Bool
+over work level promised normal degraded loading got used = eqb got work || (eqb level 0 && leb (max (need loading work normal) (need loading promised degraded)) used)
 
 -- what is asked of a row's closing slot at this clock, of a row that is over or is not: an open row is neither over nor due, and a closed one
 -- is over, or LO and closed at its deadline (rules 8.6, 8.7, 19.2)
@@ -24,28 +24,28 @@ closingSound ended deadline level clock closing =
     cond (eqb closing 0) (not ended && not (eqb level 0 && leb deadline clock)) (ended || (eqb level 0 && eqb closing deadline))
 
 -- its figures are sound at this clock (rules 8.6, 8.7)
-unfoldable pub soundAt : ℕ → ℕ → ℕ → ℕ → ℕ → ℕ → ℕ → ℕ → ℕ → Bool
-soundAt work deadline level normal loading clock got used closing =
+unfoldable pub soundAt : ℕ → ℕ → ℕ → ℕ → ℕ → ℕ → ℕ → ℕ → ℕ → ℕ → ℕ → Bool
+soundAt work deadline level promised normal degraded loading clock got used closing =
     leb got work
     && leb used clock
     && leb closing clock
-    && closingSound (over work level normal loading got used) deadline level clock closing
+    && closingSound (over work level promised normal degraded loading got used) deadline level clock closing
 
 -- the same, as facts
-pub record Sound (work deadline level normal loading clock got used closing : ℕ) : Type 0 where
+pub record Sound (work deadline level promised normal degraded loading clock got used closing : ℕ) : Type 0 where
   pub most : got ≤ work
   pub used-by : used ≤ clock
   pub closed-by : closing ≤ clock
-  pub open-or-closed : closingSound (over work level normal loading got used) deadline level clock closing ≡ true
+  pub open-or-closed : closingSound (over work level promised normal degraded loading got used) deadline level clock closing ≡ true
 
-module _ (work deadline level normal loading clock got used closing : ℕ) where
+module _ (work deadline level promised normal degraded loading clock got used closing : ℕ) where
   abbrev first-three : Bool
   first-three = leb got work && leb used clock && leb closing clock
 
   abbrev fourth : Bool
-  fourth = closingSound (over work level normal loading got used) deadline level clock closing
+  fourth = closingSound (over work level promised normal degraded loading got used) deadline level clock closing
 
-  pub sound-facts : soundAt work deadline level normal loading clock got used closing ≡ true → Sound work deadline level normal loading clock got used closing
+  pub sound-facts : soundAt work deadline level promised normal degraded loading clock got used closing ≡ true → Sound work deadline level promised normal degraded loading clock got used closing
   unfolding soundAt
   sound-facts e =
       let three = and-left first-three fourth e in
@@ -57,7 +57,7 @@ module _ (work deadline level normal loading clock got used closing : ℕ) where
         open-or-closed = and-right first-three fourth e;
       }
 
-  pub sound-test : Sound work deadline level normal loading clock got used closing → soundAt work deadline level normal loading clock got used closing ≡ true
+  pub sound-test : Sound work deadline level promised normal degraded loading clock got used closing → soundAt work deadline level promised normal degraded loading clock got used closing ≡ true
   unfolding soundAt
   sound-test f = rw (le-leb got work (f .most), le-leb used clock (f .used-by), le-leb closing clock (f .closed-by)) (f .open-or-closed)
 
@@ -106,12 +106,12 @@ looked-by deadline level clock closing l =
     by-bool (eqb closing 0 && (eqb level 0 && leb deadline clock)) (λ e. rw e (omega arith)) (λ e. rw e l)
 
 -- a slot in which another row runs, or none, and the look at the clock after it leave the figures sound (rules 8.16, 19.2)
-pub sound-later : (work deadline level normal loading clock got used closing : ℕ)
-    → soundAt work deadline level normal loading clock got used closing ≡ true
-    → Sound work deadline level normal loading (clock + 1) got used (looked deadline level (clock + 1) closing)
-sound-later work deadline level normal loading clock got used closing e =
-    let f = sound-facts work deadline level normal loading clock got used closing e in
-    let ended = over work level normal loading got used in
+pub sound-later : (work deadline level promised normal degraded loading clock got used closing : ℕ)
+    → soundAt work deadline level promised normal degraded loading clock got used closing ≡ true
+    → Sound work deadline level promised normal degraded loading (clock + 1) got used (looked deadline level (clock + 1) closing)
+sound-later work deadline level promised normal degraded loading clock got used closing e =
+    let f = sound-facts work deadline level promised normal degraded loading clock got used closing e in
+    let ended = over work level promised normal degraded loading got used in
     record {
       most = f .most;
       used-by = omega arith;
@@ -126,15 +126,15 @@ sound-later work deadline level normal loading clock got used closing e =
 
 -- So do a slot in which the row runs and the look after it: the row, open and sound before, closes if it is over, and else if its deadline has
 -- come (rules 2.10, 8.16, 19.2, 19.3). It has got g work units after the slot.
-pub sound-run : (work deadline level normal loading clock got used closing g : ℕ)
-    → soundAt work deadline level normal loading clock got used closing ≡ true → closing ≡ 0 → g ≤ work
-    → Sound work deadline level normal loading (clock + 1) g (used + 1)
-    (looked deadline level (clock + 1) (cond (over work level normal loading g (used + 1)) (clock + 1) 0))
-sound-run work deadline level normal loading clock got used closing g e q l =
-    let f = sound-facts work deadline level normal loading clock got used closing e in
-    let o = open-so (over work level normal loading got used) deadline level clock (rw q at (f .open-or-closed)) in
+pub sound-run : (work deadline level promised normal degraded loading clock got used closing g : ℕ)
+    → soundAt work deadline level promised normal degraded loading clock got used closing ≡ true → closing ≡ 0 → g ≤ work
+    → Sound work deadline level promised normal degraded loading (clock + 1) g (used + 1)
+    (looked deadline level (clock + 1) (cond (over work level promised normal degraded loading g (used + 1)) (clock + 1) 0))
+sound-run work deadline level promised normal degraded loading clock got used closing g e q l =
+    let f = sound-facts work deadline level promised normal degraded loading clock got used closing e in
+    let o = open-so (over work level promised normal degraded loading got used) deadline level clock (rw q at (f .open-or-closed)) in
     let later = ne-eqb (clock + 1) 0 (λ z. omega arith) in
-    by-bool (over work level normal loading g (used + 1))
+    by-bool (over work level promised normal degraded loading g (used + 1))
     (λ z. rw (z, later) (record { most = l; used-by = omega arith; closed-by = omega arith; open-or-closed = rw (z, later) }))
     (λ z.
     rw z
@@ -146,15 +146,15 @@ sound-run work deadline level normal loading clock got used closing g e q l =
     }))
 
 -- row i's figures in the columns are sound (rules 8.6, 8.7)
-abbrev pub rowSoundAt : ℕ → ℕ → ℕ → List ℕ → List ℕ → List ℕ → List ℕ → List ℕ → List ℕ → ℕ → Bool
-rowSoundAt normal loading clock work deadline level got used closing i =
-    soundAt (at work i) (at deadline i) (at level i) normal loading clock (at got i) (at used i) (at closing i)
+abbrev pub rowSoundAt : ℕ → ℕ → ℕ → ℕ → List ℕ → List ℕ → List ℕ → List ℕ → List ℕ → List ℕ → List ℕ → ℕ → Bool
+rowSoundAt normal degraded loading clock work deadline level promised got used closing i =
+    soundAt (at work i) (at deadline i) (at level i) (at promised i) normal degraded loading clock (at got i) (at used i) (at closing i)
 
 -- row i + 1 stands at index i of each column
-pub row-next : (normal loading clock : ℕ) (work deadline level got used closing : List ℕ) (i : ℕ)
-    → rowSoundAt normal loading clock work deadline level got used closing (i + 1)
-    ≡ soundAt (getD work i 0) (getD deadline i 0) (getD level i 0) normal loading clock (getD got i 0) (getD used i 0) (getD closing i 0)
-row-next normal loading clock work deadline level got used closing i = let e : i + 1 - 1 ≡ i = omega arith in rw e
+pub row-next : (normal degraded loading clock : ℕ) (work deadline level promised got used closing : List ℕ) (i : ℕ)
+    → rowSoundAt normal degraded loading clock work deadline level promised got used closing (i + 1)
+    ≡ soundAt (getD work i 0) (getD deadline i 0) (getD level i 0) (getD promised i 0) normal degraded loading clock (getD got i 0) (getD used i 0) (getD closing i 0)
+row-next normal degraded loading clock work deadline level promised got used closing i = let e : i + 1 - 1 ≡ i = omega arith in rw e
 
 -- row i of n is ready: released at the clock, and open (rule 2.2)
 abbrev pub readyAt : ℕ → ℕ → List ℕ → List ℕ → ℕ → Bool

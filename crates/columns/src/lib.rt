@@ -3,7 +3,7 @@
 // slots are in slots; work and supplies are in work units, speeds in work units per slot. Nothing here divides: a slot asks for no quotient.
 ghost use mathlib.Core.Path.{_≡_};
 ghost use mathlib.Core.Bool.{cond, _&&_, _||_};
-ghost use Prim.Native.Nat.{_+_, _≤_, _<_, min};
+ghost use Prim.Native.Nat.{_+_, _≤_, _<_, max, min};
 ghost use lib.Dec.{eqb, leb};
 ghost use lib.ListN.{getD};
 ghost use Rattle.rules.specs.Lists.{rowsTo, all, first};
@@ -14,29 +14,56 @@ ghost use Rattle.columns.specs.Figures.{over, soundAt, rowSoundAt, ready
 ghost use Rattle.columns.specs.Dues.{dueClock, firstDue};
 ghost use Rattle.columns.specs.Places.{Placed};
 
-// Whether a row of this work has used its need at N, in slots (rules 1.8, 1.10): it has loaded, and at N work units each the slots after
-// that bring its work. The product is at most 2,000,000 slots times 1,000 work units per slot, so it fits.
-fn need_used(work: u32, normal: u32, loading: u32, used: u32) -> bool
-    requires { ⌜ (1 ≤ normal) × (normal ≤ 1000) × (used ≤ 2000000) ⌝ }
-    ensures { λ b. ⌜ b ≡ leb (need loading work normal) used ⌝ }
+// Whether a row has used the need of this work at this speed, in slots (rules 1.8, 1.10): it has loaded, and at that speed the slots after
+// that bring the work. The product is at most 2,000,000 slots times 1,000 work units per slot, so it fits.
+fn need_used(work: u32, speed: u32, loading: u32, used: u32) -> bool
+    requires { ⌜ (1 ≤ speed) × (speed ≤ 1000) × (used ≤ 2000000) ⌝ }
+    ensures { λ b. ⌜ b ≡ leb (need loading work speed) used ⌝ }
 {
     if used < loading {
         return false;
     }
-    work <= (used - loading) * normal
+    work <= (used - loading) * speed
 }
 
-// Whether a row of this work and level is over: done, having got its work (rule 2.6), or LO with its allowance, the need at N, used up
-// (rules 1.9, 2.7).
-fn is_over(work: u32, level: u32, normal: u32, loading: u32, got: u32, used: u32) -> bool
-    requires { ⌜ (1 ≤ normal) × (normal ≤ 1000) × (used ≤ 2000000) ⌝ }
-    ensures { λ b. ⌜ b ≡ over work level normal loading got used ⌝ }
+// Whether a LO row has used up its allowance: the need of its work at N and that of its promised part at G, both (rule 1.9).
+fn allowance_used(
+    work: u32,
+    promised: u32,
+    normal: u32,
+    degraded: u32,
+    loading: u32,
+    used: u32,
+) -> bool
+    requires { ⌜ (1 ≤ degraded) × (degraded ≤ normal) × (normal ≤ 1000) × (used ≤ 2000000) ⌝ }
+    ensures { λ b. ⌜ b ≡ leb (max (need loading work normal) (need loading promised degraded)) used ⌝ }
+{
+    if need_used(work, normal, loading, used) {
+        need_used(promised, degraded, loading, used)
+    } else {
+        false
+    }
+}
+
+// Whether a row is over: done, having got its work (rule 2.6), or LO with its allowance used up (rule 2.7).
+fn is_over(
+    work: u32,
+    level: u32,
+    promised: u32,
+    normal: u32,
+    degraded: u32,
+    loading: u32,
+    got: u32,
+    used: u32,
+) -> bool
+    requires { ⌜ (1 ≤ degraded) × (degraded ≤ normal) × (normal ≤ 1000) × (used ≤ 2000000) ⌝ }
+    ensures { λ b. ⌜ b ≡ over work level promised normal degraded loading got used ⌝ }
 {
     if got == work {
         return true;
     }
     if level == 0 {
-        need_used(work, normal, loading, used)
+        allowance_used(work, promised, normal, degraded, loading, used)
     } else {
         false
     }
@@ -46,16 +73,18 @@ fn is_over(work: u32, level: u32, normal: u32, loading: u32, got: u32, used: u32
 pub fn closing_slot(
     work: u32,
     level: u32,
+    promised: u32,
     normal: u32,
+    degraded: u32,
     loading: u32,
     got: u32,
     used: u32,
     clock: u32,
 ) -> u32
-    requires { ⌜ (1 ≤ normal) × (normal ≤ 1000) × (used ≤ 2000000) ⌝ }
-    ensures { λ k. ⌜ k ≡ cond (over work level normal loading got used) clock 0 ⌝ }
+    requires { ⌜ (1 ≤ degraded) × (degraded ≤ normal) × (normal ≤ 1000) × (used ≤ 2000000) ⌝ }
+    ensures { λ k. ⌜ k ≡ cond (over work level promised normal degraded loading got used) clock 0 ⌝ }
 {
-    if is_over(work, level, normal, loading, got, used) {
+    if is_over(work, level, promised, normal, degraded, loading, got, used) {
         clock
     } else {
         0
@@ -88,15 +117,17 @@ fn row_sound(
     work: u32,
     deadline: u32,
     level: u32,
+    promised: u32,
     normal: u32,
+    degraded: u32,
     loading: u32,
     clock: u32,
     got: u32,
     used: u32,
     closing: u32,
 ) -> bool
-    requires { ⌜ (1 ≤ normal) × (normal ≤ 1000) × (clock ≤ 2000000) ⌝ }
-    ensures { λ b. ⌜ b ≡ soundAt work deadline level normal loading clock got used closing ⌝ }
+    requires { ⌜ (1 ≤ degraded) × (degraded ≤ normal) × (normal ≤ 1000) × (clock ≤ 2000000) ⌝ }
+    ensures { λ b. ⌜ b ≡ soundAt work deadline level promised normal degraded loading clock got used closing ⌝ }
 {
     if work < got {
         return false;
@@ -107,7 +138,7 @@ fn row_sound(
     if clock < closing {
         return false;
     }
-    let over = is_over(work, level, normal, loading, got, used);
+    let over = is_over(work, level, promised, normal, degraded, loading, got, used);
     if closing != 0 {
         return may_be_closed(level, deadline, closing, over);
     }
@@ -121,18 +152,20 @@ fn row_sound(
 pub fn rows_sound<'a>(
     n: u32,
     normal: u32,
+    degraded: u32,
     loading: u32,
     clock: u32,
     work: &'a [u32; 64],
     deadline: &'a [u32; 64],
     level: &'a [u32; 64],
+    promised: &'a [u32; 64],
     got: &'a [u32; 64],
     used: &'a [u32; 64],
     closing: &'a [u32; 64],
 ) -> bool
-    requires { ⌜ (n ≤ 64) × (1 ≤ normal) × (normal ≤ 1000) × (clock ≤ 2000000) ⌝ }
-    ensures { λ b. ⌜ b ≡ all (rowSoundAt normal loading clock (now (work .entry)) (now (deadline .entry)) (now (level .entry)) (now (got .entry))
-        (now (used .entry)) (now (closing .entry))) (rowsTo n) ⌝ }
+    requires { ⌜ (n ≤ 64) × (1 ≤ degraded) × (degraded ≤ normal) × (normal ≤ 1000) × (clock ≤ 2000000) ⌝ }
+    ensures { λ b. ⌜ b ≡ all (rowSoundAt normal degraded loading clock (now (work .entry)) (now (deadline .entry)) (now (level .entry)) (now (promised .entry))
+        (now (got .entry)) (now (used .entry)) (now (closing .entry))) (rowsTo n) ⌝ }
 {
     let mut i: u32 = 0;
     while i < n {
@@ -141,7 +174,9 @@ pub fn rows_sound<'a>(
             work[k],
             deadline[k],
             level[k],
+            promised[k],
             normal,
+            degraded,
             loading,
             clock,
             got[k],

@@ -19,7 +19,7 @@ use Rattle.rules.specs.Numbers.{refusalNumber, checkNumber}
 use Rattle.rules.specs.Rows.{rowsOf}
 use Rattle.rules.specs.Sheets as Sheets
 use Rattle.rules.specs.Sheets.{numberAt, checkSheet, readChecked, readOf, sheetOf, checkWrite, writeOf}
-use Rattle.rules.specs.Tables.{countOk, speedsOk, loadingOk, rowOk, tailOk, checkTable, Accepted, FullTable, zeroTable}
+use Rattle.rules.specs.Tables.{countOk, speedsOk, loadingOk, rowOk, promiseOk, tailOk, checkTable, Accepted, FullTable, zeroTable}
 use Rattle.theory.specs.Tests.{by-bool, by-ltb}
 use Rattle.fields.specs.Values.{value-written, field-written, last-digits}
 use Rattle.fields.specs.Lengths.{written-long}
@@ -48,7 +48,10 @@ table-not-ten t e =
     by-bool (loadingOk (t .loading))
     (λ c.
     by-bool (all (rowOk t) (rowsOf t) && tailOk t)
-    (λ d. let z : _≡_ {A = ℕ} 0 10 = rw (a, b, c, d) at e in omega arith)
+    (λ d.
+    by-bool (all (promiseOk t) (rowsOf t))
+    (λ p. let z : _≡_ {A = ℕ} 0 10 = rw (a, b, c, d, p) at e in omega arith)
+    (λ p. let z : _≡_ {A = ℕ} 12 10 = rw (a, b, c, d, p) at e in omega arith))
     (λ d. let z : _≡_ {A = ℕ} 5 10 = rw (a, b, c, d) at e in omega arith))
     (λ c. let z : _≡_ {A = ℕ} 11 10 = rw (a, b, c) at e in omega arith))
     (λ b. let z : _≡_ {A = ℕ} 4 10 = rw (a, b) at e in omega arith))
@@ -66,13 +69,13 @@ read-full bytes = go (checkSheet bytes)
   where
     go : (c : Check) → FullTable (readChecked c (Sheets.tableIn bytes) .table)
     go Passed = table-full bytes
-    go (Refused r) = record { release = refl; work = refl; deadline = refl; level = refl }
+    go (Refused r) = record { release = refl; work = refl; deadline = refl; level = refl; promised = refl }
 
 -- an answer by its two parts
 both-parts : (r : Reading) (t : Table) → r .check ≡ Passed → r .table ≡ t → r ≡ record { check = Passed; table = t }
 both-parts r t p e = let f : _≡_ {A = Reading} (record { check = r .check; table = r .table }) (record { check = Passed; table = t }) = rw (p, e) in f
 
-module _ (table : List ℕ) (words : length table ≡ 260) where
+module _ (table : List ℕ) (words : length table ≡ 324) where
   abbrev t : Table
   t = tableIn table
 
@@ -91,7 +94,7 @@ module _ (table : List ℕ) (words : length table ≡ 260) where
       only-sheet bytes t (both-parts (readOf bytes) t p same)
 
 -- ---- a table in words, written back
-module _ (table lent : List ℕ) (words : length table ≡ 260) where
+module _ (table lent : List ℕ) (words : length table ≡ 324) where
   abbrev u : Table
   u = tableIn table
 
@@ -144,7 +147,7 @@ module _ (table lent : List ℕ) (words : length table ≡ 260) where
   written-back = by-check (checkWrite u (length lent)) refl
 
 -- ---- a sheet, read and written back
-module _ (sheet lent : List ℕ) (long : length lent ≡ 2145) where
+module _ (sheet lent : List ℕ) (long : length lent ≡ 2657) where
   abbrev read : Reading
   read = readOf sheet
 
@@ -163,7 +166,7 @@ module _ (sheet lent : List ℕ) (long : length lent ≡ 2145) where
   table-count = refl
 
   zeros-full : FullTable zeroTable
-  zeros-full = record { release = refl; work = refl; deadline = refl; level = refl }
+  zeros-full = record { release = refl; work = refl; deadline = refl; level = refl; promised = refl }
 
   zeros-refused : checkWrite zeroTable (length lent) ≡ Refused RowCount
   unfolding checkWrite checkTable

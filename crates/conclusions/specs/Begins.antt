@@ -26,7 +26,7 @@ use Rattle.conclusions.specs.Conclusions.{FreshRecord}
 abbrev saidOf : FreshRun → Begun
 saidOf f = record { number = checkNumber (f .check); table = wordsOf (f .run .table); order = f .run .order; state = stateWords (f .run) }
 
-module _ (table order : List ℕ) (tables : length table ≡ 260) where
+module _ (table order : List ℕ) (tables : length table ≡ 324) where
   abbrev Begins : Type 0
   Begins = FreshRecord table order (saidOf (freshOf (tableIn table) order))
 

@@ -1,8 +1,8 @@
 -- What each caller may rely on, in plain terms and down to the words that the exported functions are lent. One section for each caller.
--- A table's words are n, N, G, K and then release, work, deadline and level of row 1 to 64; a state's words are the clock and then three
+-- A table's words are n, N, G, K and then release, work, deadline, level and promised part of row 1 to 64; a state's words are the clock and then three
 -- figures of row 1 to 64: its work got, its slots used, its closing slot. Times and K are in slots, work and supplies in work units, speeds in
 -- work units per slot.
-use Prim.Native.Nat.{ℕ, _+_, _-_, _*_, _/_, _%_, _^_, _≤_, _<_, min}
+use Prim.Native.Nat.{ℕ, _+_, _-_, _*_, _/_, _%_, _^_, _≤_, _<_, max, min}
 use mathlib.Core.Bool.{true, false, cond}
 use mathlib.Core.Logic.{_⊎_}
 use mathlib.Core.Path.{_≡_}
@@ -37,11 +37,11 @@ use Rattle.conclusions.specs.declared.Opinion.{Opinion}
 use Rattle.conclusions.specs.declared.Slots.{Slots}
 
 -- ---- The table author: a sheet that is taken states its table (rules 6.5 to 6.8), and a refusal means what it says (rules 10.1 to 10.5,
--- 10.11).
+-- 10.11, 10.12).
 
 -- the j-th figure of row i's line (rule 6.6)
 abbrev pub figureAt : List ℕ → ℕ → ℕ → ℕ
-figureAt sheet i j = numberAt sheet (33 + 33 * (i - 1)) j
+figureAt sheet i j = numberAt sheet (33 + 41 * (i - 1)) j
 
 -- a row's release, work, deadline and level are within their limits (rule 5.3)
 pub record RowWithin (a c d level : ℕ) : Type 0 where
@@ -51,25 +51,36 @@ pub record RowWithin (a c d level : ℕ) : Type 0 where
   pub before : a < d
   pub low-or-high : level ≤ 1
 
--- row i's figures are those of the four fields of its line (rule 6.6), and within their limits (rule 5.3)
+-- a row's promised part is within its limits: no more than its work, and nothing of a row of a level other than 0 (rule 5.9)
+pub record PartWithin (c level r : ℕ) : Type 0 where
+  pub most : r ≤ c
+  pub low : 1 ≤ r → level ≡ 0
+
+-- row i's figures are those of the five fields of its line (rule 6.6), and within their limits (rules 5.3, 5.9)
 pub record RowTaken (sheet table : List ℕ) (i : ℕ) : Type 0 where
   pub release : getD table (3 + i) 0 ≡ figureAt sheet i 1
   pub work : getD table (67 + i) 0 ≡ figureAt sheet i 2
   pub deadline : getD table (131 + i) 0 ≡ figureAt sheet i 3
   pub level : getD table (195 + i) 0 ≡ figureAt sheet i 4
-  pub formed : isLine sheet (33 + 33 * (i - 1)) 4 ≡ true
+  pub promised : getD table (259 + i) 0 ≡ figureAt sheet i 5
+  pub formed : isLine sheet (33 + 41 * (i - 1)) 5 ≡ true
   pub within : RowWithin (getD table (3 + i) 0) (getD table (67 + i) 0) (getD table (131 + i) 0) (getD table (195 + i) 0)
+  pub part : PartWithin (getD table (67 + i) 0) (getD table (195 + i) 0) (getD table (259 + i) 0)
 
 -- row i's figures in the sheet are within their limits (rule 5.3)
 abbrev pub RowFits : List ℕ → ℕ → Type 0
 RowFits sheet i = RowWithin (figureAt sheet i 1) (figureAt sheet i 2) (figureAt sheet i 3) (figureAt sheet i 4)
 
+-- and so is its promised part (rule 5.9)
+abbrev pub PartFits : List ℕ → ℕ → Type 0
+PartFits sheet i = PartWithin (figureAt sheet i 2) (figureAt sheet i 4) (figureAt sheet i 5)
+
 -- the sheet has the length of its row count (rule 6.7), its first line (rule 6.5) is well formed, and the table is within its limits (rules 5.1 to 5.3,
--- 5.8)
+-- 5.8, 5.9)
 pub record Taken (sheet table : List ℕ) : Type 0 where
   pub some : 1 ≤ getD table 0 0
   pub few : getD table 0 0 ≤ 64
-  pub length : length sheet ≡ 33 + 33 * getD table 0 0
+  pub length : length sheet ≡ 33 + 41 * getD table 0 0
   pub formed : isLine sheet 0 4 ≡ true
   pub count : getD table 0 0 ≡ numberAt sheet 0 1
   pub normal : getD table 1 0 ≡ numberAt sheet 0 2
@@ -86,26 +97,29 @@ pub record Taken (sheet table : List ℕ) : Type 0 where
 -- with 0 the sheet is taken, with any other number the table is that of zeros (rule 6.8)
 pub record TableAuthor (sheet : List ℕ) (number : ℕ) (table : List ℕ) : Type 0 where
   pub taken : number ≡ 0 → Taken sheet table
-  pub refused : (number ≡ 0 → ⊥) → table ≡ replicate 260 0
-  pub known : (number ≤ 5) ⊎ (number ≡ 11)
+  pub refused : (number ≡ 0 → ⊥) → table ≡ replicate 324 0
+  pub known : (number ≤ 5) ⊎ (number ≡ 11) ⊎ (number ≡ 12)
   -- with 1 the length is wrong, with 3 the row count, with 4 a speed (rules 10.1, 10.3, 10.4)
-  pub one : number ≡ 1 → length sheet ≡ 33 + 33 * numberAt sheet 0 1 → 33 ≤ length sheet → ⊥
+  pub one : number ≡ 1 → length sheet ≡ 33 + 41 * numberAt sheet 0 1 → 33 ≤ length sheet → ⊥
   pub three : number ≡ 3 → 1 ≤ numberAt sheet 0 1 → numberAt sheet 0 1 ≤ 64 → ⊥
   pub four : number ≡ 4 → 1 ≤ numberAt sheet 0 3 → numberAt sheet 0 3 ≤ numberAt sheet 0 2 → numberAt sheet 0 2 ≤ 1000 → ⊥
   -- with 2 some line is not well formed (rule 10.2)
-  pub two : number ≡ 2 → isLine sheet 0 4 ≡ true → ((i : ℕ) → 1 ≤ i → i ≤ numberAt sheet 0 1 → isLine sheet (33 + 33 * (i - 1)) 4 ≡ true) → ⊥
+  pub two : number ≡ 2 → isLine sheet 0 4 ≡ true → ((i : ℕ) → 1 ≤ i → i ≤ numberAt sheet 0 1 → isLine sheet (33 + 41 * (i - 1)) 5 ≡ true) → ⊥
   -- with 11 the loading is beyond its limit (rule 10.11)
   pub eleven : number ≡ 11 → numberAt sheet 0 4 ≤ 16 → ⊥
   -- with 5 some row is beyond its limits (rule 10.5)
   pub five : number ≡ 5 → ((i : ℕ) → 1 ≤ i → i ≤ numberAt sheet 0 1 → RowFits sheet i) → ⊥
+  -- with 12 some row promises what it may not, and no row is beyond the limits of 5 (rules 10.12, 11.2)
+  pub twelve : number ≡ 12 → ((i : ℕ) → 1 ≤ i → i ≤ numberAt sheet 0 1 → PartFits sheet i) → ⊥
+  pub after-five : number ≡ 12 → (i : ℕ) → 1 ≤ i → i ≤ numberAt sheet 0 1 → RowFits sheet i
 
 -- What a table author gets who has a table written back (section 15 of the rules): the lent bytes as they were and as they are afterwards.
 pub record SheetBack (table lent : List ℕ) (number size : ℕ) (after : List ℕ) : Type 0 where
-  -- 0 exactly if the table is accepted and its sheet fits: 33 bytes, and 33 for each row (rules 15.4, 15.8)
+  -- 0 exactly if the table is accepted and its sheet fits: 33 bytes, and 41 for each row (rules 15.4, 15.8)
   pub accepted : number ≡ 0 → Accepted (tableIn table)
-  pub fits : number ≡ 0 → 33 + 33 * getD table 0 0 ≤ length lent
-  pub passes : Accepted (tableIn table) → 33 + 33 * getD table 0 0 ≤ length lent → number ≡ 0
-  pub long : number ≡ 0 → size ≡ 33 + 33 * getD table 0 0
+  pub fits : number ≡ 0 → 33 + 41 * getD table 0 0 ≤ length lent
+  pub passes : Accepted (tableIn table) → 33 + 41 * getD table 0 0 ≤ length lent → number ≡ 0
+  pub long : number ≡ 0 → size ≡ 33 + 41 * getD table 0 0
   -- the first bytes, as many as the length says, read as the table, and no other bytes do (rules 15.6, 15.7)
   pub reads : number ≡ 0 → (checkNumber (readOf (take size after) .check) ≡ 0) × (wordsOf (readOf (take size after) .table) ≡ table)
   pub only : number ≡ 0 → (bytes : List ℕ) → checkNumber (readOf bytes .check) ≡ 0 → wordsOf (readOf bytes .table) ≡ table → bytes ≡ take size after
@@ -115,7 +129,7 @@ pub record SheetBack (table lent : List ℕ) (number size : ℕ) (after : List �
   -- a refusal has the length 0 and writes no byte (rule 15.5)
   pub refused : (number ≡ 0 → ⊥) → (size ≡ 0) × (after ≡ lent)
   -- it is 10 if only the room is missing, and else what the table is refused for (rules 10.10, 11.6)
-  pub ten : number ≡ 10 → Accepted (tableIn table) × (length lent < 33 + 33 * getD table 0 0)
+  pub ten : number ≡ 10 → Accepted (tableIn table) × (length lent < 33 + 41 * getD table 0 0)
   pub own : (number ≡ 10 → ⊥) → number ≡ checkNumber (checkTable (tableIn table))
 
 -- A sheet is read and its table written back: a sheet that was taken comes out byte for byte, with the bytes after it as they were
@@ -154,7 +168,7 @@ pub record Planner (t : Table) (number : ℕ) (order : List ℕ) (left : ℕ) : 
   -- with 7 no order serves, the order is zeros, and the word is that of the rows which the choice leaves (rules 4.6, 10.7)
   pub none : number ≡ 7
       → ((o : List ℕ) → isOrder t o ≡ true → Serves t o → ⊥) × (order ≡ replicate 64 0) × (left ≡ word (choice t .left)) × (choice t .left ≡ [] → ⊥)
-  -- with any other number all is zero (rules 10.3 to 10.5, 10.11)
+  -- with any other number all is zero (rules 10.3 to 10.5, 10.11, 10.12)
   pub refused : (number ≡ 0 → ⊥) → (number ≡ 7 → ⊥) → (order ≡ replicate 64 0) × (left ≡ 0)
 
 -- ---- The maker who buys a cooler: the least workable speed is the least at which some order serves (section 18 of the rules).
@@ -197,7 +211,7 @@ pub record FreshRecord (table order : List ℕ) (said : Begun) : Type 0 where
   pub passed : said .number ≡ 0 → Accepted (tableIn table) × (isOrder (tableIn table) order ≡ true)
   pub passes : Accepted (tableIn table) → isOrder (tableIn table) order ≡ true → said .number ≡ 0
   pub held : said .number ≡ 0 → (said .table ≡ table) × (said .order ≡ order)
-  pub refused : (said .number ≡ 0 → ⊥) → (said .table ≡ replicate 260 0) × (said .order ≡ replicate 64 0)
+  pub refused : (said .number ≡ 0 → ⊥) → (said .table ≡ replicate 324 0) × (said .order ≡ replicate 64 0)
   pub zeros : said .state ≡ replicate 193 0
 
 -- row i is released at the clock and open (rule 2.2)
@@ -222,6 +236,12 @@ pub record RowWaits (table state next : List ℕ) (j : ℕ) : Type 0 where
   pub late : getD state (128 + j) 0 ≡ 0 → DueIn table (getD state 0 0 + 1) j → getD next (128 + j) 0 ≡ getD state 0 0 + 1
   pub still-open : getD state (128 + j) 0 ≡ 0 → (DueIn table (getD state 0 0 + 1) j → ⊥) → getD next (128 + j) 0 ≡ 0
 
+-- the slots that a LO row may use: those that its work takes at N, or those that its promised part takes at G if they are more, with K in each
+-- (rule 1.9)
+abbrev pub allowedSlots : List ℕ → ℕ → ℕ
+allowedSlots table i =
+    max (need (getD table 3 0) (getD table (67 + i) 0) (getD table 1 0)) (need (getD table 3 0) (getD table (259 + i) 0) (getD table 2 0))
+
 -- row i runs, because it is ready and no row of a higher place is (rule 2.3); its three figures follow rules 2.5 to 2.11, 2.14 and 19.2, and
 -- of the other rows the clock may close some
 pub record RowRuns (table order state : List ℕ) (supply i : ℕ) (next : List ℕ) : Type 0 where
@@ -234,12 +254,12 @@ pub record RowRuns (table order state : List ℕ) (supply i : ℕ) (next : List 
   pub got : getD table 3 0 ≤ getD state (64 + i) 0 → getD next i 0 ≡ min (getD table (67 + i) 0) (getD state i 0 + supply)
   pub used : getD next (64 + i) 0 ≡ getD state (64 + i) 0 + 1
   pub done : getD next i 0 ≡ getD table (67 + i) 0 → getD next (128 + i) 0 ≡ getD state 0 0 + 1
-  pub dropped : getD table (195 + i) 0 ≡ 0 → need (getD table 3 0) (getD table (67 + i) 0) (getD table 1 0) ≤ getD next (64 + i) 0
+  pub dropped : getD table (195 + i) 0 ≡ 0 → allowedSlots table i ≤ getD next (64 + i) 0
       → getD next (128 + i) 0 ≡ getD state 0 0 + 1
   -- a LO row at its deadline is closed, done or not; what this slot brought it counts (rule 19.3)
   pub late : getD table (195 + i) 0 ≡ 0 → getD table (131 + i) 0 ≤ getD state 0 0 + 1 → getD next (128 + i) 0 ≡ getD state 0 0 + 1
   pub still-open : (getD next i 0 ≡ getD table (67 + i) 0 → ⊥)
-      → (getD table (195 + i) 0 ≡ 0 → (getD next (64 + i) 0 < need (getD table 3 0) (getD table (67 + i) 0) (getD table 1 0))
+      → (getD table (195 + i) 0 ≡ 0 → (getD next (64 + i) 0 < allowedSlots table i)
       × (getD state 0 0 + 1 < getD table (131 + i) 0))
       → getD next (128 + i) 0 ≡ 0
   pub others : (j : ℕ) → 1 ≤ j → j ≤ 64 → (j ≡ i → ⊥) → RowWaits table state next j
@@ -324,7 +344,8 @@ abbrev pub startOf : List ℕ → List ℕ → List ℕ
 startOf table order = stateWords (freshRun (tableIn table) order)
 
 -- From the start on, the answers are those of the run on paper, and each row whose deadline the clock has reached has kept it: a HI row if its
--- slots supplied at least G, a LO row if they supplied at least N (rules 9.10, 9.12). Whatever they supplied, a LO row is open only while its
+-- slots supplied at least G, a LO row if they supplied at least N (rules 9.10, 9.12); and a LO row has got its promised part if they supplied at
+-- least G (rule 9.18). Whatever they supplied, a LO row is open only while its
 -- deadline is to come and was else closed by then, and a HI row is closed only when it is done (rules 19.2, 19.4).
 pub record PenEngineer (table order start : List ℕ) (cs : List Call) : Type 0 where
   pub said : listWords table order cs start .said ≡ tellAll (tableIn table) order cs fresh .said
@@ -333,6 +354,8 @@ pub record PenEngineer (table order start : List ℕ) (cs : List Call) : Type 0 
       → SuppliedIn table cs i (getD table 2 0) → KeptWords table (listWords table order cs start .state) i
   pub low : (i : ℕ) → 1 ≤ i → i ≤ getD table 0 0 → getD table (195 + i) 0 ≡ 0 → getD table (131 + i) 0 ≤ getD (listWords table order cs start .state) 0 0
       → SuppliedIn table cs i (getD table 1 0) → KeptWords table (listWords table order cs start .state) i
+  pub part : (i : ℕ) → 1 ≤ i → i ≤ getD table 0 0 → getD table (195 + i) 0 ≡ 0 → getD table (131 + i) 0 ≤ getD (listWords table order cs start .state) 0 0
+      → SuppliedIn table cs i (getD table 2 0) → getD table (259 + i) 0 ≤ getD (listWords table order cs start .state) i 0
   pub preview : (i : ℕ) → 1 ≤ i → i ≤ getD table 0 0 → getD table (195 + i) 0 ≡ 0
       → (getD (listWords table order cs start .state) (128 + i) 0 ≡ 0 → getD (listWords table order cs start .state) 0 0 < getD table (131 + i) 0)
       × (getD (listWords table order cs start .state) (128 + i) 0 ≤ getD table (131 + i) 0)
@@ -352,13 +375,23 @@ pub record Drawn (table supplies : List ℕ) (said : Drawing) : Type 0 where
   pub kept : said .planned ≡ 0 → PenEngineer table (said .order) (startOf table (said .order)) (forward supplies ∷ [])
   pub left : said .planned ≡ 0 → said .state ≡ listWords table (said .order) (forward supplies ∷ []) (startOf table (said .order)) .state
 
--- ---- The sales desk: the verdict is exact (rule 7.2), and the figures beside it are those of the worst runs (rules 3.5 to 3.7, 7.3, 7.5).
+-- ---- The sales desk: the verdict is exact (rule 7.2), and the figures beside it are those of the worst runs (rules 3.5 to 3.7, 3.9, 7.3, 7.5).
 
 -- row i's finish, in the worst run at exactly N (LO) or G (HI), however long it lasts: it has got its work and closed then (rules 3.5, 3.6)
 pub record WorstRun (t : Table) (o : List ℕ) (i finish : ℕ) : Type 0 where
   pub some : 1 ≤ finish
   pub closing : (k : ℕ) → horizon t (worstSpeed t i) ≤ k → at (after t o (λ _. worstSpeed t i) k .closing) i ≡ finish
   pub got : (k : ℕ) → horizon t (worstSpeed t i) ≤ k → at (after t o (λ _. worstSpeed t i) k .got) i ≡ at (t .work) i
+
+-- row i's promised moment: the first clock at which it has got its promised part where every slot supplies exactly G, which is 0 of a row that is
+-- promised nothing (rule 3.9)
+pub record PartRun (t : Table) (o : List ℕ) (i moment : ℕ) : Type 0 where
+  pub before : (k : ℕ) → k < moment → at (after t o (λ _. t .degraded) k .got) i < at (t .promised) i
+  pub has : at (t .promised) i ≤ at (after t o (λ _. t .degraded) moment .got) i
+
+-- what is left from the later of two clocks to row i's deadline (rule 3.7)
+abbrev pub slackOf : Table → ℕ → ℕ → ℕ → ℤ
+slackOf t i finish moment = pos (at (t .deadline) i) -ℤ pos (max finish moment)
 
 pub record SalesDesk (t : Table) (o : List ℕ) (said : Opinion) (least : ℤ) (finishes : List ℕ) : Type 0 where
   pub same-number : said .finishes ≡ said .number
@@ -370,26 +403,28 @@ pub record SalesDesk (t : Table) (o : List ℕ) (said : Opinion) (least : ℤ) (
   pub yes-serves : said .yes ≡ 1 → Serves t o
   pub serves-yes : said .number ≡ 0 → Serves t o → said .yes ≡ 1
   pub yes-or-no : (said .yes ≡ 0) ⊎ (said .yes ≡ 1)
-  -- every finish is that of the row's worst run (rule 7.5); the slack is the named row's, and no row has less (rule 7.3)
+  -- every finish is that of the row's worst run (rule 7.5); the slack is the named row's, from its finish or its promised moment if that is later,
+  -- and no row has less (rules 3.7, 7.3)
   pub finish : said .number ≡ 0 → (i : ℕ) → 1 ≤ i → i ≤ t .n → WorstRun t o i (at finishes i)
   pub row : said .number ≡ 0 → (1 ≤ said .row) × (said .row ≤ t .n)
-  pub slack : said .number ≡ 0 → least ≡ pos (at (t .deadline) (said .row)) -ℤ pos (at finishes (said .row))
+  pub moment : said .number ≡ 0 → (i : ℕ) → 1 ≤ i → i ≤ t .n → (m : ℕ) × PartRun t o i m
+  pub slack : said .number ≡ 0 → (m : ℕ) → PartRun t o (said .row) m → least ≡ slackOf t (said .row) (at finishes (said .row)) m
   -- of several rows with the least slack it is the lowest
-  pub lowest : said .number ≡ 0 → (i : ℕ) → 1 ≤ i → i < said .row → ltZ least (pos (at (t .deadline) i) -ℤ pos (at finishes i)) ≡ true
-  pub no-less : said .number ≡ 0 → (i : ℕ) → 1 ≤ i → i ≤ t .n → ltZ (pos (at (t .deadline) i) -ℤ pos (at finishes i)) least ≡ false
+  pub lowest : said .number ≡ 0 → (i : ℕ) → 1 ≤ i → i < said .row → (m : ℕ) → PartRun t o i m → ltZ least (slackOf t i (at finishes i) m) ≡ true
+  pub no-less : said .number ≡ 0 → (i : ℕ) → 1 ≤ i → i ≤ t .n → (m : ℕ) → PartRun t o i m → ltZ (slackOf t i (at finishes i) m) least ≡ false
 
 -- ten bytes of a text: the j-th figure (from 1) of the line that starts at a byte (rules 16.1 to 16.3)
 abbrev pub tenAt : List ℕ → ℕ → ℕ → List ℕ
 tenAt text start j = take 10 (drop (start + 10 * (j - 1)) text)
 
--- The line of place k, with row i at the place, whose worst run finishes it at f (rules 16.2, 16.4): the place, the row, and in slots
--- the row's need at N, which is K and its work at N rounded up, that finish, and the row's deadline less it.
-pub record JobListed (t : Table) (text : List ℕ) (k i f : ℕ) : Type 0 where
+-- The line of place k, with row i at the place, whose worst run finishes it at f and whose promised moment is m (rules 16.2, 16.4): the place, the
+-- row, and in slots the row's need at N, which is K and its work at N rounded up, that finish, and the row's deadline less the later of the two.
+pub record JobListed (t : Table) (text : List ℕ) (k i f m : ℕ) : Type 0 where
   pub place : tenAt text (51 * (k - 1)) 1 ≡ figure (pos k)
   pub row : tenAt text (51 * (k - 1)) 2 ≡ figure (pos i)
   pub need : tenAt text (51 * (k - 1)) 3 ≡ figure (pos (need (t .loading) (at (t .work) i) (t .normal)))
   pub finish : tenAt text (51 * (k - 1)) 4 ≡ figure (pos f)
-  pub slack : tenAt text (51 * (k - 1)) 5 ≡ figure (pos (at (t .deadline) i) -ℤ pos f)
+  pub slack : tenAt text (51 * (k - 1)) 5 ≡ figure (slackOf t i f m)
   pub ends : getD text (51 * (k - 1) + 50) 0 ≡ 10
 
 -- What the sales desk gets that has every job listed (section 16 of the rules): the lent bytes as they were and as they are afterwards.
@@ -399,14 +434,14 @@ pub record Listing (t : Table) (o lent : List ℕ) (number size : ℕ) (after : 
   pub fits : number ≡ 0 → 51 * t .n + 21 ≤ length lent
   pub passes : Accepted t → isOrder t o ≡ true → 51 * t .n + 21 ≤ length lent → number ≡ 0
   pub long : number ≡ 0 → size ≡ 51 * t .n + 21
-  -- a line for each place, with the finish of its row's worst run (rule 16.2)
-  pub job : number ≡ 0 → (k : ℕ) → 1 ≤ k → k ≤ t .n → (f : ℕ) → WorstRun t o (at o k) f → JobListed t after k (at o k) f
-  pub run : number ≡ 0 → (k : ℕ) → 1 ≤ k → k ≤ t .n → (f : ℕ) × WorstRun t o (at o k) f
-  -- the last line has the needs of all rows and the count of those that are late, each row counted once, whatever its place (rule 16.3)
+  -- a line for each place, with the finish of its row's worst run and the slack with its promised moment (rule 16.2)
+  pub job : number ≡ 0 → (k : ℕ) → 1 ≤ k → k ≤ t .n → (f m : ℕ) → WorstRun t o (at o k) f → PartRun t o (at o k) m → JobListed t after k (at o k) f m
+  pub run : number ≡ 0 → (k : ℕ) → 1 ≤ k → k ≤ t .n → ((f : ℕ) × WorstRun t o (at o k) f) × ((m : ℕ) × PartRun t o (at o k) m)
+  -- the last line has the needs of all rows and the count of those with a slack below 0 slots, each row counted once, whatever its place (rule 16.3)
   pub needs : number ≡ 0 → tenAt after (51 * t .n) 1 ≡ figure (pos (sum (λ i. need (t .loading) (at (t .work) i) (t .normal)) (rowsTo (t .n))))
   pub late : number ≡ 0 → tenAt after (51 * t .n) 2 ≡ figure (pos (sum (λ i. cond (ltZ (slack t o i) (pos 0)) 1 0) (rowsTo (t .n))))
   pub ends : number ≡ 0 → getD after (51 * t .n + 20) 0 ≡ 10
-  -- no row is late exactly if the order serves under every course of speed (rule 16.10)
+  -- no row has such a slack exactly if the order serves under every course of speed (rule 16.10)
   pub serves : number ≡ 0 → tenAt after (51 * t .n) 2 ≡ figure (pos 0) → Serves t o
   pub none-late : number ≡ 0 → Serves t o → tenAt after (51 * t .n) 2 ≡ figure (pos 0)
   -- the bytes after the report are as they were (rule 16.6)

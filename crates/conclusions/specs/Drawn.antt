@@ -69,7 +69,7 @@ module _ (t : Table) (o : List ℕ) where
   alike-all [] q a = a
   alike-all (c ∷ cs) q a = alike-all cs (make c q .run) (alike-made c q a)
 
-module _ (table order : List ℕ) (tables : length table ≡ 260) where
+module _ (table order : List ℕ) (tables : length table ≡ 324) where
   abbrev t : Table
   t = tableIn table
 
@@ -128,6 +128,9 @@ module _ (table order : List ℕ) (tables : length table ≡ 260) where
         let e = end-words i l (few i h) in
         record { got = e .got ∙ k .got ∙ sym (w .work); from = rw (e .closing) (k .from); upTo = rw (e .closing, w .deadline) (k .upTo) }
 
+    part-words : (i : ℕ) → 1 ≤ i → i ≤ t .n → at (t .promised) i ≤ at (end .got) i → getD table (259 + i) 0 ≤ getD (stateWords end) i 0
+    part-words i l h k = omega (arith, table-words table i l (few i h) .promised, end-words i l (few i h) .got)
+
     reached : (i : ℕ) → 1 ≤ i → i ≤ t .n → getD table (131 + i) 0 ≤ getD (listWords table order cs start .state) 0 0 → at (t .deadline) i ≤ end .clock
     reached i l h d = omega (arith, rw listed at d, clock-word end, table-words table i l (few i h) .deadline)
 
@@ -170,6 +173,7 @@ module _ (table order : List ℕ) (tables : length table ≡ 260) where
               (kept-words i l h (deadlines .high serves i l h (λ z. n (table-words table i l (few i h) .level ∙ z)) (reached i l h d) (supplied i _ l h w)));
           low = λ i l h n d w. rw listed
               (kept-words i l h (deadlines .low serves i l h (sym (table-words table i l (few i h) .level) ∙ n) (reached i l h d) (supplied i _ l h w)));
+          part = λ i l h n d w. rw listed (part-words i l h (deadlines .part serves i l h (sym (table-words table i l (few i h) .level) ∙ n) (reached i l h d) (supplied i _ l h w)));
           preview = λ i l h n. rw listed (previewed i l h (sym (table-words table i l (few i h) .level) ∙ n));
           pen = λ i l h n. rw listed (pens i l h (λ z. n (table-words table i l (few i h) .level ∙ z)));
         }
@@ -188,7 +192,7 @@ pub record Drew (table supplies runTable runOrder runState : List ℕ) (said : D
   pub worked : said .worked ≡ forwardSaid (forwardOver (runIn runTable runOrder runState) supplies .answer) .value
   pub state : said .state ≡ stateWords (forwardOver (runIn runTable runOrder runState) supplies .run)
 
-module _ (table supplies runTable runOrder runState : List ℕ) (tables : length table ≡ 260) (said : Drawing)
+module _ (table supplies runTable runOrder runState : List ℕ) (tables : length table ≡ 324) (said : Drawing)
     (d : Drew table supplies runTable runOrder runState said) where
   module _ (n : said .planned ≡ 0) where
     made : plannedNumber (planOf (tableIn table) .answer) ≡ 0

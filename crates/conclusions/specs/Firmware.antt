@@ -1,5 +1,5 @@
 -- The firmware writer's conclusion, from the definition of one slot on a record and the words that hold one.
-use Prim.Native.Nat.{ℕ, zero, suc, _+_, _-_, _≤_, _<_, min}
+use Prim.Native.Nat.{ℕ, zero, suc, _+_, _-_, _≤_, _<_, min, max}
 use mathlib.Core.Bool.{Bool, true, false, cond, _&&_}
 use mathlib.Core.Logic.{inl, inr}
 use mathlib.Core.List.{List, [], _∷_, _++_}
@@ -34,7 +34,7 @@ use Rattle.rules.specs.Tables.{FullTable}
 use Rattle.words.specs.Words.{tableIn, wordsOf, runIn, stateWords}
 use Rattle.words.specs.Inverse.{words-of-table-in, state-words-of-run-in, run-in-words}
 use Rattle.conclusions.specs.declared.Slots.{Slots}
-use Rattle.conclusions.specs.Conclusions.{ReadyIn, DueIn, RowWaits, RowRuns, FirmwareWriter}
+use Rattle.conclusions.specs.Conclusions.{ReadyIn, DueIn, RowWaits, RowRuns, FirmwareWriter, allowedSlots}
 use Rattle.conclusions.specs.Entries.{column-full, full-table, TableWords, table-words, StateWords, state-words}
 
 -- ---- the first that passes stands at a place, and none before it passes
@@ -58,24 +58,28 @@ first-at p (x ∷ xs) h =
         earlier (suc k) l = f .before k (omega arith)
 
 -- ---- when a row is over, one way after another
-module _ (work level normal loading got used : ℕ) where
-  pub over-done : got ≡ work → over work level normal loading got used ≡ true
+module _ (work level promised normal degraded loading got used : ℕ) where
+  -- the slots that the row may use if it is LO
+  abbrev most : ℕ
+  most = max (need loading work normal) (need loading promised degraded)
+
+  pub over-done : got ≡ work → over work level promised normal degraded loading got used ≡ true
   unfolding over
   over-done e = rw (eq-eqb got work e)
 
-  pub over-dropped : level ≡ 0 → need loading work normal ≤ used → over work level normal loading got used ≡ true
+  pub over-dropped : level ≡ 0 → most ≤ used → over work level promised normal degraded loading got used ≡ true
   unfolding over
-  over-dropped z h = by-bool (eqb got work) (λ e. rw e) (λ e. rw (e, eq-eqb level 0 z, le-leb (need loading work normal) used h))
+  over-dropped z h = by-bool (eqb got work) (λ e. rw e) (λ e. rw (e, eq-eqb level 0 z, le-leb most used h))
 
-  pub over-open : (got ≡ work → ⊥) → (level ≡ 0 → used < need loading work normal) → over work level normal loading got used ≡ false
+  pub over-open : (got ≡ work → ⊥) → (level ≡ 0 → used < most) → over work level promised normal degraded loading got used ≡ false
   unfolding over
   over-open n h =
       by-eqb level 0
-      (λ e z. rw (ne-eqb got work n, e, lt-leb (need loading work normal) used (h z)))
+      (λ e z. rw (ne-eqb got work n, e, lt-leb most used (h z)))
       (λ e z. rw (ne-eqb got work n, e))
 
--- ---- the words lent: 260 of a table and 193 of a state
-module _ (table order : List ℕ) (tables : length table ≡ 260) where
+-- ---- the words lent: 324 of a table and 193 of a state
+module _ (table order : List ℕ) (tables : length table ≡ 324) where
   -- a record of the same table and order with full columns is the one that its words hold
   pub held : (q : Run) → q .table ≡ tableIn table → q .order ≡ order → Sized q → runIn table order (stateWords q) ≡ q
   held q t o z =
@@ -84,7 +88,7 @@ module _ (table order : List ℕ) (tables : length table ≡ 260) where
       let w : table ≡ wordsOf (q .table) = sym (words-of-table-in table tables) ∙ ap wordsOf (sym t) in
       ap (λ (x : List ℕ). runIn x order (stateWords q)) w ∙ ap (λ (x : List ℕ). runIn (wordsOf (q .table)) x (stateWords q)) (sym o) ∙ e
 
-module _ (table order state : List ℕ) (tables : length table ≡ 260) (states : length state ≡ 193) where
+module _ (table order state : List ℕ) (tables : length table ≡ 324) (states : length state ≡ 193) where
   abbrev r : Run
   r = runIn table order state
 
@@ -265,7 +269,9 @@ module _ (table order state : List ℕ) (tables : length table ≡ 260) (states 
       closing-half = ap (λ (q : Run). at (q .closing) i) served-is ∙ put-same (r .closing) i (closingNext r v i) low (omega (arith, high, sized .closing))
 
       abbrev is-over : Bool
-      is-over = over (at (r .table .work) i) (at (r .table .level) i) (r .table .normal) (r .table .loading) (gotNext r v i) (at (r .used) i + 1)
+      is-over =
+          over (at (r .table .work) i) (at (r .table .level) i) (at (r .table .promised) i) (r .table .normal) (r .table .degraded) (r .table .loading)
+          (gotNext r v i) (at (r .used) i + 1)
 
       -- the closing slot, by whether the row is over, and due
       closed : is-over ≡ true → getD next (128 + i) 0 ≡ getD state 0 0 + 1
@@ -300,18 +306,21 @@ module _ (table order state : List ℕ) (tables : length table ≡ 260) (states 
           let row = row-of (getD order p 0) f in
           not-both (isReady (r .table) (stateOf r) (getD order p 0)) (words-ready (getD order p 0) f (omega (arith, few, row .upTo))) (first-place .before p h)
 
-      least-need : need (getD table 3 0) (getD table (67 + i) 0) (getD table 1 0) ≤ getD next (64 + i) 0 → need (r .table .loading) (at (r .table .work) i) (r .table .normal) ≤ at (r .used) i + 1
-      unfolding runIn tableIn
-      least-need h = rw (tw .work, used-is) at h
+      abbrev allowed : ℕ
+      allowed = max (need (r .table .loading) (at (r .table .work) i) (r .table .normal)) (need (r .table .loading) (at (r .table .promised) i) (r .table .degraded))
 
-      below-need : getD next (64 + i) 0 < need (getD table 3 0) (getD table (67 + i) 0) (getD table 1 0) → at (r .used) i + 1 < need (r .table .loading) (at (r .table .work) i) (r .table .normal)
+      least-need : allowedSlots table i ≤ getD next (64 + i) 0 → allowed ≤ at (r .used) i + 1
       unfolding runIn tableIn
-      below-need h = rw (tw .work, used-is) at h
+      least-need h = rw (tw .work, tw .promised, used-is) at h
+
+      below-need : getD next (64 + i) 0 < allowedSlots table i → at (r .used) i + 1 < allowed
+      unfolding runIn tableIn
+      below-need h = rw (tw .work, tw .promised, used-is) at h
 
       loads : getD state (64 + i) 0 < getD table 3 0 → getD next i 0 ≡ getD state i 0
       unfolding runIn tableIn
       loads h =
-          let most = sound-facts _ _ _ _ _ _ _ _ _ (sound-so r sound .rows i low (ready .row .upTo)) .most in
+          let most = sound-facts _ _ _ _ _ _ _ _ _ _ _ (sound-so r sound .rows i low (ready .row .upTo)) .most in
           let none = brought-none (r .table .loading) (at (r .used) i) v (omega (arith, sw .used, h)) in
           omega (arith, got-is, sw .got, most, none)
 
@@ -332,10 +341,10 @@ module _ (table order state : List ℕ) (tables : length table ≡ 260) (states 
             loads = loads;
             got = gets;
             used = rw (sw .used) used-is;
-            done = λ q. closed (over-done _ _ _ _ _ _ (sym got-is ∙ q ∙ tw .work));
-            dropped = λ z h. closed (over-dropped _ _ _ _ _ _ (sym (tw .level) ∙ z) (least-need h));
+            done = λ q. closed (over-done _ _ _ _ _ _ _ _ (sym got-is ∙ q ∙ tw .work));
+            dropped = λ z h. closed (over-dropped _ _ _ _ _ _ _ _ (sym (tw .level) ∙ z) (least-need h));
             late = λ z d. by-bool is-over closed (λ o. late-closed o (low, ready .row .upTo, z, d));
-            still-open = λ n h. not-closed (over-open _ _ _ _ _ _ (λ q. n (got-is ∙ q ∙ sym (tw .work))) (λ z. below-need (h (tw .level ∙ z) .0)))
+            still-open = λ n h. not-closed (over-open _ _ _ _ _ _ _ _ (λ q. n (got-is ∙ q ∙ sym (tw .work))) (λ z. below-need (h (tw .level ∙ z) .0)))
                 (λ d. omega (arith, h (d .2) .1, d .3));
             others = other;
           }

@@ -6,7 +6,7 @@ use mathlib.Core.List.{List, [], _∷_, _++_}
 use mathlib.Core.Path.{_≡_, refl, sym, _∙_}
 use native.Mathlib.Omega.{arith}
 use borrow.Author.Tests.{ltb-true, ltb-false, lt-ltb, le-ltb}
-use lib.IntN.{ℤ, pos, negsuc, _-ℤ_}
+use lib.IntN.{ℤ, pos, negsuc}
 use lib.Signed.{ltZ}
 use Rattle.rules.specs.declared.Table.{Table}
 use Rattle.rules.specs.declared.Refusal.{Refusal}
@@ -31,7 +31,8 @@ use Rattle.planner.specs.Promise.{refusal-number}
 use Rattle.sweep.specs.Padded.{padded-at}
 use Rattle.jasminebrace.specs.Finishes.{finishesOf, yesWord, finishes-passed, finishes-refused}
 use Rattle.conclusions.specs.declared.Opinion.{Opinion}
-use Rattle.conclusions.specs.Conclusions.{WorstRun, SalesDesk}
+use Rattle.conclusions.specs.Conclusions.{WorstRun, SalesDesk, PartRun, slackOf}
+use Rattle.conclusions.specs.Moments.{momentOf, part-run, moment-slack}
 
 -- ---- the least slack
 
@@ -162,9 +163,12 @@ module _ (t : Table) (o : List ℕ) where
     finish-is : (i : ℕ) → 1 ≤ i → i ≤ t .n → at (finishesOf t o) i ≡ worstFinish t o i
     finish-is i l h = rw (finishes-passed t o e) (padded-at (worstFinish t o) (t .n) i l h (facts t (checked t o e .accepted) .few))
 
-    slack-at : (i : ℕ) → 1 ≤ i → i ≤ t .n → pos (at (t .deadline) i) -ℤ pos (at (finishesOf t o) i) ≡ slack t o i
-    unfolding slack
-    slack-at i l h = rw (finish-is i l h)
+    -- a row's moment, and the slack with it
+    pub moment-run : (i : ℕ) → 1 ≤ i → i ≤ t .n → PartRun t o i (momentOf t o i)
+    moment-run i l h = part-run t (checked t o e .accepted) o (checked t o e .order) i (record { from = l; upTo = h })
+
+    slack-at : (i : ℕ) → 1 ≤ i → i ≤ t .n → (m : ℕ) → PartRun t o i m → slackOf t i (at (finishesOf t o) i) m ≡ slack t o i
+    slack-at i l h m p = rw (finish-is i l h) (moment-slack t (checked t o e .accepted) o (checked t o e .order) i (record { from = l; upTo = h }) m p)
 
     -- a row's worst finish is that of its worst run
     pub worst-run : (i : ℕ) → 1 ≤ i → i ≤ t .n → WorstRun t o i (worstFinish t o i)
@@ -177,11 +181,11 @@ module _ (t : Table) (o : List ℕ) where
           got = λ k m. f k m .got;
         }
 
-    lower : (i : ℕ) → 1 ≤ i → i < tight → ltZ (slack t o tight) (pos (at (t .deadline) i) -ℤ pos (at (finishesOf t o) i)) ≡ true
+    lower : (i : ℕ) → 1 ≤ i → i < tight → (m : ℕ) → PartRun t o i m → ltZ (slack t o tight) (slackOf t i (at (finishesOf t o) i) m) ≡ true
     unfolding tightest
-    lower i l w =
+    lower i l w m p =
         let h : i ≤ t .n = omega (arith, w, tight-row .upTo) in
-        rw (slack-at i l h) (lowest-first t o (t .n) i l h w)
+        rw (slack-at i l h m p) (lowest-first t o (t .n) i l h w)
 
     judged : SalesDesk t o said (verdictSlack (judgeOf t o)) (finishesOf t o)
     unfolding checkNumber
@@ -196,9 +200,10 @@ module _ (t : Table) (o : List ℕ) where
           yes-or-no = yes-either (verdictYes (judgeOf t o));
           finish = λ _ i l h. rw (finish-is i l h) (worst-run i l h);
           row = λ _. rw row-is (tight-row .from, tight-row .upTo);
-          slack = λ _. rw (row-is, slack-is) (sym (slack-at tight (tight-row .from) (tight-row .upTo)));
-          lowest = λ _ i l w. rw slack-is (lower i l (rw row-is at w));
-          no-less = λ _ i l h. rw (slack-is, slack-at i l h) (least-slack t o i (in-rows t i (record { from = l; upTo = h })));
+          moment = λ _ i l h. (momentOf t o i, moment-run i l h);
+          slack = λ _ m p. rw (row-is, slack-is) (sym (slack-at tight (tight-row .from) (tight-row .upTo) m (rw row-is at p)));
+          lowest = λ _ i l w m p. rw slack-is (lower i l (rw row-is at w) m p);
+          no-less = λ _ i l h m p. rw (slack-is, slack-at i l h m p) (least-slack t o i (in-rows t i (record { from = l; upTo = h })));
         }
 
   -- they refused
@@ -217,6 +222,7 @@ module _ (t : Table) (o : List ℕ) where
         yes-or-no = inl refl;
         finish = λ z. absurd (n z);
         row = λ z. absurd (n z);
+        moment = λ z. absurd (n z);
         slack = λ z. absurd (n z);
         lowest = λ z. absurd (n z);
         no-less = λ z. absurd (n z);

@@ -1,4 +1,5 @@
 pub mod Conclusions
+pub mod Moments
 pub mod Entries
 pub mod Planned
 pub mod Author

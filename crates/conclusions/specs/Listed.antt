@@ -36,7 +36,8 @@ use Rattle.report.specs.Totals.{late-most, late-none}
 use Rattle.conclusions.specs.Back.{table-not-ten}
 use Rattle.conclusions.specs.Judged.{worst-run, least-slack, row-is, slack-is, tight-row}
 use Rattle.conclusions.specs.Rooms.{ten-is, own-is}
-use Rattle.conclusions.specs.Conclusions.{tenAt, JobListed, Listing, WorstRun}
+use Rattle.conclusions.specs.Conclusions.{tenAt, JobListed, Listing, WorstRun, slackOf}
+use Rattle.conclusions.specs.Moments.{momentOf, part-run, moment-slack}
 
 -- ---- figures of a line
 -- the five figures of a place's line, and its end
@@ -104,9 +105,10 @@ module _ (t : Table) (o rest : List ℕ) where
       ap (drop (51 * t .n)) (append-assoc lines (lastLine t o) rest) ∙ drop-at lines (lastLine t o ++ rest) (51 * t .n) (jobs-long t o (t .n))
 
   -- the line of place k + 1
-  job-listed : (k : ℕ) → k < t .n → JobListed t text (suc k) (at o (suc k)) (worstFinish t o (at o (suc k)))
-  unfolding jobLine slack
-  job-listed k h =
+  job-listed : (k : ℕ) → k < t .n → (m : ℕ) → slackOf t (at o (suc k)) (worstFinish t o (at o (suc k))) m ≡ slack t o (at o (suc k))
+      → JobListed t text (suc k) (at o (suc k)) (worstFinish t o (at o (suc k))) m
+  unfolding jobLine
+  job-listed k h m w =
       let i = at o (suc k) in
       let b = from-job k h in
       let q : suc k - 1 ≡ k = omega arith in
@@ -119,7 +121,7 @@ module _ (t : Table) (o rest : List ℕ) where
         row = ten-in text line s 2 at-k ∙ f .1;
         need = ten-in text line s 3 at-k ∙ f .2;
         finish = ten-in text line s 4 at-k ∙ f .3;
-        slack = ten-in text line s 5 at-k ∙ f .4;
+        slack = ten-in text line s 5 at-k ∙ f .4 ∙ ap figure (sym w);
         ends = end-in text line s 50 at-k ∙ f .5;
       }
 
@@ -137,9 +139,10 @@ module _ (t : Table) (o rest : List ℕ) where
   last-ends = end-in text (lastLine t o ++ rest) (51 * t .n) 20 from-last ∙ two (pos (needsOf t)) (pos (lateRows t o)) rest .2
 
   -- the line of place k, from 1
-  at-place : (k : ℕ) → 1 ≤ k → k ≤ t .n → (f : ℕ) → worstFinish t o (at o k) ≡ f → JobListed t text k (at o k) f
-  at-place zero l h f e = absurd (omega arith)
-  at-place (suc k) l h f e = subst (λ (g : ℕ). JobListed t text (suc k) (at o (suc k)) g) e (job-listed k (omega arith))
+  at-place : (k : ℕ) → 1 ≤ k → k ≤ t .n → (f m : ℕ) → worstFinish t o (at o k) ≡ f → slackOf t (at o k) (worstFinish t o (at o k)) m ≡ slack t o (at o k)
+      → JobListed t text k (at o k) f m
+  at-place zero l h f m e w = absurd (omega arith)
+  at-place (suc k) l h f m e w = subst (λ (g : ℕ). JobListed t text (suc k) (at o (suc k)) g m) e (job-listed k (omega arith) m w)
 
 -- ---- 0 as a figure is 0
 none-back : (v : ℕ) → v < 100000000 → figure (pos v) ≡ figure (pos 0) → v ≡ 0
@@ -177,8 +180,12 @@ module _ (t : Table) (o lent : List ℕ) where
         fits = λ _. f .1;
         passes = λ _ _ _. refl;
         long = λ _. report-long t o;
-        job = λ _ k l h f w. at-place t o behind k l h f (one-finish t o (at o k) (worstFinish t o (at o k)) f (run k l h) w);
-        run = λ _ k l h. (worstFinish t o (at o k), run k l h);
+        job = λ _ k l h f m w p. at-place t o behind k l h f m (one-finish t o (at o k) (worstFinish t o (at o k)) f (run k l h) w)
+            (moment-slack t (both-accepted t o ok) o (both-order t o ok) (at o k) (place-row t o (both-order t o ok) k l h) m p);
+        run = λ _ k l h. (
+          (worstFinish t o (at o k), run k l h),
+          (momentOf t o (at o k), part-run t (both-accepted t o ok) o (both-order t o ok) (at o k) (place-row t o (both-order t o ok) k l h)),
+        );
         needs = λ _. needs-listed t o behind;
         late = λ _. late-listed t o behind;
         ends = λ _. last-ends t o behind;
@@ -245,20 +252,22 @@ pub record JudgeListed (t : Table) (o text : List ℕ) : Type 0 where
   pub least : tenAt text (51 * (place - 1)) 5 ≡ figure (verdictSlack (judgeOf t o))
 
 pub judge-listed : (t : Table) (o rest : List ℕ) → checkBoth t o ≡ Passed → JudgeListed t o (reportText t o ++ rest)
-unfolding slack
 judge-listed t o rest ok =
     let order = both-order t o ok in
     let p = place-of t o order (tightest t o) (tight-row t o ok) in
-    let l = at-place t o rest (p .0) (p .1) (p .2) (worstFinish t o (at o (p .0))) refl in
+    let same-slack : (k : ℕ) → 1 ≤ k → k ≤ t .n → slackOf t (at o k) (worstFinish t o (at o k)) (momentOf t o (at o k)) ≡ slack t o (at o k) =
+    λ k a b. let r = place-row t o order k a b in
+    moment-slack t (both-accepted t o ok) o order (at o k) r (momentOf t o (at o k)) (part-run t (both-accepted t o ok) o order (at o k) r) in
+    let l = at-place t o rest (p .0) (p .1) (p .2) (worstFinish t o (at o (p .0))) (momentOf t o (at o (p .0))) refl (same-slack (p .0) (p .1) (p .2)) in
     record {
       none-below = λ k a b z h e.
-          let j = at-place t o rest k a b (worstFinish t o (at o k)) refl in
+          let j = at-place t o rest k a b (worstFinish t o (at o k)) (momentOf t o (at o k)) refl (same-slack k a b) in
           let r = place-row t o order k a b in
-          let same : z ≡ slack t o (at o k) = figure-once z (slack t o (at o k)) h (slack-small t o ok (at o k) r) (sym e ∙ j .slack) in
+          let same : z ≡ slack t o (at o k) = figure-once z (slack t o (at o k)) h (slack-small t o ok (at o k) r) (sym e ∙ j .slack ∙ ap figure (same-slack k a b)) in
           rw (same, slack-is t o ok) (least-slack t o (at o k) (in-rows t (at o k) r));
       place = p .0;
       from = p .1;
       upTo = p .2;
       row = l .row ∙ ap (λ (i : ℕ). figure (pos i)) (p .3 ∙ sym (row-is t o ok));
-      least = l .slack ∙ ap figure (ap (slack t o) (p .3) ∙ sym (slack-is t o ok));
+      least = l .slack ∙ ap figure (same-slack (p .0) (p .1) (p .2) ∙ ap (slack t o) (p .3) ∙ sym (slack-is t o ok));
     }

@@ -21,7 +21,7 @@ use Rattle.rules.specs.Orders.{checkBoth}
 use Rattle.rules.specs.Reports.{figure, figures, jobLine, needsOf, lateRows, lastLine, reportText, checkReport, reportOf}
 use Rattle.rules.specs.Rows.{at, needOf}
 use Rattle.rules.specs.Worst.{worstFinish, slack}
-use Rattle.theory.specs.Facts.{both-pass, both-order}
+use Rattle.theory.specs.Facts.{both-pass, both-accepted, both-order}
 use Rattle.theory.specs.Places.{place-row}
 use Rattle.theory.specs.Room.{too-short}
 use Rattle.theory.specs.Tests.{by-eqb}
@@ -29,6 +29,7 @@ use Rattle.fields.specs.Lengths.{joined-more}
 use Rattle.report.specs.Lines.{report-long, passes, report-refused, report-passed}
 use Rattle.conclusions.specs.Conclusions.{tenAt, Listing}
 use Rattle.conclusions.specs.Judged.{worst-run}
+use Rattle.conclusions.specs.Moments.{momentOf, part-run, moment-slack}
 
 -- ---- a line put together from its figures
 -- m bytes and then ten more, or one more
@@ -85,15 +86,17 @@ module _ (t : Table) (o lent : List ℕ) (number size : ℕ) (after : List ℕ) 
 
     -- the line of place k + 1
     line-is : (k : ℕ) → k < t .n → take 51 (drop (51 * k) after) ≡ jobLine t o (suc k)
-    unfolding jobLine slack
+    unfolding jobLine
     line-is k h =
         let i = at o (suc k) in
         let r = place-row t o (both-order t o ok) (suc k) (omega arith) (omega arith) in
-        let j = s .job z (suc k) (omega arith) (omega arith) (worstFinish t o i) (worst-run t o ok i (r .from) (r .upTo)) in
+        let j = s .job z (suc k) (omega arith) (omega arith) (worstFinish t o i) (momentOf t o i) (worst-run t o ok i (r .from) (r .upTo))
+        (part-run t (both-accepted t o ok) o (both-order t o ok) i r) in
+        let w = moment-slack t (both-accepted t o ok) o (both-order t o ok) i r (momentOf t o i) (part-run t (both-accepted t o ok) o (both-order t o ok) i r) in
         let q : suc k - 1 ≡ k = omega arith in
         let m : 51 * (suc k - 1) ≡ 51 * k = ap (λ (x : ℕ). 51 * x) q in
         five-more after (51 * k) (pos (suc k)) (pos i) (pos (needOf t i)) (pos (worstFinish t o i)) (slack t o i) (omega (arith, s .fits z, s .whole))
-        (sym (first-ten after (51 * k)) ∙ rw m at (j .place)) (rw m at (j .row)) (rw m at (j .need)) (rw m at (j .finish)) (rw m at (j .slack)) (rw m at (j .ends))
+        (sym (first-ten after (51 * k)) ∙ rw m at (j .place)) (rw m at (j .row)) (rw m at (j .need)) (rw m at (j .finish)) (rw m at (j .slack) ∙ ap figure w) (rw m at (j .ends))
 
     lines-are : (k : ℕ) → k ≤ t .n → take (51 * k) after ≡ joined (jobLine t o) (rowsTo k)
     lines-are zero h = refl

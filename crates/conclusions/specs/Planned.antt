@@ -1,5 +1,5 @@
 -- The planner's conclusion, from what the planner promises.
-use Prim.Native.Nat.{ℕ, _-_, _≤_}
+use Prim.Native.Nat.{ℕ, _≤_}
 use mathlib.Core.Logic.{_⊎_, inl, inr, ⊎-elim}
 use mathlib.Core.Path.{_≡_, refl, sym, ap}
 use mathlib.Core.List.{List, [], _∷_}
@@ -7,7 +7,7 @@ use native.Mathlib.Omega.{arith}
 use mathlib.Core.Bool.{Bool, true}
 use borrow.Author.Tests.{eqb-true}
 use lib.Dec.{eqb}
-use lib.IntN.{pos}
+use lib.IntN.{pos, natAbs}
 use lib.ListN.{length, getD, drop}
 use Rattle.rules.specs.declared.Table.{Table}
 use Rattle.rules.specs.declared.Check.{Check}
@@ -17,9 +17,9 @@ use Rattle.rules.specs.Lists.{rowsTo, all, allZero, count}
 use Rattle.rules.specs.Orders.{isOrder}
 use Rattle.rules.specs.Meaning.{correct-serves, serves-correct}
 use Rattle.rules.specs.Numbers.{plannedNumber, rowsLeft}
-use Rattle.rules.specs.Rows.{isRow, deadlineOf}
+use Rattle.rules.specs.Rows.{isRow}
 use Rattle.rules.specs.Tables.{checkTable, Accepted}
-use Rattle.rules.specs.Worst.{worstFinish, slack}
+use Rattle.rules.specs.Worst.{slack}
 use Rattle.planner.specs.Promise.{refusal-number, promised}
 use Rattle.theory.specs.Results.{verdict, natural-slack}
 use Rattle.theory.specs.Tests.{by-eqb, and-left, and-right}
@@ -95,9 +95,9 @@ module _ (t : Table) where
   unfolding planOf
   planned = checked (checkTable t) refl
 
-  -- What the program writes as a row's slack, a difference of natural numbers, is its slack.
+  -- What the program writes as a row's slack, a natural number, is its slack.
   pub program-slack : Accepted t → plannedNumber (planOf t .answer) ≡ 0 → (i : ℕ) → isRow t i ≡ true
-      → pos (deadlineOf t i - worstFinish t (planOf t .order) i) ≡ slack t (planOf t .order) i
+      → pos (natAbs (slack t (planOf t .order) i)) ≡ slack t (planOf t .order) i
   program-slack accepted n i r =
       let o = planOf t .order in
       let m = planned .made n in

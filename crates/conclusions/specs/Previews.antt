@@ -1,12 +1,12 @@
 -- Late previews (section 19 of the rules) in plain terms, from the statements of theory/specs/Results and theory/specs/Seven alone: where one of
 -- these says less, a proof here fails. Times are in slots, supplies in work units, N and G in work units per slot.
-use Prim.Native.Nat.{ℕ, _≤_, _<_}
+use Prim.Native.Nat.{ℕ, _≤_, _<_, max}
 use mathlib.Core.Bool.{true}
 use mathlib.Core.List.{List}
 use mathlib.Core.Logic.{_⊎_}
 use mathlib.Core.Path.{_≡_}
 use native.Mathlib.Omega.{arith}
-use borrow.Author.Tests.{ne-eqb, eqb-true}
+use borrow.Author.Tests.{eq-eqb, ne-eqb, eqb-true}
 use Rattle.rules.specs.declared.Table.{Table}
 use Rattle.rules.specs.Choice.{planOf}
 use Rattle.rules.specs.Correct.{earliest}
@@ -31,10 +31,12 @@ pub record Previewed (t : Table) (o : List ℕ) (σ : ℕ → ℕ) (i : ℕ) : T
   pub upTo : at (runAfter t o σ (at (t .deadline) i) .closing) i ≤ at (t .deadline) i
 
 -- An order serves in runs: every row is in time while every slot supplies at least N, and every row of a level other than 0 while every slot
--- supplies at least G (rule 19.5).
+-- supplies at least G (rule 19.5); and every row of level 0 has its promised part by its deadline while every slot supplies at least G (rule 20.3).
 pub record ServesRuns (t : Table) (o : List ℕ) : Type 0 where
   pub all-rows : (σ : ℕ → ℕ) → ((u : ℕ) → t .normal ≤ σ u) → (i : ℕ) → 1 ≤ i → i ≤ t .n → Previewed t o σ i
   pub high-rows : (σ : ℕ → ℕ) → ((u : ℕ) → t .degraded ≤ σ u) → (i : ℕ) → 1 ≤ i → i ≤ t .n → (at (t .level) i ≡ 0 → ⊥) → Previewed t o σ i
+  pub low-rows : (σ : ℕ → ℕ) → ((u : ℕ) → t .degraded ≤ σ u) → (i : ℕ) → 1 ≤ i → i ≤ t .n → at (t .level) i ≡ 0
+      → at (t .promised) i ≤ at (runAfter t o σ (at (t .deadline) i) .got) i
 
 row-of : (t : Table) (i : ℕ) → 1 ≤ i → i ≤ t .n → isRow t i ≡ true
 row-of t i l h = is-row t i (record { from = l; upTo = h })
@@ -45,7 +47,12 @@ runs-plain t o s =
       all-rows = λ σ e i l h. let k = s .normal σ e i (row-of t i l h) in record { got = k .done; from = k .closed; upTo = k .inTime };
       high-rows = λ σ e i l h n. let k = s .degraded σ e i (row-of t i l h) (rw (ne-eqb (at (t .level) i) 0 n)) in
           record { got = k .done; from = k .closed; upTo = k .inTime };
+      low-rows = λ σ e i l h z. s .promised σ e i (row-of t i l h) (eq-eqb (at (t .level) i) 0 z);
     }
+
+-- the slots that a LO row may use (rule 1.9)
+abbrev pub mayUse : Table → ℕ → ℕ
+mayUse t i = max (need (t .loading) (at (t .work) i) (t .normal)) (need (t .loading) (at (t .promised) i) (t .degraded))
 
 module _ (t : Table) (accepted : Accepted t) (o : List ℕ) (passes : isOrder t o ≡ true) where
   -- a correct order serves in runs
@@ -61,8 +68,8 @@ module _ (t : Table) (accepted : Accepted t) (o : List ℕ) (passes : isOrder t 
   pub why-dropped : (σ : ℕ → ℕ) (k i : ℕ) → 1 ≤ i → i ≤ t .n → 1 ≤ at (runAfter t o σ k .closing) i
       → (at (runAfter t o σ k .got) i ≡ at (t .work) i → ⊥)
       → (at (t .level) i ≡ 0)
-      × (((at (runAfter t o σ k .used) i ≡ need (t .loading) (at (t .work) i) (t .normal)) × (at (runAfter t o σ k .closing) i ≤ at (t .deadline) i))
-      ⊎ ((at (runAfter t o σ k .used) i < need (t .loading) (at (t .work) i) (t .normal)) × (at (runAfter t o σ k .closing) i ≡ at (t .deadline) i)))
+      × (((at (runAfter t o σ k .used) i ≡ mayUse t i) × (at (runAfter t o σ k .closing) i ≤ at (t .deadline) i))
+      ⊎ ((at (runAfter t o σ k .used) i < mayUse t i) × (at (runAfter t o σ k .closing) i ≡ at (t .deadline) i)))
   why-dropped σ k i l h c n =
       let d = running-dropped t accepted o passes i (row-of t i l h) σ k c n in (eqb-true (at (t .level) i) 0 (d .0), d .1)
 

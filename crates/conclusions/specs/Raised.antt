@@ -1,4 +1,4 @@
--- Raised speeds, over the words that C lends (rules 18.8, 18.9): an order that serves goes on serving when N, G or both are raised within their
+-- Raised speeds, over the words that C lends (rules 18.8, 18.9, 20.5): an order that serves goes on serving when N, G or both are raised within their
 -- limits, and whatever the order no row's slack falls.
 use Prim.Native.Nat.{ℕ, _≤_}
 use mathlib.Core.Bool.{true, false}
@@ -18,7 +18,7 @@ use Rattle.theory.specs.Results.{larger-speeds, slack-larger}
 use Rattle.words.specs.Words.{tableIn}
 use Rattle.conclusions.specs.Cooled.{at-word}
 
-module _ (table : List ℕ) (long : length table ≡ 260) (accepted : Accepted (tableIn table)) (o : List ℕ) (e : isOrder (tableIn table) o ≡ true)
+module _ (table : List ℕ) (long : length table ≡ 324) (accepted : Accepted (tableIn table)) (o : List ℕ) (e : isOrder (tableIn table) o ≡ true)
     (n g : ℕ) (normal : getD table 1 0 ≤ n) (most : n ≤ 1000) (degraded : getD table 2 0 ≤ g) (slower : g ≤ n) where
   abbrev raised : Table
   raised = tableIn (set (set table 1 n) 2 g)

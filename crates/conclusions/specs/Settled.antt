@@ -6,10 +6,9 @@ use mathlib.Core.List.{List}
 use native.Mathlib.Omega.{arith}
 use lib.ListN.{getD}
 use Rattle.rules.specs.Calls.{Call}
-use Rattle.rules.specs.Need.{need}
 use Rattle.rules.specs.Sheets.{numberAt}
 use Rattle.theory.specs.Tests.{by-ltb, by-leb, by-eqb}
-use Rattle.conclusions.specs.Conclusions.{SameRow, DueIn, RowWaits, RowRuns, listWords, PenEngineer, Taken, TableAuthor}
+use Rattle.conclusions.specs.Conclusions.{SameRow, DueIn, RowWaits, RowRuns, listWords, PenEngineer, Taken, TableAuthor, allowedSlots}
 
 -- a row that does not run has one set of figures after the slot
 pub one-waits : (table state next other : List ℕ) (j : ℕ) → RowWaits table state next j → RowWaits table state other j → SameRow next other j
@@ -52,7 +51,7 @@ module _ (table order state : List ℕ) (supply i : ℕ) (next other : List ℕ)
       by-eqb (getD next i 0) (getD table (67 + i) 0)
       (λ _ q. a .done q ∙ sym (b .done (sym got-one ∙ q)))
       (λ _ n. by-eqb (getD table (195 + i) 0) 0
-      (λ _ z. by-leb (need (getD table 3 0) (getD table (67 + i) 0) (getD table 1 0)) (getD next (64 + i) 0)
+      (λ _ z. by-leb (allowedSlots table i) (getD next (64 + i) 0)
       (λ _ h. a .dropped z h ∙ sym (b .dropped z (omega (arith, used-one, h))))
       (λ _ h. by-leb (getD table (131 + i) 0) (getD state 0 0 + 1)
       (λ _ d. a .late z d ∙ sym (b .late z d))

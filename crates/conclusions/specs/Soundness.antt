@@ -1,6 +1,6 @@
 -- Check 9 in plain terms, over the words that C lends (rules 8.3 to 8.8): which records 9 refuses, and which not. Both directions, so that none
 -- of its clauses can be lost unseen. Works are in work units, clocks, slots used and closing slots in slots.
-use Prim.Native.Nat.{ℕ, zero, suc, _+_, _-_, _≤_, _<_}
+use Prim.Native.Nat.{ℕ, zero, suc, _+_, _-_, _≤_, _<_, max}
 use mathlib.Core.Bool.{Bool, true, false, _&&_, _||_}
 use mathlib.Core.List.{List, [], _∷_}
 use mathlib.Core.Logic.{_⊎_, inl, inr}
@@ -25,21 +25,26 @@ use Rattle.words.specs.Words.{tableIn, runIn}
 use Rattle.conclusions.specs.Entries.{column-full, table-words, state-words}
 use Rattle.conclusions.specs.Firmware.{over-done, over-dropped, over-open}
 
+-- the slots that a LO row may use: its need at N, or the need of its promised part at G if that is more (rule 1.9)
+abbrev pub mostSlots : ℕ → ℕ → ℕ → ℕ → ℕ → ℕ
+mostSlots work promised normal degraded loading = max (need loading work normal) (need loading promised degraded)
+
 -- The figures of one row. Open, it is missing work and, if it is LO, has allowance left and its deadline before it. Closed, it has all its work,
 -- or it is LO and has used up its allowance or was closed at its deadline (rules 8.6, 8.7).
-pub record FiguresSound (work deadline level normal loading clock got used closing : ℕ) : Type 0 where
+pub record FiguresSound (work deadline level promised normal degraded loading clock got used closing : ℕ) : Type 0 where
   pub most : got ≤ work
   pub used-by : used ≤ clock
   pub closed-by : closing ≤ clock
   pub missing : closing ≡ 0 → got ≡ work → ⊥
-  pub allowed : closing ≡ 0 → level ≡ 0 → used < need loading work normal
+  pub allowed : closing ≡ 0 → level ≡ 0 → used < mostSlots work promised normal degraded loading
   pub early : closing ≡ 0 → level ≡ 0 → clock < deadline
-  pub why : (closing ≡ 0 → ⊥) → (got ≡ work) ⊎ ((level ≡ 0) × ((need loading work normal ≤ used) ⊎ (closing ≡ deadline)))
+  pub why : (closing ≡ 0 → ⊥) → (got ≡ work) ⊎ ((level ≡ 0) × ((mostSlots work promised normal degraded loading ≤ used) ⊎ (closing ≡ deadline)))
 
 -- the words of row i
 abbrev pub RowSound : List ℕ → List ℕ → ℕ → Type 0
 RowSound table state i =
-    FiguresSound (getD table (67 + i) 0) (getD table (131 + i) 0) (getD table (195 + i) 0) (getD table 1 0) (getD table 3 0)
+    FiguresSound (getD table (67 + i) 0) (getD table (131 + i) 0) (getD table (195 + i) 0) (getD table (259 + i) 0) (getD table 1 0) (getD table 2 0)
+    (getD table 3 0)
     (getD state 0 0) (getD state i 0) (getD state (64 + i) 0) (getD state (128 + i) 0)
 
 -- A record that 9 does not refuse: the table is accepted and the order is one of its orders (rule 8.4), the clock is at most 2,000,000 slots
@@ -52,19 +57,19 @@ pub record SoundWords (table order state : List ℕ) : Type 0 where
   pub tail : (i : ℕ) → getD table 0 0 < i → i ≤ 64 → (getD state i 0 ≡ 0) × (getD state (64 + i) 0 ≡ 0) × (getD state (128 + i) 0 ≡ 0)
 
 -- ---- one row, by its figures
-module _ (work deadline level normal loading clock got used closing : ℕ) where
+module _ (work deadline level promised normal degraded loading clock got used closing : ℕ) where
   abbrev ended : Bool
-  ended = over work level normal loading got used
+  ended = over work level promised normal degraded loading got used
 
-  over-so : ended ≡ true → (got ≡ work) ⊎ ((level ≡ 0) × (need loading work normal ≤ used))
+  over-so : ended ≡ true → (got ≡ work) ⊎ ((level ≡ 0) × (mostSlots work promised normal degraded loading ≤ used))
   unfolding over
   over-so e =
       by-eqb got work
       (λ _ q. inl q)
-      (λ n _. let f : eqb level 0 && leb (need loading work normal) used ≡ true = rw n at e in
+      (λ n _. let f : eqb level 0 && leb (mostSlots work promised normal degraded loading) used ≡ true = rw n at e in
       inr (
-        eqb-true level 0 (and-left (eqb level 0) (leb (need loading work normal) used) f),
-        leb-true (need loading work normal) used (and-right (eqb level 0) (leb (need loading work normal) used) f),
+        eqb-true level 0 (and-left (eqb level 0) (leb (mostSlots work promised normal degraded loading) used) f),
+        leb-true (mostSlots work promised normal degraded loading) used (and-right (eqb level 0) (leb (mostSlots work promised normal degraded loading) used) f),
       ))
 
   closed-so : (closing ≡ 0 → ⊥) → closingSound ended deadline level clock closing ≡ true → (ended ≡ true) ⊎ ((level ≡ 0) × (closing ≡ deadline))
@@ -75,15 +80,15 @@ module _ (work deadline level normal loading clock got used closing : ℕ) where
       (λ q. let g : eqb level 0 && eqb closing deadline ≡ true = rw q at f in
       inr (eqb-true level 0 (and-left (eqb level 0) (eqb closing deadline) g), eqb-true closing deadline (and-right (eqb level 0) (eqb closing deadline) g)))
 
-  figures-plain : Sound work deadline level normal loading clock got used closing → FiguresSound work deadline level normal loading clock got used closing
+  figures-plain : Sound work deadline level promised normal degraded loading clock got used closing → FiguresSound work deadline level promised normal degraded loading clock got used closing
   figures-plain s =
       record {
         most = s .most;
         used-by = s .used-by;
         closed-by = s .closed-by;
-        missing = λ z q. not-both ended (over-done work level normal loading got used q) (opened z .0);
-        allowed = λ z l. by-leb (need loading work normal) used
-            (λ _ h. absurd (not-both ended (over-dropped work level normal loading got used l h) (opened z .0)))
+        missing = λ z q. not-both ended (over-done work level promised normal degraded loading got used q) (opened z .0);
+        allowed = λ z l. by-leb (mostSlots work promised normal degraded loading) used
+            (λ _ h. absurd (not-both ended (over-dropped work level promised normal degraded loading got used l h) (opened z .0)))
             (λ _ h. h);
         early = λ z l. by-leb deadline clock
             (λ w _. absurd (not-both (eqb level 0 && leb deadline clock) (rw (eq-eqb level 0 l, w)) (opened z .1)))
@@ -94,29 +99,29 @@ module _ (work deadline level normal loading clock got used closing : ℕ) where
       opened : closing ≡ 0 → (ended ≡ false) × (eqb level 0 && leb deadline clock ≡ false)
       opened z = open-so ended deadline level clock (rw z at (s .open-or-closed))
 
-      go : (ended ≡ true) ⊎ ((level ≡ 0) × (closing ≡ deadline)) → (got ≡ work) ⊎ ((level ≡ 0) × ((need loading work normal ≤ used) ⊎ (closing ≡ deadline)))
+      go : (ended ≡ true) ⊎ ((level ≡ 0) × (closing ≡ deadline)) → (got ≡ work) ⊎ ((level ≡ 0) × ((mostSlots work promised normal degraded loading ≤ used) ⊎ (closing ≡ deadline)))
       go (inl e) = by-over (over-so e)
         where
-          by-over : (got ≡ work) ⊎ ((level ≡ 0) × (need loading work normal ≤ used)) → (got ≡ work) ⊎ ((level ≡ 0) × ((need loading work normal ≤ used) ⊎ (closing ≡ deadline)))
+          by-over : (got ≡ work) ⊎ ((level ≡ 0) × (mostSlots work promised normal degraded loading ≤ used)) → (got ≡ work) ⊎ ((level ≡ 0) × ((mostSlots work promised normal degraded loading ≤ used) ⊎ (closing ≡ deadline)))
           by-over (inl q) = inl q
           by-over (inr q) = inr (q .0, inl (q .1))
       go (inr q) = inr (q .0, inr (q .1))
 
-  plain-figures : FiguresSound work deadline level normal loading clock got used closing → Sound work deadline level normal loading clock got used closing
+  plain-figures : FiguresSound work deadline level promised normal degraded loading clock got used closing → Sound work deadline level promised normal degraded loading clock got used closing
   plain-figures s =
       record {
         most = s .most;
         used-by = s .used-by;
         closed-by = s .closed-by;
         open-or-closed = by-eqb closing 0
-            (λ e z. rw (e, over-open work level normal loading got used (s .missing z) (s .allowed z))
+            (λ e z. rw (e, over-open work level promised normal degraded loading got used (s .missing z) (s .allowed z))
             (by-eqb level 0 (λ w l. rw (w, lt-leb deadline clock (s .early z l))) (λ w _. rw w)))
             (λ e n. rw e (go (s .why n)));
       }
     where
-      go : (got ≡ work) ⊎ ((level ≡ 0) × ((need loading work normal ≤ used) ⊎ (closing ≡ deadline))) → ended || (eqb level 0 && eqb closing deadline) ≡ true
-      go (inl q) = rw (over-done work level normal loading got used q)
-      go (inr (l, inl q)) = rw (over-dropped work level normal loading got used l q)
+      go : (got ≡ work) ⊎ ((level ≡ 0) × ((mostSlots work promised normal degraded loading ≤ used) ⊎ (closing ≡ deadline))) → ended || (eqb level 0 && eqb closing deadline) ≡ true
+      go (inl q) = rw (over-done work level promised normal degraded loading got used q)
+      go (inr (l, inl q)) = rw (over-dropped work level promised normal degraded loading got used l q)
       go (inr (l, inr q)) = by-bool ended (λ e. rw e) (λ e. rw (e, eq-eqb level 0 l, eq-eqb closing deadline q))
 
 -- ---- zeros after the last row
@@ -168,7 +173,7 @@ module _ (table order state : List ℕ) (states : length state ≡ 193) where
         rows = λ i l h.
             let w = table-words table i l (omega (arith, f .few, h)) in
             let v = state-words table order state i l (omega (arith, f .few, h)) in
-            rw (w .work, w .deadline, w .level, v .got, v .used, v .closing) (figures-plain _ _ _ _ _ _ _ _ _ (sound-facts _ _ _ _ _ _ _ _ _ (s .rows i l h)));
+            rw (w .work, w .deadline, w .level, w .promised, v .got, v .used, v .closing) (figures-plain _ _ _ _ _ _ _ _ _ _ _ (sound-facts _ _ _ _ _ _ _ _ _ _ _ (s .rows i l h)));
         tail = λ i h few.
             let v = state-words table order state i (omega arith) few in (
               v .got ∙ tail-each (r .got) n i (and-left z-got z-used two) h,
@@ -189,7 +194,7 @@ module _ (table order state : List ℕ) (states : length state ≡ 193) where
         rows = λ i l h.
             let w = table-words table i l (omega (arith, f .few, h)) in
             let v = state-words table order state i l (omega (arith, f .few, h)) in
-            sound-test _ _ _ _ _ _ _ _ _ (plain-figures _ _ _ _ _ _ _ _ _ (rw (w .work, w .deadline, w .level, v .got, v .used, v .closing) at (s .rows i l h)));
+            sound-test _ _ _ _ _ _ _ _ _ _ _ (plain-figures _ _ _ _ _ _ _ _ _ _ _ (rw (w .work, w .deadline, w .level, w .promised, v .got, v .used, v .closing) at (s .rows i l h)));
         tail = rw (
           each-tail (r .got) n (three .1) (λ i h few. sym (state-words table order state i (omega arith) few .got) ∙ s .tail i h few .0),
           each-tail (r .used) n (three .2) (λ i h few. sym (state-words table order state i (omega arith) few .used) ∙ s .tail i h few .1),

@@ -96,6 +96,9 @@ pub record Deadlines (t : Table) (o : List ℕ) (cs : List Call) (made : AllMade
       → at (t .deadline) i ≤ made .run .clock → Supplied t cs i (t .normal) → Done t made i
   pub high : Serves t o → (i : ℕ) → 1 ≤ i → i ≤ t .n → (at (t .level) i ≡ 0 → ⊥)
       → at (t .deadline) i ≤ made .run .clock → Supplied t cs i (t .degraded) → Done t made i
+  -- and each of level 0 has got its promised part, in work units, if its slots supplied at least G (rule 9.18)
+  pub part : Serves t o → (i : ℕ) → 1 ≤ i → i ≤ t .n → at (t .level) i ≡ 0
+      → at (t .deadline) i ≤ made .run .clock → Supplied t cs i (t .degraded) → at (t .promised) i ≤ at (made .run .got) i
 
 -- What a caller gets of one accepted table and one list of calls.
 pub record Plain (t : Table) (cs : List Call) : Type 0 where
@@ -287,6 +290,8 @@ module _ (t : Table) (o : List ℕ) (cs : List Call) (made : AllMade) (r : RunRi
       record {
         low = λ s i l h v d w. done accepted s i l h d (λ u j p q a b. rw (eq-eqb (at (t .level) i) 0 v) (w u j p q a b));
         high = λ s i l h v d w. done accepted s i l h d (λ u j p q a b. rw (ne-eqb (at (t .level) i) 0 v) (w u j p q a b));
+        part = λ s i l h v d w. r .promised (serves-correct t o s) i (is-row t i (record { from = l; upTo = h })) (eq-eqb (at (t .level) i) 0 v) d
+            (window accepted i (t .degraded) w);
       }
 
 -- The fresh record of an order of the table, as the claim has it.

@@ -1,4 +1,4 @@
--- Demand 3 (rules 9.5 to 9.12), the theorem: the claim holds of every accepted table and every list of calls.
+-- Demand 3 (rules 9.5 to 9.12, 9.18), the theorem: the claim holds of every accepted table and every list of calls.
 use Prim.Native.Nat.{ℕ, _+_, _≤_}
 use mathlib.Core.Bool.{Bool, true, not}
 use mathlib.Core.Logic.{_↔_}
@@ -17,14 +17,14 @@ use Rattle.rules.specs.Correct.{KeptIn, Correct, CorrectOrder, Window}
 use Rattle.rules.specs.Lists.{all}
 use Rattle.rules.specs.Numbers.{plannedNumber, rowsLeft}
 use Rattle.rules.specs.Orders.{isOrder}
-use Rattle.rules.specs.Rows.{isRow, deadlineOf}
+use Rattle.rules.specs.Rows.{at, isRow, isLow, deadlineOf, promisedOf}
 use Rattle.rules.specs.Running.{runSlot}
 use Rattle.rules.specs.Slots.{State, fresh}
 use Rattle.rules.specs.Tables.{Accepted}
 use Rattle.rules.specs.Worst.{worstSpeed}
 use Rattle.theory.specs.Counts.{in-head}
 use Rattle.theory.specs.Facts.{both-pass}
-use Rattle.theory.specs.Results.{running-sustainable, verdict, choice-order, choice-correct, choice-none}
+use Rattle.theory.specs.Results.{running-sustainable, running-promise, verdict, choice-order, choice-correct, choice-none}
 use Rattle.theory.specs.Tests.{by-bool, by-eqb, and-both}
 use Rattle.guarantee.specs.Playing.{makeAll}
 use Rattle.guarantee.specs.Claim.{paper, RunRight, Demand3}
@@ -73,6 +73,12 @@ module _ (t : Table) (accepted : Accepted t) where
         subst (λ (s : State). KeptIn t s i) (sym (paper-run t o cs))
         (running-sustainable t accepted o order i r (verdict t accepted o order .0 correct i r) (supplyAt cs) w (paper t o cs .state .clock) d)
 
+    promised-paper : Correct t o → (i : ℕ) → isRow t i ≡ true → isLow t i ≡ true → deadlineOf t i ≤ paper t o cs .state .clock
+        → Window t (supplyAt cs) i (t .degraded) → promisedOf t i ≤ at (paper t o cs .state .got) i
+    promised-paper correct i r l d w =
+        subst (λ (s : State). promisedOf t i ≤ at (s .got) i) (sym (paper-run t o cs))
+        (running-promise t accepted o order i r l (verdict t accepted o order .0 correct i r) (supplyAt cs) w (paper t o cs .state .clock) d)
+
     run-right : RunRight t o cs (makeAll cs (freshRun t o))
     run-right =
         subst (RunRight t o cs) (sym made-told)
@@ -87,6 +93,7 @@ module _ (t : Table) (accepted : Accepted t) where
           order = refl;
           no-nine = calls-number t o cs fresh;
           kept = kept-paper;
+          promised = promised-paper;
         })
 
     right : RunRight t o cs (makeAll cs (freshOf t o .run))

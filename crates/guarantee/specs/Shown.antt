@@ -1,5 +1,5 @@
 -- What a function that plays a list of calls shows: the planner's answer, every answer of the calls and the record at the end are those
--- that demand 3 speaks of (rules 9.9 to 9.12).
+-- that demand 3 speaks of (rules 9.9 to 9.12, 9.18).
 use Prim.Native.Nat.{ℕ, _+_}
 use mathlib.Core.Path.{_≡_}
 use mathlib.Core.List.{List, [], _∷_}

@@ -34,6 +34,7 @@ noRows normal degraded loading =
       work = replicate 64 0;
       deadline = replicate 64 0;
       level = replicate 64 0;
+      promised = replicate 64 0;
     }
 
 -- the table with one row more; the figures of a row after the sixty-fourth are left out, and n stays at 65
@@ -49,6 +50,7 @@ withRow t r =
       work = set (t .work) (t .n) (r .work);
       deadline = set (t .deadline) (t .n) (r .deadline);
       level = set (t .level) (t .n) (r .level);
+      promised = set (t .promised) (t .n) (r .promised);
     })
     (record {
       n = 65;
@@ -59,6 +61,7 @@ withRow t r =
       work = t .work;
       deadline = t .deadline;
       level = t .level;
+      promised = t .promised;
     })
 
 unfoldable pub gathered : Table → List Row → Table
@@ -101,6 +104,7 @@ module _ (normal degraded loading : ℕ) where
         work = column-put (λ r. r .work) rs r h i;
         deadline = column-put (λ r. r .deadline) rs r h i;
         level = column-put (λ r. r .level) rs r h i;
+        promised = column-put (λ r. r .promised) rs r h i;
       })
 
   gathered-from : (rs ss : List Row) → length rs + length ss ≤ 64 → gathered (tableOf rs normal degraded loading) ss ≡ tableOf (rs ++ ss) normal degraded loading

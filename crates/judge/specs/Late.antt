@@ -1,4 +1,4 @@
--- If any row is late, the row of least slack is.
+-- If any row has a slack below zero, the row of least slack has.
 use Prim.Native.Nat.{ℕ, _≤_}
 use mathlib.Core.Bool.{Bool, true, false}
 use mathlib.Core.Path.{_≡_, refl}

@@ -10,25 +10,26 @@ use lib.Signed.{ltZ}
 use Rattle.rules.specs.declared.Table.{Table}
 use Rattle.rules.specs.Lists.{rowsTo}
 use Rattle.rules.specs.Rows.{at, rowsOf}
-use Rattle.rules.specs.Worst.{worstFinish, slack}
+use Rattle.rules.specs.Worst.{slack}
 use Rattle.rules.specs.Choice.{padded}
 use Rattle.rules.specs.Judge.{leastSlack, tightest}
 use Rattle.theory.specs.Counts.{In, in-head, in-tail}
 use Rattle.theory.specs.Facts.{Row, is-row, rows-in, facts}
-use Rattle.theory.specs.Results.{order-bound}
+use Rattle.theory.specs.Promised.{latest, slack-is}
+use Rattle.theory.specs.Results.{latest-bound}
 use Rattle.theory.specs.Tests.{by-bool}
 use Rattle.sweep.specs.Padded.{padded-at}
 use Rattle.sweep.specs.Sorts.{rowsFrom, rows-all}
 use Rattle.judge.specs.Checked.{Checked}
 use Rattle.judge.specs.Late.{tightest-row}
 
--- the slack of row i, in slots, off columns of deadlines and finishes
+-- the slack of row i, in slots, off columns of deadlines and of the clocks that slacks count from
 abbrev pub slackIn : List ℕ → List ℕ → ℕ → ℤ
-slackIn deadline finish i = pos (at deadline i) -ℤ pos (at finish i)
+slackIn deadline clock i = pos (at deadline i) -ℤ pos (at clock i)
 
 -- row k + 1 is at index k
-pub slack-next : (deadline finish : List ℕ) (k : ℕ) (z : ℤ) → z ≡ pos (getD deadline k 0) -ℤ pos (getD finish k 0) → z ≡ slackIn deadline finish (k + 1)
-slack-next deadline finish k z e = let w : k + 1 - 1 ≡ k = omega arith in rw w e
+pub slack-next : (deadline clock : List ℕ) (k : ℕ) (z : ℤ) → z ≡ pos (getD deadline k 0) -ℤ pos (getD clock k 0) → z ≡ slackIn deadline clock (k + 1)
+slack-next deadline clock k z e = let w : k + 1 - 1 ≡ k = omega arith in rw w e
 
 -- the row of least slack s among row b and the rows of the list, which come after it
 abbrev pub leastBy : (ℕ → ℤ) → ℕ → List ℕ → ℕ
@@ -81,28 +82,27 @@ least-agree t o s b (i ∷ l) e h =
     (λ q. rw q (least-agree t o s i l (h i (in-head i l)) (λ x j. h x (in-tail x i l j))))
     (λ q. rw q (least-agree t o s b l e (λ x j. h x (in-tail x i l j))))
 
-module _ (t : Table) (o : List ℕ) (c : Checked t o) (finish : List ℕ) (f : finish ≡ padded (map (worstFinish t o) (rowsOf t))) where
-  finish-at : (i : ℕ) → Row t i → at finish i ≡ worstFinish t o i
-  finish-at i r = rw f (padded-at (worstFinish t o) (t .n) i (r .from) (r .upTo) (facts t (c .accepted) .few))
+module _ (t : Table) (o : List ℕ) (c : Checked t o) (clock : List ℕ) (f : clock ≡ padded (map (latest t o) (rowsOf t))) where
+  clock-at : (i : ℕ) → Row t i → at clock i ≡ latest t o i
+  clock-at i r = rw f (padded-at (latest t o) (t .n) i (r .from) (r .upTo) (facts t (c .accepted) .few))
 
-  slack-at : (i : ℕ) → Row t i → slackIn (t .deadline) finish i ≡ slack t o i
-  unfolding slack
-  slack-at i r = rw (finish-at i r)
+  slack-at : (i : ℕ) → Row t i → slackIn (t .deadline) clock i ≡ slack t o i
+  slack-at i r = rw (clock-at i r) (sym (slack-is t o i))
 
-  -- deadlines and worst finishes, in slots, are small
-  pub slack-small : (k : ℕ) → k < t .n → (getD (t .deadline) k 0 < 2 ^ 31) × (getD finish k 0 < 2 ^ 31)
+  -- deadlines and those clocks, in slots, are small
+  pub slack-small : (k : ℕ) → k < t .n → (getD (t .deadline) k 0 < 2 ^ 31) × (getD clock k 0 < 2 ^ 31)
   slack-small k h =
       let r : Row t (suc k) = record { from = omega arith; upTo = h } in
       let w : suc k - 1 ≡ k = omega arith in (
         omega (arith, rw w at (facts t (c .accepted) .row (suc k) r .soon)),
-        omega (arith, rw w at (finish-at (suc k) r), order-bound t (c .accepted) o (c .order) (suc k) (is-row t (suc k) r)),
+        omega (arith, rw w at (clock-at (suc k) r), latest-bound t (c .accepted) o (c .order) (suc k) (is-row t (suc k) r)),
       )
 
-  pub least-is : leastBy (slackIn (t .deadline) finish) 1 (rowsOf t) ≡ tightest t o
+  pub least-is : leastBy (slackIn (t .deadline) clock) 1 (rowsOf t) ≡ tightest t o
   unfolding tightest
-  least-is = least-agree t o (slackIn (t .deadline) finish) 1 (rowsOf t)
+  least-is = least-agree t o (slackIn (t .deadline) clock) 1 (rowsOf t)
       (slack-at 1 (record { from = omega arith; upTo = facts t (c .accepted) .some }))
       (λ x j. slack-at x (rows-in t x j))
 
-  pub least-slack : slackIn (t .deadline) finish (tightest t o) ≡ slack t o (tightest t o)
+  pub least-slack : slackIn (t .deadline) clock (tightest t o) ≡ slack t o (tightest t o)
   least-slack = slack-at (tightest t o) (tightest-row t o (facts t (c .accepted) .some))

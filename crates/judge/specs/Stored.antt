@@ -1,36 +1,37 @@
--- The column of worst finishes, filled place by place from the top of an order.
+-- A column of figures of the rows, filled place by place from the top of an order.
 use Prim.Native.Nat.{ℕ, suc, _+_, _-_, _^_, _≤_, _<_}
+use mathlib.Core.Bool.{cond}
 use mathlib.Core.Path.{_≡_, refl, sym, ap, _∙_}
 use mathlib.Core.List.{List, [], _∷_, _++_, map}
 use native.Mathlib.Numerals.{add-one}
 use native.Mathlib.Omega.{arith}
 use borrow.Author.Tests.{le-leb, lt-leb}
-use lib.Dec.{leb}
+use lib.Dec.{eqb, leb}
 use lib.ListN.{length, getD, take, drop, set, replicate}
 use lib.Seq.{ext-getD, getD-set-same, getD-set-other, getD-take, split-at, take-suc, take-take, length-take-le}
 use Rattle.rules.specs.declared.Table.{Table}
 use Rattle.rules.specs.Lists.{count}
-use Rattle.rules.specs.Rows.{at, rowsOf}
+use Rattle.rules.specs.Rows.{at, put, rowsOf, promisedOf}
 use Rattle.rules.specs.Worst.{worstFinish}
 use Rattle.rules.specs.Choice.{padded}
 use Rattle.theory.specs.Tests.{gate, by-eqb, by-ltb}
 use Rattle.theory.specs.Counts.{Within, count-append, count-same, count-other, in-last}
 use Rattle.theory.specs.Facts.{Row, rows-in, facts, count-rows, count-no-row}
 use Rattle.theory.specs.Places.{order-rows, rows-once}
-use Rattle.theory.specs.Results.{worst-sweep}
+use Rattle.theory.specs.Promised.{latest}
 use Rattle.sweep.specs.Masks.{bit}
 use Rattle.sweep.specs.Holds.{Holds, holds-with-last}
 use Rattle.sweep.specs.Padded.{padded-at, padded-length, rows-length}
 use Rattle.judge.specs.Checked.{Checked}
-use Rattle.sweep.specs.Finds.{zero-entry, queued, queued-sorted, queued-same}
-use Rattle.judge.specs.Down.{sweptDown, padded-past}
+use Rattle.sweep.specs.Finds.{zero-entry}
+use Rattle.judge.specs.Down.{Ready, sweptBy, countedFrom, padded-past, finish-is, latest-is}
 
--- the rows of the first k places have their worst finish in the column, in slots, and the others 0
-abbrev pub Stored : Table → List ℕ → ℕ → List ℕ → Type 0
-Stored t o k out = (x : ℕ) → 1 ≤ x → at out x ≡ gate (leb 1 (count x (take k o))) (worstFinish t o x)
+-- the rows of the first k places have their figure f in the column, and the others 0
+abbrev pub Stored : (ℕ → ℕ) → List ℕ → ℕ → List ℕ → Type 0
+Stored f o k out = (x : ℕ) → 1 ≤ x → at out x ≡ gate (leb 1 (count x (take k o))) (f x)
 
-pub stored-none : (t : Table) (o : List ℕ) → Stored t o 0 (replicate 64 0)
-stored-none t o x h = zero-entry (replicate 64 0) (x - 1) refl
+pub stored-none : (f : ℕ → ℕ) (o : List ℕ) → Stored f o 0 (replicate 64 0)
+stored-none f o x h = zero-entry (replicate 64 0) (x - 1) refl
 
 module _ (t : Table) (o : List ℕ) (c : Checked t o) (long : length o ≡ 64) where
   few : t .n ≤ 64
@@ -73,18 +74,29 @@ module _ (t : Table) (o : List ℕ) (c : Checked t o) (long : length o ≡ 64) w
       pub place-down : Holds (m + 2 ^ (row - 1)) (take (k + 1) o)
       place-down = rw down-to (holds-with-last m (take k o) row (place-range .0) (place-range .1) p fresh)
 
-    -- the sweep over the rows down to the place finds its row's worst finish
-    pub place-finish : (m : ℕ) → Holds m (take (k + 1) o) → sweptDown t m row ≡ worstFinish t o row
-    unfolding sweptDown
-    place-finish m p =
-        let a = take k o in
-        let q : Holds m (a ++ (row ∷ [])) = rw down-to at p in
-        sym (worst-sweep t (c .accepted) a (drop (suc k) o) row within (queued t m) (queued-sorted t m) (queued-same t m (a ++ (row ∷ [])) q within))
-        ∙ ap (λ (l : List ℕ). worstFinish t l row) (sym (split-at o k 0 (omega (arith, few))))
+    -- the sweeps over the rows down to the place find its row's worst finish, and the clock that its slack counts from
+    module _ (m : ℕ) (p : Holds m (take (k + 1) o)) (queue normal part degraded : List ℕ) (ready : Ready t queue normal part degraded) where
+      abbrev below : List ℕ
+      below = drop (suc k) o
 
-    -- and it is stored
-    pub stored-more : (out : List ℕ) (v : ℕ) → length out ≡ 64 → v ≡ worstFinish t o row → Stored t o k out → Stored t o (k + 1) (set out (row - 1) v)
-    stored-more out v lo e s x x1 =
+      down : Holds m (take k o ++ (row ∷ []))
+      down = rw down-to at p
+
+      whole : o ≡ take k o ++ (row ∷ below)
+      whole = split-at o k 0 (omega (arith, few))
+
+      pub place-finish : sweptBy queue (t .n) (t .release) (cond (eqb (at (t .level) row) 0) normal degraded) m row ≡ worstFinish t o row
+      place-finish = finish-is t queue normal part degraded ready (take k o) below m row within down ∙ ap (λ (l : List ℕ). worstFinish t l row) (sym whole)
+
+      pub place-latest : (finish : ℕ) → finish ≡ worstFinish t o row
+          → countedFrom finish (promisedOf t row) (sweptBy queue (t .n) (t .release) (put degraded row (at part row)) m row) ≡ latest t o row
+      place-latest finish f =
+          latest-is t queue normal part degraded ready (take k o) below m row within down finish (f ∙ ap (λ (l : List ℕ). worstFinish t l row) whole)
+          ∙ ap (λ (l : List ℕ). latest t l row) (sym whole)
+
+    -- its row's figure is stored
+    pub stored-more : (f : ℕ → ℕ) (out : List ℕ) (v : ℕ) → length out ≡ 64 → v ≡ f row → Stored f o k out → Stored f o (k + 1) (set out (row - 1) v)
+    stored-more f out v lo e s x x1 =
         let r = place-range in
         let n = count-append x (take k o) (row ∷ []) in
         rw down-to (by-eqb x row
@@ -93,9 +105,8 @@ module _ (t : Table) (o : List ℕ) (c : Checked t o) (long : length o ≡ 64) w
         rw (getD-set-other out (row - 1) (x - 1) v 0 (λ w. q (omega arith)), z) (s x x1)))
 
   -- after n places the column is whole
-  pub stored-all : (out : List ℕ) → length out ≡ 64 → Stored t o (t .n) out → out ≡ padded (map (worstFinish t o) (rowsOf t))
-  stored-all out lo s =
-      let f = worstFinish t o in
+  pub stored-all : (f : ℕ → ℕ) (out : List ℕ) → length out ≡ 64 → Stored f o (t .n) out → out ≡ padded (map f (rowsOf t))
+  stored-all f out lo s =
       let lr = padded-length (map f (rowsOf t)) (omega (arith, rows-length f (t .n), few)) in
       ext-getD 0 out (padded (map f (rowsOf t))) (omega arith) (λ j h.
       let w : suc j - 1 ≡ j = omega arith in

@@ -42,6 +42,7 @@ pub fn refusal_number(why: Refusal) -> u32
         Refusal::Unsound => 9,
         Refusal::NoRoom => 10,
         Refusal::Loading => 11,
+        Refusal::Promised => 12,
     }
 }
 

@@ -40,4 +40,8 @@ fn main() {
     show(b"release");
     show(b"level");
     show(b"deadline");
+    show(b"promise");
+    show(b"promise_above");
+    show(b"promise_high");
+    show(b"promise_missing");
 }

@@ -11,6 +11,7 @@ pub mod Renewing
 pub mod Trying
 pub mod Sweeping
 pub mod Searching
+pub mod LowSearch
 pub mod Taking
 pub mod Turns
 pub mod Placing

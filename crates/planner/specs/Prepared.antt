@@ -17,6 +17,7 @@ use Rattle.theory.specs.Places.{length-rows}
 use Rattle.theory.specs.Choosing.{same-sequence}
 use Rattle.sweep.specs.Padded.{padded-take, padded-at}
 use Rattle.sweep.specs.Finds.{byRelease}
+use Rattle.sweep.specs.CapColumn.{partNeeds}
 use Rattle.planner.specs.declared.Trials.{Trials}
 use Rattle.planner.specs.Marks.{marks}
 use Rattle.planner.specs.Entries.{entriesTo}
@@ -42,6 +43,7 @@ trialsOf t =
       high = atLevel t 1;
       normal = capsAt t (t .normal);
       degraded = capsAt t (t .degraded);
+      part = partNeeds t;
     }
 
 -- the rows of a table in any order, as sixty-four numbers
@@ -66,12 +68,12 @@ module _ (t : Table) (accepted : Accepted t) where
       (λ x i. let r = rows-in t x i in rw e (padded-at (trialKey t) (t .n) x (r .from) (r .upTo) (f .few)))
       ∙ sequence-sort t f
 
-  pub prepared : (queue keys tried entry normal degraded : List ℕ) (low high : ℕ) → queue ≡ padded (sortBy (λ i. at (t .release) i) (rowsOf t))
+  pub prepared : (queue keys tried entry normal degraded part : List ℕ) (low high : ℕ) → queue ≡ padded (sortBy (λ i. at (t .release) i) (rowsOf t))
       → keys ≡ padded (map (trialKey t) (rowsOf t))
       → tried ≡ padded (sortBy (λ i. at keys i) (rowsOf t)) → entry ≡ entriesTo tried (t .n) → low ≡ marks (λ i. eqb (at (t .level) i) 0) (take (t .n) tried)
       → high ≡ marks (λ i. eqb (at (t .level) i) 1) (take (t .n) tried)
-      → normal ≡ capsAt t (t .normal) → degraded ≡ capsAt t (t .degraded)
-      → _≡_ {A = Trials} (record { queue = queue; sequence = tried; entry = entry; low = low; high = high; normal = normal; degraded = degraded }) (trialsOf t)
+      → normal ≡ capsAt t (t .normal) → degraded ≡ capsAt t (t .degraded) → part ≡ partNeeds t
+      → _≡_ {A = Trials} (record { queue = queue; sequence = tried; entry = entry; low = low; high = high; normal = normal; degraded = degraded; part = part }) (trialsOf t)
   unfolding trialsOf
-  prepared queue keys tried entry normal degraded low high q k s x l h n d =
-      rw (q, x, l, h, s, n, d, sequence-column keys k, every-take t f (sequence t) (same-sequence t))
+  prepared queue keys tried entry normal degraded part low high q k s x l h n d p =
+      rw (q, x, l, h, s, n, d, p, sequence-column keys k, every-take t f (sequence t) (same-sequence t))

@@ -8,7 +8,7 @@ use native.Mathlib.Omega.{arith}
 use lib.ListN.{length}
 use Rattle.rules.specs.declared.Table.{Table}
 use Rattle.rules.specs.declared.Refusal.{Refusal}
-use Rattle.rules.specs.declared.Refusal.the-variants.{Length, Malformed, RowCount, Speeds, RowLimits, NotAnOrder, ClockOver, Unsound, NoRoom, Loading}
+use Rattle.rules.specs.declared.Refusal.the-variants.{Length, Malformed, RowCount, Speeds, RowLimits, NotAnOrder, ClockOver, Unsound, NoRoom, Loading, Promised}
 use Rattle.rules.specs.declared.Check.{Check}
 use Rattle.rules.specs.declared.Check.the-variants.{Passed, Refused}
 use Rattle.rules.specs.declared.Planning.{Planning}
@@ -45,6 +45,7 @@ refusal-number ClockOver = (λ e. omega arith, λ e. omega arith)
 refusal-number Unsound = (λ e. omega arith, λ e. omega arith)
 refusal-number NoRoom = (λ e. omega arith, λ e. omega arith)
 refusal-number Loading = (λ e. omega arith, λ e. omega arith)
+refusal-number Promised = (λ e. omega arith, λ e. omega arith)
 
 empty : (l : List ℕ) → length l ≡ 0 → l ≡ []
 empty [] e = refl

@@ -1,21 +1,21 @@
 -- A place of the choice over a table's columns: the trials at both speeds find the row that takes it, and what is known goes on without that row.
-use Prim.Native.Nat.{ℕ, _+_, _-_, _^_, _≤_, _<_}
+use Prim.Native.Nat.{ℕ, _+_, _-_, _^_, _≤_, _<_, max}
 use mathlib.Core.Bool.{Bool, true, false, not, cond, _&&_}
 use mathlib.Core.Path.{_≡_, refl, sym, ap, ap₂, subst, _∙_}
-use mathlib.Core.List.{List, [], _++_, append-nil}
+use mathlib.Core.List.{List, [], _∷_, _++_, append-nil}
 use native.Mathlib.Omega.{arith}
 use lib.Bits.{bitAnd, bitOr}
-use lib.Dec.{eqb, leb}
+use lib.Dec.{eqb, ltb, leb}
 use lib.Pow.{pow-pos}
 use lib.ListN.{length, getD, take}
-use borrow.Author.Tests.{eq-eqb, ne-eqb, eqb-true}
+use borrow.Author.Tests.{eq-eqb, ne-eqb, eqb-true, le-leb, lt-leb, le-ltb, lt-ltb}
 use Rattle.rules.specs.declared.Table.{Table}
 use Rattle.rules.specs.Lists.{first, keep, erase}
-use Rattle.rules.specs.Rows.{at, rowsOf, releaseOf, deadlineOf, isLow, isHigh}
+use Rattle.rules.specs.Rows.{at, put, rowsOf, releaseOf, deadlineOf, promisedOf, promiseNeed, isLow, isHigh, isPromised}
 use Rattle.rules.specs.Tables.{Accepted}
-use Rattle.rules.specs.Worst.{worstSpeed, meets}
-use Rattle.rules.specs.Choice.{sequence, passes, taker, falling, padded}
-use Rattle.theory.specs.Tests.{by-bool, by-eqb, by-ltb, not-is, and-left, and-right, and-both}
+use Rattle.rules.specs.Worst.{worstSpeed, worstFinish, promisedMoment}
+use Rattle.rules.specs.Choice.{sequence, lowest, passes, taker, falling, padded}
+use Rattle.theory.specs.Tests.{by-bool, by-eqb, by-ltb, by-leb, not-is, and-left, and-right, and-both, and-true}
 use Rattle.theory.specs.Counts.{In, Once, Within, Same, in-entry, erase-last}
 use Rattle.theory.specs.Sorting.{sorted-sort, same-sort}
 use Rattle.theory.specs.Sweep.{sweep}
@@ -23,19 +23,30 @@ use Rattle.theory.specs.Caps.{cap, cap-positive}
 use Rattle.theory.specs.Facts.{Row, TableFacts, facts, rows-in, count-zero}
 use Rattle.theory.specs.Places.{rows-once}
 use Rattle.theory.specs.Choosing.{same-sequence}
+use Rattle.theory.specs.Promised.{latest, meets-is}
 use Rattle.theory.specs.Results.{worst-sweep}
 use Rattle.sweep.specs.Masks.{bit, isLeft, bit-lt, left-bit, bit-left, bit-not-left, cleared-same, cleared-other, full-bit, above}
-use Rattle.sweep.specs.Holds.{Holds, count-keep-le, count-kept, keep-same}
+use Rattle.sweep.specs.CapColumn.{partNeeds, parts-most}
+use Rattle.sweep.specs.Holds.{Holds, holds-same, count-keep-le, count-kept, keep-same}
 use Rattle.sweep.specs.Padded.{zeros, padded-at, padded-entry}
 use Rattle.sweep.specs.Trials.{trial}
-use Rattle.sweep.specs.Finds.{byRelease, queued, queued-sorted, queued-same, columns, finds}
+use Rattle.sweep.specs.Finds.{byRelease, queued, queued-sorted, queued-same, columns, finds, finds-part}
 use Rattle.planner.specs.Lines.{At, place-of, apart, sorted-rising, first-parts, first-kept, first-fails, keep-both, keep-append, keep-keep, keep-twice, keep-neither}
 use Rattle.planner.specs.Marks.{marks-bit, bit-and}
 use Rattle.planner.specs.Prepared.{capsAt, atLevel, every-take, every-length}
 use Rattle.planner.specs.Busy.{row, Waits}
 use Rattle.planner.specs.Periods.{Queue, Known, known-start, known-placed}
 use Rattle.planner.specs.Entries.{entriesTo, entry-is, entries-below}
-use Rattle.planner.specs.Trying.{leftOf, Speed, KnownAt, Stands, Open, inTime, FirstIn}
+use Rattle.planner.specs.Trying.{leftOf, Speed, Parts, KnownAt, Stands, Open, inTime, partInTime, lowInTime, FirstIn}
+
+-- the later of two clocks is in time if both are
+later-both : (a b d : ℕ) → leb a d && leb b d ≡ leb (max a b) d
+later-both a b d =
+    by-leb a d
+    (λ e p. by-leb b d
+    (λ g q. rw (e, g, le-leb (max a b) d (omega arith)))
+    (λ g q. rw (e, g, lt-leb (max a b) d (omega arith))))
+    (λ e p. rw (e, lt-leb (max a b) d (omega arith)))
 
 -- entry i of the trial sequence waits exactly if its row is left
 pub record Waiting (t : Table) (left waiting : ℕ) : Type 0 where
@@ -134,6 +145,20 @@ module _ (t : Table) (accepted : Accepted t) where
         entries = entries-below (padded (sequence t)) (t .n) (f .few);
       }
 
+  -- what the trials of promised parts ask for
+  pub parts-of : Parts (padded (byRelease t)) (t .n) (t .release) (capsAt t (t .degraded)) (partNeeds t) (padded (sequence t)) entryOf
+  parts-of =
+      record {
+        columns = columns t accepted (t .degraded) (padded (byRelease t)) (capsAt t (t .degraded)) (f .crawls) refl refl;
+        small = parts-most t accepted;
+        seats = rw queue-is (λ k h. let i = entry-in (byRelease t) same-release k h in
+            let a = entry-at (row (byRelease t) k) i in
+            let n = sequence-length in
+            ap (λ (x : ℕ). getD (padded (sequence t)) x 0) (entry-place (row (byRelease t) k) i)
+            ∙ sequence-entry (a .place) (omega (arith, a .within))
+            ∙ a .is);
+      }
+
   -- at first all entries wait
   pub waiting-start : (left : ℕ) → left ≡ 2 ^ t .n - 1 → Waiting t left left
   waiting-start left e =
@@ -206,10 +231,11 @@ module _ (t : Table) (accepted : Accepted t) where
     swept-same : Same (queued t left) (leftOf t left)
     swept-same = queued-same t left (leftOf t left) holds left-within
 
-    trial-passes : (s i : ℕ) → In i (leftOf t left) → worstSpeed t i ≡ s
-        → inTime (padded (byRelease t)) (t .n) (t .release) (t .deadline) (capsAt t s) left i ≡ passes t (leftOf t left) i
-    unfolding inTime passes meets
-    trial-passes s i k e =
+    trial-time : (s i : ℕ) → In i (leftOf t left) → worstSpeed t i ≡ s
+        → inTime (padded (byRelease t)) (t .n) (t .release) (t .deadline) (capsAt t s) left i
+        ≡ leb (worstFinish t (lowest (leftOf t left) i) i) (deadlineOf t i)
+    unfolding inTime
+    trial-time s i k e =
         let last = erase-last i (leftOf t left) k in
         ap (λ (n : ℕ). leb n (deadlineOf t i))
         (finds t accepted left s (releaseOf t i) (padded (byRelease t)) (capsAt t s) refl refl
@@ -217,6 +243,46 @@ module _ (t : Table) (accepted : Accepted t) where
         ∙ sym (worst-sweep t accepted (erase i (leftOf t left)) [] i (λ x. omega (arith, last x, left-within x)) (queued t left)
         (queued-sorted t left)
         (λ x. omega (arith, last x, swept-same x))))
+
+    -- and a trial of its promised part whether that is in time
+    trial-part : (i : ℕ) → In i (leftOf t left) → isPromised t i ≡ true
+        → trial (t .release) (put (capsAt t (t .degraded)) i (at (partNeeds t) i)) left (releaseOf t i) 0 (take (t .n) (padded (byRelease t)))
+        ≡ promisedMoment t (lowest (leftOf t left) i) i
+    trial-part i k e =
+        let last = erase-last i (leftOf t left) k in
+        let r = rows-in t i (omega (arith, left-within i)) in
+        finds-part t accepted (erase i (leftOf t left)) [] left i (at (partNeeds t) i) (padded (byRelease t)) (capsAt t (t .degraded))
+        (λ x. omega (arith, last x, left-within x)) (holds-same left (leftOf t left) (erase i (leftOf t left) ++ (i ∷ [])) (λ x. omega (arith, last x)) holds) e refl refl
+        (padded-at (promiseNeed t) (t .n) i (r .from) (r .upTo) (f .few))
+
+    -- what `passes` asks of a row: the later of the two clocks is not after its deadline
+    passes-latest : (i : ℕ) → passes t (leftOf t left) i
+        ≡ leb (max (worstFinish t (lowest (leftOf t left) i) i) (cond (isPromised t i) (promisedMoment t (lowest (leftOf t left) i) i) 0)) (deadlineOf t i)
+    unfolding passes latest
+    passes-latest i = meets-is t (lowest (leftOf t left) i) i
+
+    -- HI rows are promised nothing
+    high-passes : (i : ℕ) → In i (leftOf t left) → isLow t i ≡ false
+        → inTime (padded (byRelease t)) (t .n) (t .release) (t .deadline) (capsAt t (t .degraded)) left i ≡ passes t (leftOf t left) i
+    high-passes i k h =
+        let d = worstFinish t (lowest (leftOf t left) i) i in
+        let e : max d 0 ≡ d = omega arith in
+        trial-time (t .degraded) i k (rw h) ∙ sym (passes-latest i ∙ rw (h, e))
+
+    -- of LO rows both are asked
+    low-passes : (i : ℕ) → In i (leftOf t left) → isLow t i ≡ true
+        → lowInTime (padded (byRelease t)) (t .n) (t .release) (t .deadline) (capsAt t (t .normal)) (capsAt t (t .degraded)) (t .promised) (partNeeds t) left i
+        ≡ passes t (leftOf t left) i
+    unfolding partInTime
+    low-passes i k h =
+        let d = worstFinish t (lowest (leftOf t left) i) i in
+        rw (trial-time (t .normal) i k (rw h), passes-latest i, h)
+        (by-eqb (promisedOf t i) 0
+        (λ e z. let n : ltb 0 (promisedOf t i) ≡ false = le-ltb 0 (promisedOf t i) (omega arith) in
+        let m : max d 0 ≡ d = omega arith in
+        rw (e, n, m, and-true))
+        (λ e z. let n : ltb 0 (promisedOf t i) ≡ true = lt-ltb 0 (promisedOf t i) (omega arith) in
+        rw (e, n, trial-part i k (rw (h, n))) (later-both d (promisedMoment t (lowest (leftOf t left) i) i) (deadlineOf t i))))
 
     -- the rows left of a level, and the first of them that passes
     module _ (waiting : ℕ) (w : Waiting t left waiting) where
@@ -256,12 +322,8 @@ module _ (t : Table) (accepted : Accepted t) where
         found : (e ≡ 0 → ⊥) → (1 ≤ e) × (e ≤ t .n) × (bit waiting (e - 1) ≡ 1)
             × (getD (padded (sequence t)) (e - 1) 0 ≡ first (passes t (leftOf t left)) (keep (λ i. eqb (at (t .level) i) level) (leftOf t left)))
 
-      module _ (level s : ℕ) (speed : (i : ℕ) → eqb (at (t .level) i) level ≡ true → In i (leftOf t left) → worstSpeed t i ≡ s) (e : ℕ)
-          (k : FirstIn (inTime (padded (byRelease t)) (t .n) (t .release) (t .deadline) (capsAt t s) left) (padded (byRelease t)) entryOf (t .n) left
-          (bitAnd waiting (atLevel t level)) e) where
-        abbrev tested : ℕ → Bool
-        tested = inTime (padded (byRelease t)) (t .n) (t .release) (t .deadline) (capsAt t s) left
-
+      module _ (level : ℕ) (tested : ℕ → Bool) (right : (i : ℕ) → eqb (at (t .level) i) level ≡ true → In i (leftOf t left) → tested i ≡ passes t (leftOf t left) i)
+          (e : ℕ) (k : FirstIn tested (padded (byRelease t)) entryOf (t .n) left (bitAnd waiting (atLevel t level)) e) where
         kept : keep (λ i. eqb (at (t .level) i) level) (leftOf t left) ≡ keep (chosen level) (sequence t)
         kept = keep-both (λ i. eqb (at (t .level) i) level) (isLeft left) (sequence t)
 
@@ -273,7 +335,7 @@ module _ (t : Table) (accepted : Accepted t) where
             let a = and-left (isLeft left i) (eqb (at (t .level) i) level) c in
             let b = and-right (isLeft left i) (eqb (at (t .level) i) level) c in
             let m : In i (leftOf t left) = omega (arith, count-kept (isLeft left) i (sequence t) a, in-entry (sequence t) x (omega arith)) in
-            trial-passes s i m (speed i b m)
+            right i b m
 
         -- what is so of the place in the queue is so of the row
         at-place : (x : ℕ) (h : x < t .n) (c : chosen level (getD (sequence t) x 0) ≡ true)
@@ -373,16 +435,20 @@ module _ (t : Table) (accepted : Accepted t) where
           ap (first p) (parts ∙ ap (λ (l : List ℕ). lows ++ l) other-level)
           ∙ first-parts p lows highs (λ i. omega (arith, count-keep-le (isLow t) 0 (leftOf t left), left-within 0, count-zero (t .n)))
 
-      abbrev Searched : ℕ → ℕ → ℕ → Type 0
-      Searched level s e =
-          FirstIn (inTime (padded (byRelease t)) (t .n) (t .release) (t .deadline) (capsAt t s) left) (padded (byRelease t)) entryOf (t .n) left
-          (bitAnd waiting (atLevel t level)) e
+      abbrev lowTest : ℕ → Bool
+      lowTest = lowInTime (padded (byRelease t)) (t .n) (t .release) (t .deadline) (capsAt t (t .normal)) (capsAt t (t .degraded)) (t .promised) (partNeeds t) left
 
-      low-tested : (e : ℕ) → Searched 0 (t .normal) e → Tested 0 e
-      low-tested e k = test-of 0 (t .normal) (λ i z _. rw z) e k
+      abbrev highTest : ℕ → Bool
+      highTest = inTime (padded (byRelease t)) (t .n) (t .release) (t .deadline) (capsAt t (t .degraded)) left
 
-      high-tested : (e : ℕ) → Searched 1 (t .degraded) e → Tested 1 e
-      high-tested e k = test-of 1 (t .degraded) (λ i z _. rw (ne-eqb (at (t .level) i) 0 (λ y. omega (arith, eqb-true (at (t .level) i) 1 z)))) e k
+      abbrev Searched : ℕ → (ℕ → Bool) → ℕ → Type 0
+      Searched level tested e = FirstIn tested (padded (byRelease t)) entryOf (t .n) left (bitAnd waiting (atLevel t level)) e
+
+      low-tested : (e : ℕ) → Searched 0 lowTest e → Tested 0 e
+      low-tested e k = test-of 0 lowTest (λ i z m. low-passes i m z) e k
+
+      high-tested : (e : ℕ) → Searched 1 highTest e → Tested 1 e
+      high-tested e k = test-of 1 highTest (λ i z m. high-passes i m (ne-eqb (at (t .level) i) 0 (λ y. omega (arith, eqb-true (at (t .level) i) 1 z)))) e k
 
       -- an entry has a row of the table
       pub taken-row : (e : ℕ) → 1 ≤ e → e ≤ t .n → In (getD (padded (sequence t)) (e - 1) 0) (rowsOf t)
@@ -391,7 +457,7 @@ module _ (t : Table) (accepted : Accepted t) where
           subst (λ (x : ℕ). In x (rowsOf t)) (sym (sequence-entry (e - 1) (omega arith))) (entry-in (sequence t) (same-sequence t) (e - 1) (omega arith))
 
       -- the first LO row that passes takes the place
-      pub taken-low : (e : ℕ) → Searched 0 (t .normal) e → (e ≡ 0 → ⊥) → Taken t left waiting e
+      pub taken-low : (e : ℕ) → Searched 0 lowTest e → (e ≡ 0 → ⊥) → Taken t left waiting e
       taken-low e k n =
           let r = low-tested e k .found n in
           record {
@@ -407,7 +473,7 @@ module _ (t : Table) (accepted : Accepted t) where
           }
 
       -- where none does, the first HI row that passes does
-      pub taken-high : (d e : ℕ) → Searched 0 (t .normal) d → d ≡ 0 → Searched 1 (t .degraded) e → Taken t left waiting e
+      pub taken-high : (d e : ℕ) → Searched 0 lowTest d → d ≡ 0 → Searched 1 highTest e → Taken t left waiting e
       taken-high d e k z l =
           let x : taker t (leftOf t left) ≡ first (passes t (leftOf t left)) highs = taker-parts
           ∙ ap (λ (j : ℕ). cond (eqb j 0) (first (passes t (leftOf t left)) highs) (first (passes t (leftOf t left)) lows)) (low-tested d k .none z) in

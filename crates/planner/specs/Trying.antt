@@ -1,14 +1,14 @@
 -- Trials at one speed over columns: what they ask for and what they find.
 use Prim.Native.Nat.{ℕ, _-_, _≤_, _<_}
-use mathlib.Core.Bool.{Bool, true, false}
+use mathlib.Core.Bool.{Bool, true, false, cond, _&&_}
 use mathlib.Core.Path.{_≡_}
 use mathlib.Core.Logic.{_⊎_}
 use mathlib.Core.List.{List}
-use lib.Dec.{leb}
-use lib.ListN.{take}
+use lib.Dec.{eqb, leb}
+use lib.ListN.{length, getD, take}
 use Rattle.rules.specs.declared.Table.{Table}
 use Rattle.rules.specs.Lists.{keep}
-use Rattle.rules.specs.Rows.{at}
+use Rattle.rules.specs.Rows.{at, put}
 use Rattle.rules.specs.Choice.{sequence}
 use Rattle.sweep.specs.Masks.{bit, isLeft}
 use Rattle.sweep.specs.Trials.{Columns, trial}
@@ -50,6 +50,26 @@ pub record Renewed (queue : List ℕ) (n : ℕ) (release deadline cap entry : Li
 -- the row finishes by its deadline with all other rows left above it
 unfoldable pub inTime : List ℕ → ℕ → List ℕ → List ℕ → List ℕ → ℕ → ℕ → Bool
 inTime queue n release deadline cap left i = leb (trial release cap left (at release i) 0 (take n queue)) (at deadline i)
+
+-- no need of a promised part is over 1,000,016 slots
+abbrev pub Small : List ℕ → Type 0
+Small part = (j : ℕ) → getD part j 0 ≤ 1000016
+
+-- the row has its promised part by its deadline with all other rows left above it: the sweep with its own cap set to the part's need
+unfoldable pub partInTime : List ℕ → ℕ → List ℕ → List ℕ → List ℕ → List ℕ → List ℕ → ℕ → ℕ → Bool
+partInTime queue n release deadline cap promised part left i =
+    cond (eqb (at promised i) 0) true (leb (trial release (put cap i (at part i)) left (at release i) 0 (take n queue)) (at deadline i))
+
+-- a LO row passes: it is in time at the normal speed, and its part is at the degraded one
+abbrev pub lowInTime : List ℕ → ℕ → List ℕ → List ℕ → List ℕ → List ℕ → List ℕ → List ℕ → ℕ → ℕ → Bool
+lowInTime queue n release deadline normal degraded promised part left i =
+    inTime queue n release deadline normal left i && partInTime queue n release deadline degraded promised part left i
+
+-- the columns that parts are tried with: caps and needs at the degraded speed, and the trial sequence, in which the row of an entry stands
+pub record Parts (queue : List ℕ) (n : ℕ) (release cap part sequence entry : List ℕ) : Type 0 where
+  pub columns : Columns queue n release cap
+  pub small : Small part
+  pub seats : (k : ℕ) → k < length (take n queue) → getD sequence (at entry (row (take n queue) k)) 0 ≡ row (take n queue) k
 
 -- a row left has this entry, from 0
 pub record Stands (queue entry : List ℕ) (n left x : ℕ) : Type 0 where

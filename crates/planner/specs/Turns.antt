@@ -1,5 +1,6 @@
 -- A turn of the choice over what a planning has prepared.
 use Prim.Native.Nat.{ℕ, _-_, _^_, _≤_, _<_}
+use mathlib.Core.Bool.{Bool}
 use mathlib.Core.Path.{_≡_, refl}
 use mathlib.Core.List.{List}
 use native.Mathlib.Omega.{arith}
@@ -16,8 +17,8 @@ use Rattle.sweep.specs.Masks.{bit}
 use Rattle.sweep.specs.Padded.{zeros}
 use Rattle.planner.specs.declared.Trials.{Trials}
 use Rattle.planner.specs.Prepared.{trialsOf}
-use Rattle.planner.specs.Trying.{leftOf, Speed, KnownAt, Open, inTime, FirstIn}
-use Rattle.planner.specs.Taking.{Waiting, Taken, speed-of, opened, waiting-turn, taken-low, taken-high, taken-row, known-first, known-turn, period-place}
+use Rattle.planner.specs.Trying.{leftOf, Speed, KnownAt, Open, inTime, FirstIn, Parts, lowInTime}
+use Rattle.planner.specs.Taking.{Waiting, Taken, speed-of, opened, waiting-turn, taken-low, taken-high, taken-row, known-first, known-turn, period-place, parts-of}
 
 -- what is known of the same busy periods
 pub known-same : (queue : List ℕ) (n : ℕ) (release deadline cap entry : List ℕ) (left : ℕ) (p p' : List ℕ) (c c' k k' : ℕ) → p ≡ p' → c ≡ c' → k ≡ k'
@@ -42,6 +43,10 @@ module _ (t : Table) (accepted : Accepted t) (w : Trials) (prepared : w ≡ tria
   unfolding trialsOf
   degraded-speed = rw prepared (speed-of t accepted (t .degraded) (f .crawls))
 
+  pub degraded-parts : Parts (w .queue) (t .n) (t .release) (w .degraded) (w .part) (w .sequence) (w .entry)
+  unfolding trialsOf
+  degraded-parts = rw prepared (parts-of t accepted)
+
   pub open-entries : (left waiting m : ℕ) → Waiting t left waiting → Open (w .queue) (w .entry) (t .n) left (bitAnd waiting m)
   unfolding trialsOf
   open-entries left waiting m q = rw prepared (opened t accepted left waiting q m)
@@ -59,15 +64,20 @@ module _ (t : Table) (accepted : Accepted t) (w : Trials) (prepared : w ≡ tria
   -- the entry found
 
   module _ (left waiting : ℕ) (holds : Holds left (leftOf t left)) (q : Waiting t left waiting) where
-    abbrev Search : List ℕ → ℕ → ℕ → Type 0
-    Search caps level e =
-        FirstIn (inTime (w .queue) (t .n) (t .release) (t .deadline) caps left) (w .queue) (w .entry) (t .n) left (bitAnd waiting level) e
+    abbrev Search : (ℕ → Bool) → ℕ → ℕ → Type 0
+    Search tested level e = FirstIn tested (w .queue) (w .entry) (t .n) left (bitAnd waiting level) e
 
-    pub low-taken : (e : ℕ) → Search (w .normal) (w .low) e → (e ≡ 0 → ⊥) → Taken t left waiting e
+    abbrev lowTest : ℕ → Bool
+    lowTest = lowInTime (w .queue) (t .n) (t .release) (t .deadline) (w .normal) (w .degraded) (t .promised) (w .part) left
+
+    abbrev highTest : ℕ → Bool
+    highTest = inTime (w .queue) (t .n) (t .release) (t .deadline) (w .degraded) left
+
+    pub low-taken : (e : ℕ) → Search lowTest (w .low) e → (e ≡ 0 → ⊥) → Taken t left waiting e
     unfolding trialsOf
     low-taken e k n = taken-low t accepted left holds waiting q e (rw prepared at k) n
 
-    pub high-taken : (d e : ℕ) → Search (w .normal) (w .low) d → d ≡ 0 → Search (w .degraded) (w .high) e → Taken t left waiting e
+    pub high-taken : (d e : ℕ) → Search lowTest (w .low) d → d ≡ 0 → Search highTest (w .high) e → Taken t left waiting e
     unfolding trialsOf
     high-taken d e k z l = taken-high t accepted left holds waiting q d e (rw prepared at k) z (rw prepared at l)
 

@@ -12,11 +12,12 @@ ghost use Rattle.rules.specs.Tables.{Accepted};
 ghost use Rattle.rules.specs.Choice.{padded, choice, planFrom};
 ghost use Rattle.sweep.specs.Masks.{isLeft};
 ghost use Rattle.sweep.specs.Padded.{Rows};
+ghost use Rattle.sweep.specs.Trials.{Columns};
 ghost use Rattle.planner.specs.Keys.{keyOf, keyIn, Soon};
 ghost use Rattle.planner.specs.Marks.{marks};
 ghost use Rattle.planner.specs.Prepared.{trialsOf};
 ghost use Rattle.planner.specs.Entries.{entriesTo, Entries, timely};
-ghost use Rattle.planner.specs.Trying.{Speed, Grouped, KnownAt, Open, Renewed, inTime, FirstIn};
+ghost use Rattle.planner.specs.Trying.{Speed, Small, Parts, Grouped, KnownAt, Open, Renewed, inTime, partInTime, lowInTime, FirstIn};
 ghost use Rattle.planner.specs.Promise.{Promise};
 use rules::Check;
 use rules::Planned;
@@ -24,7 +25,8 @@ use rules::Planning;
 use rules::Table;
 
 // What a planning works out once: the rows by rising release, the trial sequence, each row's entry in it from 0, the entries of LO and of HI rows as
-// words, and the caps in slots at supplies of at least the normal and at least the degraded speed.
+// words, the caps in slots at supplies of at least the normal and at least the degraded speed, and the needs in slots of the promised parts at the
+// degraded speed.
 struct Trials {
     queue: [u8; 64],
     sequence: [u8; 64],
@@ -33,6 +35,7 @@ struct Trials {
     high: u64,
     normal: [u32; 64],
     degraded: [u32; 64],
+    part: [u32; 64],
 }
 
 // The key of a row in the trial sequence (rule 4.3): LO, of level 0, before HI, and a later deadline (in slots) first.
@@ -103,7 +106,16 @@ fn prepare(t: Table) -> Trials
     let low = entries_at(&sequence, &t.level, t.n, 0);
     let high = entries_at(&sequence, &t.level, t.n, 1);
     let normal = sweep::needs(t.n, t.loading, &t.work, t.normal);
-    let degraded = sweep::degraded_caps(t.n, t.loading, &t.work, &t.level, &normal, t.degraded);
+    let part = sweep::needs(t.n, t.loading, &t.promised, t.degraded);
+    let degraded = sweep::degraded_caps(
+        t.n,
+        t.loading,
+        &t.work,
+        &t.level,
+        &normal,
+        &part,
+        t.degraded,
+    );
     Trials {
         queue: queue,
         sequence: sequence,
@@ -112,6 +124,7 @@ fn prepare(t: Table) -> Trials
         high: high,
         normal: normal,
         degraded: degraded,
+        part: part,
     }
 }
 
@@ -265,6 +278,104 @@ fn first_in_time<'a>(
     }
 }
 
+// Whether a row, tried with every other row left above it, has its promised part by its deadline (rules 3.9, 4.4); a row that is promised nothing has
+// it always. Caps and needs at the degraded speed, clocks and deadlines in slots.
+fn part_in_time<'a>(
+    queue: &'a [u8; 64],
+    n: u32,
+    release: &'a [u32; 64],
+    deadline: &'a [u32; 64],
+    cap: &'a [u32; 64],
+    promised: &'a [u32; 64],
+    part: &'a [u32; 64],
+    left: u64,
+    row: u8,
+) -> bool
+    requires { ⌜ Columns (now queue) n (now release) (now cap) × Small (now part) × (1 ≤ row) × (row ≤ 64) ⌝ }
+    ensures { λ b. ⌜ b ≡ partInTime (now (queue .entry)) n (now (release .entry)) (now (deadline .entry)) (now (cap .entry)) (now (promised .entry))
+        (now (part .entry)) left row ⌝ }
+{
+    if sweep::entry(promised, row) == 0 {
+        return true;
+    }
+    let own = sweep::entry(part, row);
+    let moment = sweep::part_finish(queue, n, release, cap, own, left, row);
+    moment <= sweep::entry(deadline, row)
+}
+
+// The first of the open entries of LO rows whose row passes (rules 4.2 to 4.4): it finishes in time at the normal speed, and its promised part is in time
+// at the degraded one. Each entry that is in time at the normal speed is asked for its part, until one has it.
+fn first_low<'a>(
+    queue: &'a [u8; 64],
+    n: u32,
+    release: &'a [u32; 64],
+    deadline: &'a [u32; 64],
+    normal: &'a [u32; 64],
+    degraded: &'a [u32; 64],
+    promised: &'a [u32; 64],
+    part: &'a [u32; 64],
+    sequence: &'a [u8; 64],
+    entry: &'a [u8; 64],
+    left: u64,
+    word: u64,
+    changed: u64,
+    passing: u64,
+    period: &mut [u8; 64],
+) -> Search
+    requires { ⌜ Speed (now queue) n (now release) (now normal) (now entry) × Parts (now queue) n (now release) (now degraded) (now part) (now sequence) (now entry)
+        × KnownAt (now queue) n (now release) (now deadline) (now normal) (now entry) left (now period) changed passing
+        × Open (now queue) (now entry) n left word ⌝ }
+    ensures { λ s. ⌜ FirstIn (lowInTime (now (queue .entry)) n (now (release .entry)) (now (deadline .entry)) (now (normal .entry)) (now (degraded .entry))
+        (now (promised .entry)) (now (part .entry)) left) (now (queue .entry)) (now (entry .entry)) n left word (s .found)
+        × KnownAt (now (queue .entry)) n (now (release .entry)) (now (deadline .entry)) (now (normal .entry)) (now (entry .entry)) left (now (period .exit))
+        (s .changed) (s .passing) ⌝ }
+{
+    let mut asked = word;
+    let mut renewing = changed;
+    let mut known = passing;
+    while asked != 0 {
+        let next = first_in_time(
+            queue,
+            n,
+            release,
+            deadline,
+            normal,
+            entry,
+            left,
+            asked,
+            renewing,
+            known,
+            period,
+        );
+        renewing = next.changed;
+        known = next.passing;
+        let found = next.found;
+        if found == 0 {
+            return next;
+        }
+        let row = sequence[(found - 1) as usize];
+        if part_in_time(
+            queue,
+            n,
+            release,
+            deadline,
+            degraded,
+            promised,
+            part,
+            left,
+            row,
+        ) {
+            return next;
+        }
+        asked = sweep::without(asked, found);
+    }
+    Search {
+        found: 0,
+        changed: renewing,
+        passing: known,
+    }
+}
+
 // The choice for an accepted table (rules 4.1 to 4.6). The place being filled is how many rows are left (rule 4.9). A row left is waiting at its
 // entry of the trial sequence. A placed row changes the busy period that it stood in, at either speed, and no other.
 fn choose(t: Table) -> Planning
@@ -284,12 +395,16 @@ fn choose(t: Table) -> Planning
     let mut slow_changed: u64 = 1;
     let mut slow_passing: u64 = 0;
     while place > 0 {
-        let low = first_in_time(
+        let low = first_low(
             &w.queue,
             n,
             &t.release,
             &t.deadline,
             &w.normal,
+            &w.degraded,
+            &t.promised,
+            &w.part,
+            &w.sequence,
             &w.entry,
             left,
             waiting & w.low,
@@ -340,7 +455,7 @@ fn choose(t: Table) -> Planning
     }
 }
 
-// The answer for any table: checks 3, 4, 11 and 5, then the choice (rule 11.3).
+// The answer for any table: checks 3, 4, 11, 5 and 12, then the choice (rule 11.3).
 pub fn plan(t: Table) -> Planning
     ensures { λ r. ⌜ Promise t r ⌝ }
 {

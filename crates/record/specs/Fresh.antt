@@ -1,5 +1,5 @@
 -- The fresh record of a checked table and order (rule 8.2) is sound: every row is open, needs a slot at least, and has its deadline before it.
-use Prim.Native.Nat.{ℕ, zero, suc, _-_, _≤_}
+use Prim.Native.Nat.{ℕ, zero, suc, _-_, _≤_, max}
 use mathlib.Core.Bool.{true, false}
 use mathlib.Core.List.{List}
 use mathlib.Core.Path.{_≡_, refl}
@@ -10,12 +10,12 @@ use borrow.Author.Tests.{ne-eqb, lt-leb}
 use Rattle.rules.specs.declared.Table.{Table}
 use Rattle.rules.specs.declared.Check.the-variants.{Passed}
 use Rattle.rules.specs.Need.{need}
-use Rattle.rules.specs.Rows.{at, workOf, deadlineOf}
+use Rattle.rules.specs.Rows.{at, workOf, deadlineOf, promisedOf}
 use Rattle.rules.specs.Orders.{checkBoth}
 use Rattle.rules.specs.Slots.{fresh}
 use Rattle.record.specs.Records.{tailSound, isSound, freshRun}
 use Rattle.theory.specs.Caps.{slots-above}
-use Rattle.theory.specs.Tests.{by-bool}
+use Rattle.theory.specs.Tests.{and-false}
 use Rattle.columns.specs.AllRows.{zeros-of}
 use Rattle.columns.specs.Figures.{over, sound-test, open-early}
 use Rattle.record.specs.Checked.{limits, works}
@@ -27,22 +27,24 @@ zero-at zero i = refl
 zero-at (suc m) zero = refl
 zero-at (suc m) (suc i) = zero-at m i
 
-not-over : (c level s k : ℕ) → 1 ≤ c → 1 ≤ s → over c level s k 0 0 ≡ false
+not-over : (c level r n g k : ℕ) → 1 ≤ c → 1 ≤ n → over c level r n g k 0 0 ≡ false
 unfolding over
-not-over c level s k h l =
-    rw (ne-eqb 0 c (λ q. omega arith), lt-leb (need k c s) 0 (omega (arith, slots-above 0 c s l (omega arith)))) (by-bool (eqb level 0) (λ e. rw e) (λ e. rw e))
+not-over c level r n g k h l =
+    rw (ne-eqb 0 c (λ q. omega arith), lt-leb (max (need k c n) (need k r g)) 0 (omega (arith, slots-above 0 c n l (omega arith))), and-false (eqb level 0))
 
 module _ (t : Table) (o : List ℕ) (e : checkBoth t o ≡ Passed) where
   row-fresh : (i : ℕ) → 1 ≤ i → i ≤ t .n → soundRow (freshRun t o) i ≡ true
   unfolding fresh
   row-fresh i l h =
       rw (zero-at 64 (i - 1))
-      (sound-test (workOf t i) (deadlineOf t i) (at (t .level) i) (t .normal) (t .loading) 0 0 0 0
+      (sound-test (workOf t i) (deadlineOf t i) (at (t .level) i) (promisedOf t i) (t .normal) (t .degraded) (t .loading) 0 0 0 0
       (record {
         most = omega arith;
         used-by = omega arith;
         closed-by = omega arith;
-        open-or-closed = rw (not-over (workOf t i) (at (t .level) i) (t .normal) (t .loading) (works t o e i l h) (limits t o e .runs))
+        open-or-closed =
+            rw
+            (not-over (workOf t i) (at (t .level) i) (promisedOf t i) (t .normal) (t .degraded) (t .loading) (works t o e i l h) (limits t o e .runs))
             (open-early (deadlineOf t i) (at (t .level) i) 0 (omega (arith, limits t o e .row i (record { from = l; upTo = h }) .before)));
       }))
 

@@ -10,7 +10,7 @@ use lib.ListN.{length, length-set}
 use borrow.Author.Tests.{ltb-true}
 use Rattle.rules.specs.declared.Refusal.the-variants.{ClockOver, Unsound}
 use Rattle.rules.specs.Calls.{lastClock}
-use Rattle.rules.specs.Rows.{at, workOf, deadlineOf}
+use Rattle.rules.specs.Rows.{at, workOf, deadlineOf, promisedOf}
 use Rattle.rules.specs.Running.{closeLate}
 use Rattle.rules.specs.Slots.{brought}
 use Rattle.record.specs.declared.Run.{Run}
@@ -41,12 +41,12 @@ module _ (r : Run) (z : Sized r) (f : IsSound r) (early : r .clock < lastClock) 
   abbrev soundNext : ℕ → ℕ → ℕ → ℕ → Bool
   soundNext j got used closing =
       let t = r .table in
-      soundAt (workOf t j) (deadlineOf t j) (at (t .level) j) (t .normal) (t .loading) (r .clock + 1) got used
+      soundAt (workOf t j) (deadlineOf t j) (at (t .level) j) (promisedOf t j) (t .normal) (t .degraded) (t .loading) (r .clock + 1) got used
       (looked (deadlineOf t j) (at (t .level) j) (r .clock + 1) closing)
 
   -- a row that did not run
   later : (j : ℕ) → 1 ≤ j → j ≤ r .table .n → soundNext j (at (r .got) j) (at (r .used) j) (at (r .closing) j) ≡ true
-  later j l h = sound-test _ _ _ _ _ _ _ _ _ (sound-later _ _ _ _ _ _ _ _ _ (f .rows j l h))
+  later j l h = sound-test _ _ _ _ _ _ _ _ _ _ _ (sound-later _ _ _ _ _ _ _ _ _ _ _ (f .rows j l h))
 
   rested-sound : IsSound (closedRun (rested r))
   unfolding tailSound closedRun closeLate
@@ -65,8 +65,8 @@ module _ (r : Run) (z : Sized r) (f : IsSound r) (early : r .clock < lastClock) 
     -- the row that ran
     run-here : soundNext i (gotNext r v i) (at (r .used) i + 1) (closingNext r v i) ≡ true
     run-here =
-        sound-test _ _ _ _ _ _ _ _ _
-        (sound-run _ _ _ _ _ _ _ _ _ (gotNext r v i) (f .rows i (c .low) (c .high)) (c .still)
+        sound-test _ _ _ _ _ _ _ _ _ _ _
+        (sound-run _ _ _ _ _ _ _ _ _ _ _ (gotNext r v i) (f .rows i (c .low) (c .high)) (c .still)
         (min-le-left (workOf (r .table) i) (at (r .got) i + brought (r .table .loading) (at (r .used) i) v)))
 
     row-served : (j : ℕ) → 1 ≤ j → j ≤ r .table .n → soundNext j (at (s .got) j) (at (s .used) j) (at (s .closing) j) ≡ true

@@ -1,6 +1,6 @@
 -- Cases on run records, computed from the definitions and checked by one theorem: numbers 8 and 9, the clock's last slots (rules 8.5, 8.12,
 -- 8.13, 13.9), sound records that no run reaches (rule 8.7), records that check 9 refuses for one fault each (rules 8.4 to 8.8), and LO rows
--- around their deadlines (rules 8.7, 19.2, 19.3).
+-- around their deadlines (rules 8.7, 19.2, 19.3), and LO rows that are promised a part of their work (rules 1.9, 5.9, 8.4, 8.7).
 use Prim.Native.Nat.{ℕ}
 use mathlib.Core.Bool.{Bool, true, cond, _&&_}
 use mathlib.Core.List.{List, [], _∷_}
@@ -17,7 +17,7 @@ use Rattle.rules.specs.Numbers.{refusalNumber, checkNumber}
 use Rattle.rules.specs.Orders.{isOrder, checkOrder, checkBoth}
 use Rattle.rules.specs.Running.{closeLate, runSlot}
 use Rattle.rules.specs.Slots.{fresh, isReady, chosen, isOver, brought, serve, slot}
-use Rattle.rules.specs.Tables.{rowOk, tailOk, checkTable}
+use Rattle.rules.specs.Tables.{rowOk, tailOk, promiseOk, checkTable}
 use Rattle.rules.specs.declared.Row.{Row}
 use Rattle.rules.specs.declared.Table.{Table}
 
@@ -51,13 +51,18 @@ holds (begun t o number) =
     && eqb (freshOf t (padded o) .run .table .normal) (cond (eqb number 0) (t .normal) 0)
     && eqb (freshOf t (padded o) .run .table .loading) (cond (eqb number 0) (t .loading) 0)
     && same (freshOf t (padded o) .run .table .work) (cond (eqb number 0) (t .work) (padded []))
+    && same (freshOf t (padded o) .run .table .promised) (cond (eqb number 0) (t .promised) (padded []))
     && same (freshOf t (padded o) .run .order) (cond (eqb number 0) (padded o) (padded []))
     && shows (freshOf t (padded o) .run) 0 [] [] []
 holds (coming r number row) = sameSaid (slotSaid (comingSlot r)) number row
 
--- a row: release and deadline in slots, work in work units, level
+-- a row: release and deadline in slots, work in work units, level, and the promised part in work units
+abbrev promising : ℕ → ℕ → ℕ → ℕ → ℕ → Row
+promising a c d level r = record { release = a; work = c; deadline = d; level = level; promised = r }
+
+-- a row that is promised nothing
 abbrev job : ℕ → ℕ → ℕ → ℕ → Row
-job a c d level = record { release = a; work = c; deadline = d; level = level }
+job a c d level = promising a c d level 0
 
 -- N 2, G 1 work units per slot; a LO row of 2 work units (allowance 1 slot), due at 20, and a HI row of 4
 abbrev two : Table
@@ -70,6 +75,11 @@ loaded = tableOf (job 0 2 20 0 ∷ job 0 4 4 1 ∷ []) 2 1 3
 -- a LO row of 6 work units (allowance 3 slots), due at this clock, and a HI row of 8 with deadline 9
 abbrev due : ℕ → Table
 due d = tableOf (job 0 6 d 0 ∷ job 0 8 9 1 ∷ []) 2 1 0
+
+-- N 4, G 1 work units per slot, K slots of loading; a LO row of 8 work units (K + 2 slots at N) that is promised these, and a HI row of 4
+-- that is promised those, both due at 20
+abbrev promises : ℕ → ℕ → ℕ → Table
+promises loading low high = tableOf (promising 0 8 20 0 low ∷ promising 0 4 20 1 high ∷ []) 4 1 loading
 
 -- a record of a table: order, clock, work units got, slots used, closing slots
 abbrev of : Table → List ℕ → ℕ → List ℕ → List ℕ → List ℕ → Run
@@ -194,6 +204,38 @@ cases =
     ∷ leaves (of (due 1000000) (2 ∷ 1 ∷ []) 999998 [] [] []) 1 999999 (0 ∷ 1 ∷ []) (0 ∷ 1 ∷ []) []
     ∷ leaves (of (due 1000000) (2 ∷ 1 ∷ []) 999999 [] [] []) 1 1000000 (0 ∷ 1 ∷ []) (0 ∷ 1 ∷ []) (1000000 ∷ [])
     ∷ stepped (of (due 1000000) (2 ∷ 1 ∷ []) 1000000 [] [] []) 5 9 0
+    -- promised 5 work units, which take 5 slots at G: having used its need of 2 slots at N the LO row is open, and refused closed; with 4 used
+    -- too; the fifth slot closes it, and with 5 used it is refused open
+    ∷ stepped (of (promises 0 5 0) order 2 (2 ∷ []) (2 ∷ []) []) 1 0 1
+    ∷ stepped (of (promises 0 5 0) order 2 (2 ∷ []) (2 ∷ []) (2 ∷ [])) 1 9 0
+    ∷ stepped (of (promises 0 5 0) order 4 (4 ∷ []) (4 ∷ []) (4 ∷ [])) 1 9 0
+    ∷ stepped (of (promises 0 5 0) order 5 (5 ∷ []) (5 ∷ []) []) 1 9 0
+    ∷ stepped (of (promises 0 5 0) order 5 (5 ∷ []) (5 ∷ []) (5 ∷ [])) 1 0 2
+    ∷ leaves (of (promises 0 5 0) order 1 (1 ∷ []) (1 ∷ []) []) 1 2 (2 ∷ []) (2 ∷ []) []
+    ∷ leaves (of (promises 0 5 0) order 3 (3 ∷ []) (3 ∷ []) []) 1 4 (4 ∷ []) (4 ∷ []) []
+    ∷ leaves (of (promises 0 5 0) order 4 (4 ∷ []) (4 ∷ []) []) 1 5 (5 ∷ []) (5 ∷ []) (5 ∷ [])
+    -- it is done with all its work, allowance left or not, and not with its promised part; the clock closes it at its deadline
+    ∷ leaves (of (promises 0 5 0) order 2 (4 ∷ []) (2 ∷ []) []) 1 3 (5 ∷ []) (3 ∷ []) []
+    ∷ leaves (of (promises 0 5 0) order 2 (4 ∷ []) (2 ∷ []) []) 9 3 (8 ∷ []) (3 ∷ []) (3 ∷ [])
+    ∷ leaves (of (promises 0 5 0) order 19 (3 ∷ []) (3 ∷ []) []) 1 20 (4 ∷ []) (4 ∷ []) (20 ∷ [])
+    -- promised 2 work units or 1, which take no more slots at G than the 2 of its need at N, it is closed by the second slot and not by the first
+    ∷ leaves (of (promises 0 2 0) order 1 (1 ∷ []) (1 ∷ []) []) 1 2 (2 ∷ []) (2 ∷ []) (2 ∷ [])
+    ∷ leaves (of (promises 0 1 0) order 0 [] [] []) 1 1 (1 ∷ []) (1 ∷ []) []
+    ∷ leaves (of (promises 0 1 0) order 1 (1 ∷ []) (1 ∷ []) []) 1 2 (2 ∷ []) (2 ∷ []) (2 ∷ [])
+    -- loading counts in each need: 3 + 5 slots, of which the eighth closes it
+    ∷ leaves (of (promises 3 5 0) order 6 (3 ∷ []) (6 ∷ []) []) 1 7 (4 ∷ []) (7 ∷ []) []
+    ∷ leaves (of (promises 3 5 0) order 7 (4 ∷ []) (7 ∷ []) []) 1 8 (5 ∷ []) (8 ∷ []) (8 ∷ [])
+    -- promised all its work it is let through; promised more, or a HI row promised anything, is refused (rules 5.9, 8.4)
+    ∷ stepped (of (promises 0 8 0) order 0 [] [] []) 1 0 1
+    ∷ stepped (of (promises 0 9 0) order 0 [] [] []) 1 9 0
+    ∷ stepped (of (promises 0 0 1) order 0 [] [] []) 1 9 0
+    ∷ forwarded (of (promises 0 9 0) order 0 [] [] []) [] 9 0
+    ∷ coming (of (promises 0 0 1) order 0 [] [] []) 9 0
+    -- and so are their fresh records: 12 comes after 5 and before 6 (rules 8.4, 11.4)
+    ∷ begun (promises 0 8 0) order 0
+    ∷ begun (promises 0 9 0) order 12
+    ∷ begun (promises 0 0 1) (1 ∷ 1 ∷ []) 12
+    ∷ begun (tableOf (promising 0 1 1 0 2 ∷ job 1 1 1 0 ∷ []) 2 1 0) order 5
     ∷ []
 
 -- every case of a list holds
@@ -203,5 +245,5 @@ allHold (c ∷ cs) = holds c && allHold cs
 
 pub cases-hold : T (allHold cases)
 unfolding slotSaid forwardSaid rowSound tailSound isSound nextRun chosenRow comingSlot oneSlot workOn forwardOver freshOf checkNumber fresh
-    padded tableOf workSlots refusalNumber isOrder checkOrder checkBoth isReady chosen isOver brought serve slot closeLate runSlot rowOk tailOk checkTable
+    padded tableOf workSlots refusalNumber isOrder checkOrder checkBoth isReady chosen isOver brought serve slot closeLate runSlot rowOk tailOk promiseOk checkTable
 cases-hold = tt

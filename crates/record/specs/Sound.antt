@@ -24,7 +24,9 @@ use Rattle.record.specs.Checked.{passed-true, limits, places}
 
 -- row i's soundness over the record's columns
 abbrev pub soundRow : Run → ℕ → Bool
-soundRow r i = rowSoundAt (r .table .normal) (r .table .loading) (r .clock) (r .table .work) (r .table .deadline) (r .table .level) (r .got) (r .used) (r .closing) i
+soundRow r i =
+    let t = r .table in
+    rowSoundAt (t .normal) (t .degraded) (t .loading) (r .clock) (t .work) (t .deadline) (t .level) (t .promised) (r .got) (r .used) (r .closing) i
 
 row-figures : (r : Run) (i : ℕ) → rowSound r i ≡ soundRow r i
 unfolding rowSound soundAt isOver over
@@ -102,7 +104,7 @@ pub serving : (r : Run) (i : ℕ) → isSound r ≡ true → i ≡ chosenRow r �
 serving r i e q h =
     let f = sound-so r e in
     let c : Runs r i = rw q (runs r (rw q at h)) in
-    let s = sound-facts _ _ _ _ _ _ _ _ _ (f .rows i (c .low) (c .high)) in
+    let s = sound-facts _ _ _ _ _ _ _ _ _ _ _ (f .rows i (c .low) (c .high)) in
     record {
       low = c .low;
       high = omega (arith, limits (r .table) (r .order) (f .checked) .few, c .high);

@@ -5,7 +5,7 @@ use mathlib.Core.Bool.{Bool, cond}
 use mathlib.Core.Path.{_≡_, refl, sym}
 use lib.ListN.{length, drop}
 use borrow.Author.Tests.{ne-eqb}
-use Rattle.rules.specs.Rows.{at, put, workOf}
+use Rattle.rules.specs.Rows.{at, put, workOf, promisedOf}
 use Rattle.rules.specs.Running.{closeLate, runSlot}
 use Rattle.rules.specs.Slots.{isOver, brought, serve, slot}
 use Rattle.record.specs.declared.Run.{Run}
@@ -22,7 +22,8 @@ gotNext r v i = min (workOf (r .table) i) (at (r .got) i + brought (r .table .lo
 -- its closing slot after that slot, 0 while it is open (rule 2.10)
 abbrev pub closingNext : Run → ℕ → ℕ → ℕ
 closingNext r v i =
-    cond (over (workOf (r .table) i) (at (r .table .level) i) (r .table .normal) (r .table .loading) (gotNext r v i) (at (r .used) i + 1)) (r .clock + 1) 0
+    let t = r .table in
+    cond (over (workOf t i) (at (t .level) i) (promisedOf t i) (t .normal) (t .degraded) (t .loading) (gotNext r v i) (at (r .used) i + 1)) (r .clock + 1) 0
 
 -- the record after an idle slot
 abbrev pub rested : Run → Run
@@ -40,10 +41,11 @@ served r v i =
       closing = put (r .closing) i (closingNext r v i);
     }
 
--- the same record by its figures: the row's work and level as they were read, and what was made of them
-pub served-from : (r : Run) (v i work level got closing : ℕ) → work ≡ workOf (r .table) i → level ≡ at (r .table .level) i
+-- the same record by its figures: the row's work, level and promised part as they were read, and what was made of them
+pub served-from : (r : Run) (v i work level promised got closing : ℕ) → work ≡ workOf (r .table) i → level ≡ at (r .table .level) i
+    → promised ≡ promisedOf (r .table) i
     → got ≡ min work (at (r .got) i + brought (r .table .loading) (at (r .used) i) v)
-    → closing ≡ cond (over work level (r .table .normal) (r .table .loading) got (at (r .used) i + 1)) (r .clock + 1) 0
+    → closing ≡ cond (over work level promised (r .table .normal) (r .table .degraded) (r .table .loading) got (at (r .used) i + 1)) (r .clock + 1) 0
     → _≡_ {A = Run}
     (record {
       table = r .table;
@@ -54,7 +56,7 @@ pub served-from : (r : Run) (v i work level got closing : ℕ) → work ≡ work
       closing = put (r .closing) i closing;
     })
     (served r v i)
-served-from r v i work level got closing w l g c = rw (c, g, w, l)
+served-from r v i work level promised got closing w l p g c = rw (c, g, w, l, p)
 
 module _ (r : Run) (v i : ℕ) (e : i ≡ chosenRow r) where
   pub worked-idle : i ≡ 0 → workedRun r v ≡ rested r

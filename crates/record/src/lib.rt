@@ -98,15 +98,18 @@ pub fn is_sound(r: Run) -> bool
     }
     let n = table.n;
     let normal = table.normal;
+    let degraded = table.degraded;
     let loading = table.loading;
     if !columns::rows_sound(
         n,
         normal,
+        degraded,
         loading,
         clock,
         &r.table.work,
         &r.table.deadline,
         &r.table.level,
+        &r.table.promised,
         &r.got,
         &r.used,
         &r.closing,
@@ -145,6 +148,7 @@ fn zero_table() -> Table
         work: zeros,
         deadline: zeros,
         level: zeros,
+        promised: zeros,
     }
 }
 
@@ -192,12 +196,24 @@ impl Run {
         let i = row as usize - 1;
         let work = columns::entry(&self.table.work, i);
         let level = columns::entry(&self.table.level, i);
+        let promised = columns::entry(&self.table.promised, i);
         let normal = self.table.normal;
+        let degraded = self.table.degraded;
         let loading = self.table.loading;
         let before = self.used[i];
         let got = columns::grown(self.got[i], before, loading, supply, work);
         let used = before + 1;
-        let closing = columns::closing_slot(work, level, normal, loading, got, used, after);
+        let closing = columns::closing_slot(
+            work,
+            level,
+            promised,
+            normal,
+            degraded,
+            loading,
+            got,
+            used,
+            after,
+        );
         self.got[i] = got;
         self.used[i] = used;
         self.closing[i] = closing;

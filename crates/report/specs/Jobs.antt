@@ -1,6 +1,6 @@
 -- A job as its line shows it, off the columns that the judge fills, and how large its figures are: all below 100,000,000.
 use Prim.Native.Nat.{ℕ, zero, suc, _+_, _≤_, _<_}
-use mathlib.Core.Path.{_≡_, _∙_}
+use mathlib.Core.Path.{_≡_, sym, _∙_}
 use mathlib.Core.List.{List, [], _∷_, map}
 use native.Mathlib.Omega.{arith}
 use lib.Dec.{ltb}
@@ -19,7 +19,8 @@ use Rattle.rules.specs.Reports.{figures, isLate, jobLine}
 use Rattle.theory.specs.Caps.{slots-most}
 use Rattle.theory.specs.Facts.{Row, is-row, facts, both-accepted, both-order}
 use Rattle.theory.specs.Places.{place-row}
-use Rattle.theory.specs.Results.{order-bound}
+use Rattle.theory.specs.Promised.{latest, slack-is}
+use Rattle.theory.specs.Results.{order-bound, latest-bound}
 use Rattle.theory.specs.Tests.{by-bool}
 use Rattle.sweep.specs.Padded.{padded-at}
 use Rattle.judge.specs.declared.Times.{Times}
@@ -28,11 +29,12 @@ use Rattle.report.specs.declared.Job.{Job}
 pub late-one : (z : ℤ) → isLate z ≤ 1
 late-one z = by-bool (ltZ z (pos 0)) (λ e. rw e (omega arith)) (λ e. rw e (omega arith))
 
--- the checks of table and order pass, and the columns have each row's need at N and worst finish, in slots
+-- the checks of table and order pass, and the columns have each row's need at N, worst finish, and the clock that its slack counts from, in slots
 pub record Timed (t : Table) (o : List ℕ) (times : Times) : Type 0 where
   pub checked : checkBoth t o ≡ Passed
   pub needs : times .need ≡ padded (map (needOf t) (rowsOf t))
   pub finishes : times .finish ≡ padded (map (worstFinish t o) (rowsOf t))
+  pub clocks : times .latest ≡ padded (map (latest t o) (rowsOf t))
 
 -- the job at place k
 pub record JobOf (t : Table) (o : List ℕ) (k : ℕ) (job : Job) : Type 0 where
@@ -65,18 +67,19 @@ module _ (t : Table) (o : List ℕ) (c : checkBoth t o ≡ Passed) where
   pub due-small : (i : ℕ) → Row t i → deadlineOf t i ≤ 1000000
   due-small i r = facts t (both-accepted t o c) .row i r .soon
 
+  pub clock-small : (i : ℕ) → Row t i → latest t o i ≤ 65001024
+  clock-small i r = latest-bound t (both-accepted t o c) o (both-order t o c) i (is-row t i r)
+
   pub slack-small : (i : ℕ) → Row t i → natAbs (slack t o i) < 100000000
-  unfolding slack
-  slack-small i r = omega (arith, size-difference (deadlineOf t i) (worstFinish t o i), due-small i r, finish-small i r)
+  slack-small i r = rw (slack-is t o i) (omega (arith, size-difference (deadlineOf t i) (latest t o i), due-small i r, clock-small i r))
 
   -- 32 bits hold a slack
   pub slack-fits : (i : ℕ) → Row t i → (z : ℤ) → z ≡ slack t o i → SFits w32 z
   slack-fits i r z e = small-fits z (rw e (slack-small i r))
 
--- a slack from deadline and finish
-pub slack-is : (t : Table) (o : List ℕ) (i due finish : ℕ) → due ≡ deadlineOf t i → finish ≡ worstFinish t o i → pos due -ℤ pos finish ≡ slack t o i
-unfolding slack
-slack-is t o i due finish d f = rw (d, f)
+-- a slack from deadline and clock
+pub slack-from : (t : Table) (o : List ℕ) (i due clock : ℕ) → due ≡ deadlineOf t i → clock ≡ latest t o i → pos due -ℤ pos clock ≡ slack t o i
+slack-from t o i due clock d f = rw (d, f) (sym (slack-is t o i))
 
 -- ---- entries of the columns
 module _ (t : Table) (o : List ℕ) (times : Times) (timed : Timed t o times) where
@@ -89,6 +92,9 @@ module _ (t : Table) (o : List ℕ) (times : Times) (timed : Timed t o times) wh
 
   pub finish-is : (i : ℕ) → Row t i → at (times .finish) i ≡ worstFinish t o i
   finish-is i r = rw (timed .finishes) (padded-at (worstFinish t o) (t .n) i (r .from) (r .upTo) (few t o (timed .checked)))
+
+  pub clock-is : (i : ℕ) → Row t i → at (times .latest) i ≡ latest t o i
+  clock-is i r = rw (timed .clocks) (padded-at (latest t o) (t .n) i (r .from) (r .upTo) (few t o (timed .checked)))
 
 -- ---- a job at a place of the table
 module _ (t : Table) (o : List ℕ) (times : Times) (timed : Timed t o times) (k : ℕ) (a : 1 ≤ k) (b : k ≤ t .n) (job : Job) (j : JobOf t o k job) where

@@ -1,5 +1,5 @@
 -- The totals of the last line (rule 16.3): over the rows of the table and over the lines of the places they are the same, they have at most
--- eight digits, as all figures have (rule 16.11), and no row is late exactly if the order is correct (rule 16.10).
+-- eight digits, as all figures have (rule 16.11), and no row has a slack below 0 slots exactly if the order is correct (rule 16.10).
 use Prim.Native.Nat.{_<_, ℕ, suc, _+_, _≤_}
 use mathlib.Core.Bool.{true, false}
 use mathlib.Core.Path.{_≡_, refl, _∙_}
@@ -69,7 +69,7 @@ module _ (t : Table) (o : List ℕ) (c : checkBoth t o ≡ Passed) where
   unfolding lateRows
   late-most = omega (arith, sum-most (λ i. isLate (slack t o i)) 1 (rowsOf t) (λ x i. late-one (slack t o x)), length-rows (t .n), few t o c)
 
--- ---- no row is late exactly if the order is correct (rule 16.10)
+-- ---- no row has a slack below 0 slots exactly if the order is correct (rule 16.10)
 module _ (t : Table) (o : List ℕ) (c : checkBoth t o ≡ Passed) where
   in-time : lateRows t o ≡ 0 → (i : ℕ) → Row t i → ltZ (slack t o i) (pos 0) ≡ false
   unfolding lateRows

@@ -26,7 +26,7 @@ struct Job {
     slack: i32,
 }
 
-// What the lines of all places come to: the byte after them, their needs at N added up in slots, and how many of their rows are late.
+// What the lines of all places come to: the byte after them, their needs at N added up in slots, and how many of their rows have a slack below 0 slots.
 struct Listed {
     next: usize,
     needs: u32,
@@ -42,10 +42,12 @@ fn job_at(t: Table, order: [u8; 64], times: Times, place: u32) -> Job
     let deadlines = t.deadline;
     let needs = times.need;
     let finishes = times.finish;
+    let clocks = times.latest;
     let due = sweep::entry(&deadlines, row);
     let need = sweep::entry(&needs, row);
     let finish = sweep::entry(&finishes, row);
-    let slack = judge::slack(due, finish);
+    let clock = sweep::entry(&clocks, row);
+    let slack = judge::slack(due, clock);
     Job {
         place,
         row,
@@ -84,7 +86,7 @@ fn put_job(out: &mut [u8], at: usize, job: Job) -> usize
     fields::put_byte(out, after_slack, 10)
 }
 
-// The last line: needs added up in slots, and how many rows are late.
+// The last line: needs added up in slots, and how many rows have a slack below 0 slots.
 fn put_totals(out: &mut [u8], at: usize, needs: u32, late: u32) -> usize
     requires { ⌜ (needs < 100000000) × (late < 100000000) × (at + 21 ≤ length (now out)) ⌝ }
     ensures { λ r. ⌜ Wrote (now (out .entry)) at (now (out .exit)) r (figures (pos needs ∷ pos late ∷ [])) ⌝ }

@@ -1,7 +1,7 @@
 -- The starred cases P1 to P8 (rules 13.1 to 13.8) and tables at the limits (rule 13.9) as one table, computed from the definitions and
 -- checked by one theorem, with cases of our own beside them: on the planner's choice, the judge, checks 3 to 6, calls on paper, and parts of
 -- definitions. Here no job loads; LoadingCases has tables in which jobs do. Each of the faults 14.1 to 14.5 of the rules meets one here, and
--- each from 14.6 on one there, in SpeedCases, in LateCases or in record/specs/RecordCases; not every change of a definition does.
+-- each from 14.6 on one there, in SpeedCases, in LateCases, in PromiseCases or in record/specs/RecordCases; not every change of a definition does.
 use Prim.Native.Nat.{ℕ, suc, _+_, _-_, _≤_, _<_}
 use mathlib.Core.Bool.{Bool, true, false, not, _&&_}
 use mathlib.Core.List.{List, [], _∷_, _++_, map}
@@ -26,12 +26,16 @@ use Rattle.rules.specs.Orders.{isOrder, checkOrder, checkBoth}
 use Rattle.rules.specs.Rows.{at, isRow, rowsOf, workOf, deadlineOf, isLow, isHigh}
 use Rattle.rules.specs.Running.{closeLate, runSlot}
 use Rattle.rules.specs.Slots.{State, fresh, isReady, chosen, isOver, brought, serve, slot, after}
-use Rattle.rules.specs.Tables.{rowOk, tailOk, checkTable, Accepted, passed}
-use Rattle.rules.specs.Worst.{horizon, worstFinish, slack, meets}
+use Rattle.rules.specs.Tables.{rowOk, tailOk, promiseOk, checkTable, Accepted, passed}
+use Rattle.rules.specs.Worst.{horizon, worstFinish, promisedMoment, slack, meets}
 
--- a row: release and deadline in slots, work in work units, level
+-- a row: release and deadline in slots, work in work units, level, and the promised part in work units
+abbrev pub promising : ℕ → ℕ → ℕ → ℕ → ℕ → Row
+promising a c d level r = record { release = a; work = c; deadline = d; level = level; promised = r }
+
+-- a row that is promised nothing
 abbrev pub job : ℕ → ℕ → ℕ → ℕ → Row
-job a c d level = record { release = a; work = c; deadline = d; level = level }
+job a c d level = promising a c d level 0
 
 -- a table of these rows and speeds in which a job loads in no slot
 abbrev plain : List Row → ℕ → ℕ → Table
@@ -241,7 +245,7 @@ alone row normal degraded = plain (row ∷ []) normal degraded
 abbrev followed : List Row → Table
 followed others =
     let t = plain (job 0 1 1 0 ∷ others) 2 1 in
-    record { n = 1; normal = t .normal; degraded = t .degraded; loading = 0; release = t .release; work = t .work; deadline = t .deadline; level = t .level }
+    record { n = 1; normal = t .normal; degraded = t .degraded; loading = 0; release = t .release; work = t .work; deadline = t .deadline; level = t .level; promised = t .promised }
 
 abbrev many : ℕ → Table
 many n = plain (replicate n (job 0 1 1 0)) 2 1
@@ -385,7 +389,7 @@ allHold [] = true
 allHold (c ∷ cs) = holds c && allHold cs
 
 pub cases-hold : T (allHold (starred ++ choices ++ judgements ++ checks ++ runs ++ parts))
-unfolding planOf padded passes sequence choice fill taker word tableOf judgeOf tightest workSlots refusalNumber checkNumber plannedNumber rowsLeft verdictNumber verdictYes verdictRow verdictSlack isOrder checkOrder checkBoth fresh isReady chosen isOver brought serve slot rowOk tailOk checkTable horizon worstFinish slack meets tellOne tellForward tellAll closeLate runSlot allSupplies supplyAt earliest
+unfolding planOf padded passes sequence choice fill taker word tableOf judgeOf tightest workSlots refusalNumber checkNumber plannedNumber rowsLeft verdictNumber verdictYes verdictRow verdictSlack isOrder checkOrder checkBoth fresh isReady chosen isOver brought serve slot rowOk tailOk promiseOk checkTable horizon worstFinish promisedMoment slack meets tellOne tellForward tellAll closeLate runSlot allSupplies supplyAt earliest
 cases-hold = tt
 
 -- an accepted table is one that the checks of a table pass, and no other (rule 5.5)

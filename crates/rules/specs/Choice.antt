@@ -32,7 +32,7 @@ sequence t = keep (isLow t) (falling t (rowsOf t)) ++ keep (isHigh t) (falling t
 abbrev pub lowest : List ℕ → ℕ → List ℕ
 lowest left i = erase i left ++ (i ∷ [])
 
--- the trial of row i: in its worst run, lowest of the rows left, LO and HI alike, it finishes in time (rules 4.4, 14.4)
+-- the trial of row i: lowest of the rows left, LO and HI alike, its slack is not below zero (rules 4.4, 14.4)
 unfoldable pub passes : Table → List ℕ → ℕ → Bool
 passes t left i = meets t (lowest left i) i
 
@@ -78,11 +78,11 @@ planFrom c =
     (record { answer = Ordered; order = padded (c .placed) })
     (record { answer = NoOrder (word (c .left)); order = replicate 64 0 })
 
--- a refused table has an order of zeros (rules 10.3 to 10.5, 10.11)
+-- a refused table has an order of zeros (rules 10.3 to 10.5, 10.11, 10.12)
 abbrev pub planChecked : Check → Table → Planning
 planChecked Checks.Passed t = planFrom (choice t)
 planChecked (Checks.Refused r) t = record { answer = Refused r; order = replicate 64 0 }
 
--- the planner's answer for any table: checks 3, 4, 11, 5, then the choice (rule 11.3)
+-- the planner's answer for any table: checks 3, 4, 11, 5, 12, then the choice (rule 11.3)
 unfoldable pub planOf : Table → Planning
 planOf t = planChecked (checkTable t) t

@@ -24,7 +24,7 @@ leastSlack t o b (i ∷ is) = leastSlack t o (cond (ltZ (slack t o i) (slack t o
 unfoldable pub tightest : Table → List ℕ → ℕ
 tightest t o = leastSlack t o 1 (rowsOf t)
 
--- yes if row i's slack, in slots, is not below zero; for the tightest row this says that no row is late (rule 7.2; that it is
+-- yes if row i's slack, in slots, is not below zero; for the tightest row this says so of every row (rule 7.2; that it is
 -- yes exactly for correct orders is proved, `exact` in the judge's promise)
 abbrev pub verdictAt : Table → List ℕ → ℕ → Verdict
 verdictAt t o i = cond (ltZ (slack t o i) (pos 0)) (Incorrect i (slack t o i)) (Correct i (slack t o i))
@@ -34,7 +34,7 @@ abbrev pub judgeChecked : Check → Table → List ℕ → Verdict
 judgeChecked Checks.Passed t o = verdictAt t o (tightest t o)
 judgeChecked (Checks.Refused r) t o = Refused r
 
--- the judge's answer for any table and any sixty-four numbers: checks 3, 4, 11, 5, 6, then the verdict (rules 7.1, 11.4)
+-- the judge's answer for any table and any sixty-four numbers: checks 3, 4, 11, 5, 12, 6, then the verdict (rules 7.1, 11.4)
 unfoldable pub judgeOf : Table → List ℕ → Verdict
 judgeOf t o = judgeChecked (checkBoth t o) t o
 
@@ -54,4 +54,5 @@ tableOf rows normal degraded loading =
       work = column (λ r. r .work) rows;
       deadline = column (λ r. r .deadline) rows;
       level = column (λ r. r .level) rows;
+      promised = column (λ r. r .promised) rows;
     }

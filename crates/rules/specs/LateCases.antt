@@ -18,8 +18,8 @@ use Rattle.rules.specs.Numbers.{refusalNumber, checkNumber, plannedNumbe
 use Rattle.rules.specs.Orders.{isOrder, checkOrder, checkBoth}
 use Rattle.rules.specs.Running.{isDue, closeLate, runSlot, runAfter}
 use Rattle.rules.specs.Slots.{fresh, isReady, chosen, isOver, brought, serve, slot, after}
-use Rattle.rules.specs.Tables.{rowOk, tailOk, checkTable}
-use Rattle.rules.specs.Worst.{horizon, worstFinish, slack, meets}
+use Rattle.rules.specs.Tables.{rowOk, tailOk, promiseOk, checkTable}
+use Rattle.rules.specs.Worst.{horizon, worstFinish, promisedMoment, slack, meets}
 
 -- rows at N of 2 and G of 1 work units per slot, without loading
 abbrev rows : List Row → Table
@@ -108,5 +108,5 @@ plans =
     ∷ []
 
 pub late-cases-hold : T (allHold (starred ++ lastSlots ++ waiting ++ limits ++ plans))
-unfolding planOf padded passes sequence choice fill taker word tableOf judgeOf tightest workSlots refusalNumber checkNumber plannedNumber rowsLeft verdictNumber verdictYes verdictRow verdictSlack isOrder checkOrder checkBoth fresh isReady chosen isOver brought serve slot rowOk tailOk checkTable horizon worstFinish slack meets tellOne tellForward tellAll closeLate runSlot
+unfolding planOf padded passes sequence choice fill taker word tableOf judgeOf tightest workSlots refusalNumber checkNumber plannedNumber rowsLeft verdictNumber verdictYes verdictRow verdictSlack isOrder checkOrder checkBoth fresh isReady chosen isOver brought serve slot rowOk tailOk promiseOk checkTable horizon worstFinish promisedMoment slack meets tellOne tellForward tellAll closeLate runSlot
 late-cases-hold = tt

@@ -21,5 +21,6 @@ pub mod Speeds
 pub mod Cases
 pub mod LoadingCases
 pub mod SpeedCases
+pub mod PromiseCases
 pub mod LateCases
 pub mod TextCases

@@ -17,8 +17,8 @@ use Rattle.rules.specs.Orders.{isOrder, checkOrder, checkBoth}
 use Rattle.rules.specs.Rows.{needOf, needFor, rowsOf}
 use Rattle.rules.specs.Running.{closeLate, runSlot}
 use Rattle.rules.specs.Slots.{fresh, isReady, chosen, allowance, isOver, brought, serve, slot, after}
-use Rattle.rules.specs.Tables.{rowOk, tailOk, checkTable}
-use Rattle.rules.specs.Worst.{horizon, worstFinish, slack, meets}
+use Rattle.rules.specs.Tables.{rowOk, tailOk, promiseOk, checkTable}
+use Rattle.rules.specs.Worst.{horizon, worstFinish, promisedMoment, slack, meets}
 
 -- A LO row of two working slots that a HI row, released at a, preempts. Each loads for 2 slots.
 abbrev preempted : ℕ → Table
@@ -53,6 +53,7 @@ followed k =
       work = t .work;
       deadline = t .deadline;
       level = t .level;
+      promised = t .promised;
     }
 
 -- P1 with later deadlines
@@ -140,5 +141,5 @@ checks =
     ∷ []
 
 pub loading-cases-hold : T (allHold (starred ++ runs ++ times ++ verdicts ++ checks))
-unfolding planOf padded passes sequence choice fill taker word tableOf judgeOf tightest workSlots refusalNumber checkNumber plannedNumber rowsLeft verdictNumber verdictYes verdictRow verdictSlack isOrder checkOrder checkBoth fresh isReady chosen isOver brought serve slot rowOk tailOk checkTable horizon worstFinish slack meets tellOne tellForward tellAll closeLate runSlot
+unfolding planOf padded passes sequence choice fill taker word tableOf judgeOf tightest workSlots refusalNumber checkNumber plannedNumber rowsLeft verdictNumber verdictYes verdictRow verdictSlack isOrder checkOrder checkBoth fresh isReady chosen isOver brought serve slot rowOk tailOk promiseOk checkTable horizon worstFinish promisedMoment slack meets tellOne tellForward tellAll closeLate runSlot
 loading-cases-hold = tt

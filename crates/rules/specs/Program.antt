@@ -1,7 +1,8 @@
 -- What the planning program writes, in fields like those of a sheet (section 12 of the rules).
-use Prim.Native.Nat.{ℕ, _-_}
+use Prim.Native.Nat.{ℕ}
 use mathlib.Core.List.{List, [], _∷_, _++_}
 use lib.Count.{ones}
+use lib.IntN.{natAbs}
 use lib.ListN.{take}
 use Rattle.rules.specs.declared.Table.{Table}
 use Rattle.rules.specs.declared.Check.the-variants as Checks
@@ -12,13 +13,13 @@ use Rattle.rules.specs.Choice.{planOf}
 use Rattle.rules.specs.Fields.{line}
 use Rattle.rules.specs.Lists.{rowsTo, joined}
 use Rattle.rules.specs.Numbers.{refusalNumber}
-use Rattle.rules.specs.Rows.{at, deadlineOf}
+use Rattle.rules.specs.Rows.{at}
 use Rattle.rules.specs.Sheets.{readOf}
-use Rattle.rules.specs.Worst.{worstFinish}
+use Rattle.rules.specs.Worst.{slack}
 
 -- the line of place k: the place, its row, and the row's slack in slots, which after success is not below zero (rule 12.5)
 unfoldable pub placeLine : Table → List ℕ → ℕ → List ℕ
-placeLine t o k = line (k ∷ at o k ∷ (deadlineOf t (at o k) - worstFinish t o (at o k)) ∷ [])
+placeLine t o k = line (k ∷ at o k ∷ natAbs (slack t o (at o k)) ∷ [])
 
 -- first line and places for a planner's answer; a refusal has its number and the count of rows left alone, which is
 -- that of the set bits of their word (rules 4.9, 12.4, 12.5)
@@ -32,6 +33,6 @@ abbrev pub readText : Check → Table → List ℕ
 readText Checks.Passed t = planText t (planOf t .order) (planOf t .answer)
 readText (Checks.Refused r) t = line (refusalNumber r ∷ 0 ∷ [])
 
--- the program from input to output; of its input it looks at 2,146 bytes (rules 12.1, 12.2)
+-- the program from input to output; of its input it looks at 2,658 bytes (rules 12.1, 12.2)
 unfoldable pub programText : List ℕ → List ℕ
-programText input = let r = readOf (take 2146 input) in readText (r .check) (r .table)
+programText input = let r = readOf (take 2658 input) in readText (r .check) (r .table)

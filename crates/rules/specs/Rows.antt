@@ -36,6 +36,10 @@ workOf t i = at (t .work) i
 abbrev pub deadlineOf : Table → ℕ → ℕ
 deadlineOf t i = at (t .deadline) i
 
+-- the promised part r, in work units (rule 1.11)
+abbrev pub promisedOf : Table → ℕ → ℕ
+promisedOf t i = at (t .promised) i
+
 -- the need at s work units per slot, in slots, whatever the row's level (rules 1.8, 1.10)
 abbrev pub needFor : Table → ℕ → ℕ → ℕ
 needFor t s i = need (t .loading) (workOf t i) s
@@ -44,6 +48,10 @@ needFor t s i = need (t .loading) (workOf t i) s
 abbrev pub needOf : Table → ℕ → ℕ
 needOf t i = needFor t (t .normal) i
 
+-- the need of the promised part at G, in slots: K of a row that promises nothing (rules 1.8, 1.10, 1.11)
+abbrev pub promiseNeed : Table → ℕ → ℕ
+promiseNeed t i = need (t .loading) (promisedOf t i) (t .degraded)
+
 -- a LO row: level 0 (rule 1.2)
 abbrev pub isLow : Table → ℕ → Bool
 isLow t i = eqb (at (t .level) i) 0
@@ -51,3 +59,7 @@ isLow t i = eqb (at (t .level) i) 0
 -- a HI row: any other level, which in an accepted table is level 1 (rule 1.2)
 abbrev pub isHigh : Table → ℕ → Bool
 isHigh t i = not (isLow t i)
+
+-- row i is promised a part of its work: it is LO, and r is above 0 work units (rule 1.11)
+abbrev pub isPromised : Table → ℕ → Bool
+isPromised t i = isLow t i && ltb 0 (promisedOf t i)

@@ -7,7 +7,7 @@ use mathlib.Core.List.{List, [], _∷_}
 use lib.Dec.{eqb, leb}
 use Rattle.rules.specs.declared.Table.{Table}
 use Rattle.rules.specs.Correct.{KeptIn}
-use Rattle.rules.specs.Rows.{isRow, isLow, isHigh, deadlineOf}
+use Rattle.rules.specs.Rows.{at, isRow, isLow, isHigh, deadlineOf, promisedOf}
 use Rattle.rules.specs.Slots.{State, slot, course}
 
 -- clock u closes row i if it is open: it is LO, and u has reached its deadline (rules 9.13, 19.2, 19.4)
@@ -34,9 +34,11 @@ abbrev pub runAfter : Table → List ℕ → (ℕ → ℕ) → ℕ → State
 runAfter t o σ k = course (runSlot t o) σ k
 
 -- An order serves in runs: what `Correct` asks of runs by the planning rule holds of those by the running rule. Whatever the slots supply, as
--- long as none supplies less than N every row keeps its deadline, and as long as none supplies less than G every HI row does (rule 19.5). Every
--- correct order does, and some others do (rule 19.8).
+-- long as none supplies less than N every row keeps its deadline, and as long as none supplies less than G every HI row does and every LO row
+-- gets its promised part in time (rules 19.5, 20.3). Every correct order does, and some others do (rule 19.8).
 pub record RunServes (t : Table) (o : List ℕ) : Type 0 where
   pub normal : (σ : ℕ → ℕ) → ((u : ℕ) → t .normal ≤ σ u) → (i : ℕ) → isRow t i ≡ true → KeptIn t (runAfter t o σ (deadlineOf t i)) i
   pub degraded : (σ : ℕ → ℕ) → ((u : ℕ) → t .degraded ≤ σ u) → (i : ℕ) → isRow t i ≡ true → isHigh t i ≡ true
       → KeptIn t (runAfter t o σ (deadlineOf t i)) i
+  pub promised : (σ : ℕ → ℕ) → ((u : ℕ) → t .degraded ≤ σ u) → (i : ℕ) → isRow t i ≡ true → isLow t i ≡ true
+      → promisedOf t i ≤ at (runAfter t o σ (deadlineOf t i) .got) i

@@ -1,12 +1,12 @@
 -- What a slot does (section 2 of the rules): the planning rule (rule 19.1), slot by slot. At clock t the coming slot is slot t (rule 1.4).
-use Prim.Native.Nat.{ℕ, zero, suc, _+_, min}
+use Prim.Native.Nat.{ℕ, zero, suc, _+_, max, min}
 use mathlib.Core.Bool.{Bool, cond, _&&_, _||_}
 use mathlib.Core.List.{List}
 use lib.Dec.{eqb, ltb, leb}
 use lib.ListN.{replicate}
 use Rattle.rules.specs.declared.Table.{Table}
 use Rattle.rules.specs.Lists.{first}
-use Rattle.rules.specs.Rows.{at, put, isRow, releaseOf, workOf, needOf, isLow}
+use Rattle.rules.specs.Rows.{at, put, isRow, releaseOf, workOf, needOf, promiseNeed, isLow}
 
 -- the clock in slots; for each row the work units got, the slots used and the closing slot, 0 while open (rules 2.10, 2.13)
 pub record State : Type 0 where
@@ -28,9 +28,10 @@ isReady t s i = isRow t i && leb (releaseOf t i) (s .clock) && eqb (at (s .closi
 unfoldable pub chosen : Table → List ℕ → State → ℕ
 chosen t o s = first (isReady t s) o
 
--- the slots that a LO row may use, loading among them, at whatever speed: its need at N (rule 1.9; at G it would be the fault of rule 14.2)
+-- the slots that a LO row may use, loading among them, at whatever speed: its need at N, or the need of its promised part at G if that is more
+-- (rule 1.9; the need of all its work at G would be the fault of rule 14.2)
 abbrev pub allowance : Table → ℕ → ℕ
-allowance t i = needOf t i
+allowance t i = max (needOf t i) (promiseNeed t i)
 
 -- Row i with g work units got and u slots used is over: it is done, having got c, or it is LO and has used up its allowance
 -- (rules 2.6, 2.7, 2.8). Its deadline does not come into it (rules 2.9, 14.3): that is the clock's (rule 19.2). Where both hold it is done and not dropped, since a row that

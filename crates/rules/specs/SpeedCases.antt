@@ -11,7 +11,7 @@ use Rattle.rules.specs.declared.Table.{Table}
 use Rattle.rules.specs.declared.Sought.{Sought}
 use Rattle.rules.specs.declared.Sought.the-variants.{Degraded, Normal}
 use Rattle.rules.specs.declared.Searching.{Searching}
-use Rattle.rules.specs.Cases.{Case, planned, stopped, judged, lists, job, allHold}
+use Rattle.rules.specs.Cases.{Case, planned, stopped, judged, lists, promising, job, allHold}
 use Rattle.rules.specs.Choice.{planOf, padded, passes, sequence, choice, fill, taker, word}
 use Rattle.rules.specs.Fields.{digitAt, written, digitOf, valueOf, isField}
 use Rattle.rules.specs.Judge.{tableOf, judgeOf, tightest}
@@ -22,19 +22,19 @@ use Rattle.rules.specs.Orders.{isOrder, checkOrder, checkBoth}
 use Rattle.rules.specs.Sheets.{isLine, numberAt, columnOf, tableIn, checkSheet, readOf, rowLine, sheetOf}
 use Rattle.rules.specs.Slots.{fresh, isReady, chosen, isOver, brought, serve, slot, after}
 use Rattle.rules.specs.Speeds.{atSpeed, speedsOf, makesOrder, leastSpeed, searchOf, searchSheet}
-use Rattle.rules.specs.Tables.{rowOk, tailOk, checkTable}
-use Rattle.rules.specs.Worst.{horizon, worstFinish, slack, meets}
+use Rattle.rules.specs.Tables.{rowOk, tailOk, promiseOk, checkTable}
+use Rattle.rules.specs.Worst.{horizon, worstFinish, promisedMoment, slack, meets}
 
 -- a search's whole answer: its number, the speed in work units per slot, the order
 abbrev told : Searching → List ℕ
 told r = searchedNumber (r .answer) ∷ searchedSpeed (r .answer) ∷ r .order
 
 -- the search for a table finds this speed and this order
-abbrev found : Sought → Table → ℕ → List ℕ → Case
+abbrev pub found : Sought → Table → ℕ → List ℕ → Case
 found f t speed o = lists (told (searchOf f t)) (0 ∷ speed ∷ padded o)
 
 -- the search for a table has this number and nothing but zeros
-abbrev nothing : Sought → Table → ℕ → Case
+abbrev pub nothing : Sought → Table → ℕ → Case
 nothing f t number = lists (told (searchOf f t)) (number ∷ 0 ∷ padded [])
 
 -- the search for these bytes has this number, this speed and this order
@@ -118,15 +118,16 @@ sheets =
     ∷ read Normal (sheetOf (p1 8 2)) 0 5 (1 ∷ 2 ∷ 3 ∷ 4 ∷ [])
     ∷ read Degraded (sheetOf (alone 4 1 0 3 1)) 7 0 []
     ∷ read Degraded [] 1 0 []
-    ∷ read Degraded (take 65 (sheetOf (alone 4 4 1 3 3))) 1 0 []
+    ∷ read Degraded (take 73 (sheetOf (alone 4 4 1 3 3))) 1 0 []
     ∷ read Normal (sheetOf (alone 4 4 1 3 3) ++ (10 ∷ [])) 1 0 []
-    ∷ read Normal (take 32 (sheetOf (alone 4 4 1 3 3)) ++ rowsTo 34) 2 0 []
+    ∷ read Normal (take 32 (sheetOf (alone 4 4 1 3 3)) ++ rowsTo 42) 2 0 []
     ∷ read Degraded (sheetOf (tableOf [] 2 1 0)) 3 0 []
     ∷ read Degraded (sheetOf (alone 4 4 1 3 4)) 4 0 []
     ∷ read Normal (sheetOf (tableOf (job 4 1 4 0 ∷ []) 2 1 17)) 11 0 []
     ∷ read Normal (sheetOf (tableOf (job 4 1 4 0 ∷ []) 2 1 16)) 5 0 []
+    ∷ read Normal (sheetOf (tableOf (promising 0 4 4 0 5 ∷ []) 2 1 16)) 12 0 []
     ∷ []
 
 pub speed-cases-hold : T (allHold (degraded ++ normal ++ refusals ++ sheets))
-unfolding planOf padded passes sequence choice fill taker word tableOf judgeOf tightest workSlots refusalNumber checkNumber plannedNumber rowsLeft searchedNumber searchedSpeed verdictNumber verdictYes verdictRow verdictSlack isOrder checkOrder checkBoth fresh isReady chosen isOver brought serve slot rowOk tailOk checkTable horizon worstFinish slack meets makesOrder leastSpeed searchOf searchSheet digitAt written digitOf valueOf isField isLine numberAt columnOf tableIn checkSheet readOf rowLine sheetOf
+unfolding planOf padded passes sequence choice fill taker word tableOf judgeOf tightest workSlots refusalNumber checkNumber plannedNumber rowsLeft searchedNumber searchedSpeed verdictNumber verdictYes verdictRow verdictSlack isOrder checkOrder checkBoth fresh isReady chosen isOver brought serve slot rowOk tailOk promiseOk checkTable horizon worstFinish promisedMoment slack meets makesOrder leastSpeed searchOf searchSheet digitAt written digitOf valueOf isField isLine numberAt columnOf tableIn checkSheet readOf rowLine sheetOf
 speed-cases-hold = tt

@@ -1,15 +1,15 @@
--- Which tables are accepted: checks 3, 4, 11 and 5, in this order (rules 5.1 to 5.5, 5.8).
+-- Which tables are accepted: checks 3, 4, 11, 5 and 12, in this order (rules 5.1 to 5.5, 5.8, 5.9).
 use Prim.Native.Nat.{ℕ}
-use mathlib.Core.Bool.{Bool, true, false, cond, _&&_}
+use mathlib.Core.Bool.{Bool, true, false, cond, _&&_, _||_}
 use mathlib.Core.Path.{_≡_}
-use lib.Dec.{ltb, leb}
+use lib.Dec.{eqb, ltb, leb}
 use lib.ListN.{length, drop, replicate}
 use Rattle.rules.specs.declared.Table.{Table}
-use Rattle.rules.specs.declared.Refusal.the-variants.{RowCount, Speeds, Loading, RowLimits}
+use Rattle.rules.specs.declared.Refusal.the-variants.{RowCount, Speeds, Loading, RowLimits, Promised}
 use Rattle.rules.specs.declared.Check.{Check}
 use Rattle.rules.specs.declared.Check.the-variants.{Passed, Refused}
 use Rattle.rules.specs.Lists.{all, allZero}
-use Rattle.rules.specs.Rows.{at, rowsOf, releaseOf, workOf, deadlineOf}
+use Rattle.rules.specs.Rows.{at, rowsOf, releaseOf, workOf, deadlineOf, promisedOf, isLow}
 
 -- n is from 1 to 64 rows (rule 5.1)
 abbrev pub countOk : ℕ → Bool
@@ -32,9 +32,18 @@ rowOk t i =
     && ltb (releaseOf t i) (deadlineOf t i)
     && leb (at (t .level) i) 1
 
+-- row i promises what it may: no more than its work, in work units, and nothing if it is HI (rule 5.9)
+unfoldable pub promiseOk : Table → ℕ → Bool
+promiseOk t i = leb (promisedOf t i) (workOf t i) && (isLow t i || eqb (promisedOf t i) 0)
+
 -- no figure stands after row n (rule 5.4)
 unfoldable pub tailOk : Table → Bool
-tailOk t = allZero (drop (t .n) (t .release)) && allZero (drop (t .n) (t .work)) && allZero (drop (t .n) (t .deadline)) && allZero (drop (t .n) (t .level))
+tailOk t =
+    allZero (drop (t .n) (t .release))
+    && allZero (drop (t .n) (t .work))
+    && allZero (drop (t .n) (t .deadline))
+    && allZero (drop (t .n) (t .level))
+    && allZero (drop (t .n) (t .promised))
 
 -- each column has an entry for each of 64 rows, as every table of the code has (rule 5.4)
 pub record FullTable (t : Table) : Type 0 where
@@ -42,19 +51,22 @@ pub record FullTable (t : Table) : Type 0 where
   pub work : length (t .work) ≡ 64
   pub deadline : length (t .deadline) ≡ 64
   pub level : length (t .level) ≡ 64
+  pub promised : length (t .promised) ≡ 64
 
--- checks 3, 4, 11, 5 (rule 11.3)
+-- checks 3, 4, 11, 5, and 12 once every row has passed 5 (rule 11.3)
 unfoldable pub checkTable : Table → Check
 checkTable t =
     cond (countOk (t .n))
     (cond (speedsOk (t .normal) (t .degraded))
     (cond (loadingOk (t .loading))
-    (cond (all (rowOk t) (rowsOf t) && tailOk t) Passed (Refused RowLimits))
+    (cond (all (rowOk t) (rowsOf t) && tailOk t)
+    (cond (all (promiseOk t) (rowsOf t)) Passed (Refused Promised))
+    (Refused RowLimits))
     (Refused Loading))
     (Refused Speeds))
     (Refused RowCount)
 
--- the table passes all four (rule 5.5)
+-- the table passes all five (rule 5.5)
 abbrev pub Accepted : Table → Type 0
 Accepted t = checkTable t ≡ Passed
 
@@ -75,4 +87,5 @@ zeroTable =
       work = replicate 64 0;
       deadline = replicate 64 0;
       level = replicate 64 0;
+      promised = replicate 64 0;
     }

@@ -15,11 +15,11 @@ use Rattle.rules.specs.declared.Check.the-variants.{Passed, Refused}
 use Rattle.rules.specs.declared.Reading.{Reading}
 use Rattle.rules.specs.Fields.{written, isField, fieldAt, line}
 use Rattle.rules.specs.Lists.{allZero, rowsTo, joined}
-use Rattle.rules.specs.Rows.{at, releaseOf, workOf, deadlineOf}
+use Rattle.rules.specs.Rows.{at, releaseOf, workOf, deadlineOf, promisedOf}
 use Rattle.rules.specs.Sheets.{isLine, numberAt, columnOf, tableIn, checkSheet, readChecked, readOf, rowLine, sheetOf}
 use Rattle.rules.specs.Tables.{tailOk, Accepted, FullTable}
 use Rattle.checks.specs.RowLists.{zero-at}
-use Rattle.theory.specs.Facts.{clash, Row, TableFacts, facts}
+use Rattle.theory.specs.Facts.{clash, Row, TableFacts, facts, accepted-tail}
 use Rattle.theory.specs.Tests.{by-eqb, by-ltb, and-left, and-right}
 use Rattle.fields.specs.Lengths.{written-long, joined-more}
 use Rattle.fields.specs.Values.{value-written, field-written}
@@ -68,11 +68,11 @@ module _ (before vs rest : List ℕ) (start : ℕ) (long : length before ≡ sta
   number-there j h = rw (up-down j, field-there j h) (value-written (getD vs j 0) (small j h))
 
 -- ---- the lines of rows, taken apart at one of them
-record Around (f : ℕ → List ℕ) (k n : ℕ) : Type 0 where
+pub record Around (f : ℕ → List ℕ) (k n : ℕ) : Type 0 where
   pub rest : List ℕ
   pub parts : joined f (rowsTo n) ≡ joined f (rowsTo k) ++ (f (k + 1) ++ rest)
 
-around : (f : ℕ → List ℕ) (k n : ℕ) → k < n → Around f k n
+pub around : (f : ℕ → List ℕ) (k n : ℕ) → k < n → Around f k n
 around f k zero h = absurd (omega arith)
 around f k (suc m) h =
     let more : joined f (rowsTo (suc m)) ≡ joined f (rowsTo m) ++ f (suc m) = rw (add-one m) at (joined-more f m) in
@@ -90,21 +90,23 @@ around f k (suc m) h =
     })
 
 -- ---- the sheet of an accepted table
--- four numbers that a field holds, by their index
+-- numbers that a field holds, by their index: one more before those that are known to be held
+small-first : (v : ℕ) (vs : List ℕ) → v < 100000000 → ((j : ℕ) → j < length vs → getD vs j 0 < 100000000)
+    → (j : ℕ) → j < length (v ∷ vs) → getD (v ∷ vs) j 0 < 100000000
+small-first v vs h hs zero k = h
+small-first v vs h hs (suc j) k = hs j (omega arith)
+
 four-small : (a b c d : ℕ) → a < 100000000 → b < 100000000 → c < 100000000 → d < 100000000
     → (j : ℕ) → j < 4 → getD (a ∷ b ∷ c ∷ d ∷ []) j 0 < 100000000
-four-small a b c d ha hb hc hd zero h = ha
-four-small a b c d ha hb hc hd (suc zero) h = hb
-four-small a b c d ha hb hc hd (suc (suc zero)) h = hc
-four-small a b c d ha hb hc hd (suc (suc (suc zero))) h = hd
-four-small a b c d ha hb hc hd (suc (suc (suc (suc j)))) h = absurd (omega arith)
+four-small a b c d ha hb hc hd =
+    small-first a (b ∷ c ∷ d ∷ []) ha (small-first b (c ∷ d ∷ []) hb (small-first c (d ∷ []) hc (small-first d [] hd (λ j h. absurd (omega arith)))))
 
 module _ (t : Table) (accepted : Accepted t) where
   abbrev head : List ℕ
   head = t .n ∷ t .normal ∷ t .degraded ∷ t .loading ∷ []
 
   abbrev row : ℕ → List ℕ
-  row i = releaseOf t i ∷ workOf t i ∷ deadlineOf t i ∷ at (t .level) i ∷ []
+  row i = releaseOf t i ∷ workOf t i ∷ deadlineOf t i ∷ at (t .level) i ∷ promisedOf t i ∷ []
 
   abbrev lines : List ℕ
   lines = joined (rowLine t) (rowsTo (t .n))
@@ -120,14 +122,16 @@ module _ (t : Table) (accepted : Accepted t) where
       (omega (arith, known .fast, known .slower))
       (omega (arith, known .loads))
 
-  row-small : (i : ℕ) → Row t i → (j : ℕ) → j < 4 → getD (row i) j 0 < 100000000
+  row-small : (i : ℕ) → Row t i → (j : ℕ) → j < 5 → getD (row i) j 0 < 100000000
   row-small i r =
       let f = known .row i r in
-      four-small (releaseOf t i) (workOf t i) (deadlineOf t i) (at (t .level) i)
+      small-first (releaseOf t i) (workOf t i ∷ deadlineOf t i ∷ at (t .level) i ∷ promisedOf t i ∷ [])
       (omega (arith, f .before, f .soon))
+      (four-small (workOf t i) (deadlineOf t i) (at (t .level) i) (promisedOf t i)
       (omega (arith, f .light))
       (omega (arith, f .soon))
       (omega (arith, f .level))
+      (omega (arith, f .light, known .part i r .within)))
 
   -- the first line
   head-line : isLine (sheetOf t) 0 4 ≡ true
@@ -146,21 +150,21 @@ module _ (t : Table) (accepted : Accepted t) where
     abbrev front : List ℕ
     front = line head ++ joined (rowLine t) (rowsTo k)
 
-    front-long : length front ≡ 33 + 33 * k
+    front-long : length front ≡ 33 + 41 * k
     front-long = omega (arith, length-append (line head) (joined (rowLine t) (rowsTo k)), head-long t, rows-long t k)
 
     whole : sheetOf t ≡ front ++ (line (row (k + 1)) ++ apart .rest)
     unfolding sheetOf rowLine
     whole = ap (λ (l : List ℕ). line head ++ l) (apart .parts) ∙ sym (append-assoc (line head) (joined (rowLine t) (rowsTo k)) (rowLine t (k + 1) ++ apart .rest))
 
-    small : (j : ℕ) → j < 4 → getD (row (k + 1)) j 0 < 100000000
+    small : (j : ℕ) → j < 5 → getD (row (k + 1)) j 0 < 100000000
     small = row-small (k + 1) (record { from = omega arith; upTo = omega arith })
 
-    row-there : isLine (sheetOf t) (33 + 33 * k) 4 ≡ true
-    row-there = rw whole (line-there front (row (k + 1)) (apart .rest) (33 + 33 * k) front-long small)
+    row-there : isLine (sheetOf t) (33 + 41 * k) 5 ≡ true
+    row-there = rw whole (line-there front (row (k + 1)) (apart .rest) (33 + 41 * k) front-long small)
 
-    row-number : (j : ℕ) → j < 4 → numberAt (sheetOf t) (33 + 33 * k) (j + 1) ≡ getD (row (k + 1)) j 0
-    row-number j l = rw whole (number-there front (row (k + 1)) (apart .rest) (33 + 33 * k) front-long small j l)
+    row-number : (j : ℕ) → j < 5 → numberAt (sheetOf t) (33 + 41 * k) (j + 1) ≡ getD (row (k + 1)) j 0
+    row-number j l = rw whole (number-there front (row (k + 1)) (apart .rest) (33 + 41 * k) front-long small j l)
 
   lines-there : (n : ℕ) → n ≤ t .n → linesOk (sheetOf t) n ≡ true
   lines-there zero h = refl
@@ -169,7 +173,7 @@ module _ (t : Table) (accepted : Accepted t) where
       rw (add-one k) at more
 
   -- a column of the table, read back: j from 0, the row's figure there is the column's
-  column-back : (j : ℕ) (xs : List ℕ) → j < 4 → ((i : ℕ) → getD (row i) j 0 ≡ at xs i) → length xs ≡ 64 → allZero (drop (t .n) xs) ≡ true
+  column-back : (j : ℕ) (xs : List ℕ) → j < 5 → ((i : ℕ) → getD (row i) j 0 ≡ at xs i) → length xs ≡ 64 → allZero (drop (t .n) xs) ≡ true
       → columnOf (sheetOf t) (t .n) (j + 1) ≡ xs
   column-back j xs l same long zeros =
       let c = column-long (sheetOf t) (t .n) (j + 1) in
@@ -184,15 +188,19 @@ module _ (t : Table) (accepted : Accepted t) where
       × (allZero (drop (t .n) (t .work)) ≡ true)
       × (allZero (drop (t .n) (t .deadline)) ≡ true)
       × (allZero (drop (t .n) (t .level)) ≡ true)
+      × (allZero (drop (t .n) (t .promised)) ≡ true)
   unfolding tailOk
   tails =
       let a = allZero (drop (t .n) (t .release)) in
       let b = allZero (drop (t .n) (t .work)) in
       let d = allZero (drop (t .n) (t .deadline)) in
       let l = allZero (drop (t .n) (t .level)) in
-      let e3 = and-left (a && b && d) l (known .tail) in
+      let p = allZero (drop (t .n) (t .promised)) in
+      let e5 = accepted-tail t accepted in
+      let e4 = and-left (a && b && d && l) p e5 in
+      let e3 = and-left (a && b && d) l e4 in
       let e2 = and-left (a && b) d e3 in
-      (and-left a b e2, and-right a b e2, and-right (a && b) d e3, and-right (a && b && d) l (known .tail))
+      (and-left a b e2, and-right a b e2, and-right (a && b) d e3, and-right (a && b && d) l e4, and-right (a && b && d && l) p e5)
 
   -- the table that the sheet states is the table
   table-back : FullTable t → tableIn (sheetOf t) ≡ t
@@ -207,6 +215,7 @@ module _ (t : Table) (accepted : Accepted t) where
         column-back 1 (t .work) (omega arith) (λ i. refl) (f .work) (tails .1),
         column-back 2 (t .deadline) (omega arith) (λ i. refl) (f .deadline) (tails .2),
         column-back 3 (t .level) (omega arith) (λ i. refl) (f .level) (tails .3),
+        column-back 4 (t .promised) (omega arith) (λ i. refl) (f .promised) (tails .4),
       )
 
   -- and no check refuses it
@@ -219,7 +228,7 @@ module _ (t : Table) (accepted : Accepted t) where
         head-number 0 (omega arith),
         le-leb 1 (t .n) (known .some),
         le-leb (t .n) 64 (known .few),
-        eq-eqb (length (sheetOf t)) (33 + 33 * t .n) (sheet-long t),
+        eq-eqb (length (sheetOf t)) (33 + 41 * t .n) (sheet-long t),
         lines-there (t .n) (omega arith),
         table-back f,
       )
@@ -236,7 +245,7 @@ pub table-full : (bytes : List ℕ) → FullTable (tableIn bytes)
 unfolding tableIn
 table-full bytes =
     let n = numberAt bytes 0 1 in
-    record { release = column-long bytes n 1; work = column-long bytes n 2; deadline = column-long bytes n 3; level = column-long bytes n 4 }
+    record { release = column-long bytes n 1; work = column-long bytes n 2; deadline = column-long bytes n 3; level = column-long bytes n 4; promised = column-long bytes n 5 }
 
 -- It is the sheet of the table that it states: reading and writing gives the same bytes (rule 15.7).
 pub sheet-back : (bytes : List ℕ) → checkSheet bytes ≡ Passed → sheetOf (tableIn bytes) ≡ bytes

@@ -1,36 +1,33 @@
 -- What a trial finds in an accepted table, with the columns that `sorted`, `needs` and `degraded_caps` make of it.
-use Prim.Native.Nat.{ℕ, zero, suc, _+_, _-_, _≤_, max}
+use Prim.Native.Nat.{ℕ, zero, suc, _+_, _-_, _≤_}
 use mathlib.Core.Bool.{Bool, true, _&&_}
 use mathlib.Core.Path.{_≡_, refl, sym, ap, ap₂, subst, _∙_}
-use mathlib.Core.List.{List, [], _∷_, map}
+use mathlib.Core.List.{List, [], _∷_, _++_, map}
 use native.Mathlib.Omega.{arith}
 use lib.Dec.{eqb}
-use lib.ListN.{getD, take, drop}
+use lib.ListN.{length, getD, take, drop}
 use lib.Seq.{getD-drop}
 use borrow.Author.Tests.{eqb-true}
 use Rattle.rules.specs.declared.Table.{Table}
 use Rattle.rules.specs.Lists.{allZero, keep}
-use Rattle.rules.specs.Rows.{at, rowsOf, releaseOf}
+use Rattle.rules.specs.Rows.{at, put, rowsOf, releaseOf, promiseNeed, isPromised}
+use Rattle.rules.specs.Worst.{promisedMoment}
 use Rattle.rules.specs.Tables.{tailOk, Accepted}
 use Rattle.rules.specs.Choice.{padded}
 use Rattle.theory.specs.Tests.{by-bool, by-ltb, and-left, and-right}
-use Rattle.theory.specs.Counts.{In, Within, Same, in-head, in-tail}
+use Rattle.theory.specs.Counts.{In, Within, Same, in-last}
+use Rattle.theory.specs.Cells.{at-put-same, at-put-other}
+use Rattle.theory.specs.Results.{moment-sweep}
 use Rattle.theory.specs.Sorting.{Sorted, sortBy, sorted-sort, same-sort}
-use Rattle.theory.specs.Sweep.{sweep}
+use Rattle.theory.specs.Sweep.{sweep, sweep-same}
 use Rattle.theory.specs.Caps.{cap, cap-most}
-use Rattle.theory.specs.Facts.{TableFacts, facts, count-zero, rows-in}
+use Rattle.theory.specs.Facts.{Row, TableFacts, facts, accepted-tail, count-zero, rows-in}
 use Rattle.theory.specs.Places.{rows-once}
 use Rattle.sweep.specs.Masks.{isLeft}
 use Rattle.sweep.specs.Holds.{Holds, keep-left, count-keep-le}
-use Rattle.sweep.specs.Padded.{Rows, padded-at, padded-most}
+use Rattle.sweep.specs.Padded.{Rows, padded-at, padded-most, padded-length, rows-length}
 use Rattle.sweep.specs.Sorts.{sorted-take, sorted-rows}
 use Rattle.sweep.specs.Trials.{Columns, trial}
-
--- the sweep looks at the figures of the rows in its list alone
-pub sweep-same : (rel f g : ℕ → ℕ) (a b : ℕ) (l : List ℕ) → ((x : ℕ) → In x l → f x ≡ g x) → sweep rel f a b l ≡ sweep rel g a b l
-sweep-same rel f g a b [] h = refl
-sweep-same rel f g a b (x ∷ l) h =
-    rw (h x (in-head x l), sweep-same rel f g a (max b (rel x) + g x) l (λ y i. h y (in-tail y x l i)))
 
 -- rows in rising order of a key stay so where some are left out
 sorted-from : (key : ℕ → ℕ) (n m : ℕ) (l : List ℕ) → m ≤ n → Sorted key n l → Sorted key m l
@@ -79,7 +76,9 @@ module _ (t : Table) (accepted : Accepted t) where
       let a = allZero (drop (t .n) (t .release)) in
       let b = allZero (drop (t .n) (t .work)) in
       let c = allZero (drop (t .n) (t .deadline)) in
-      and-left a b (and-left (a && b) c (and-left (a && b && c) (allZero (drop (t .n) (t .level))) (f .tail)))
+      let d = allZero (drop (t .n) (t .level)) in
+      let e = allZero (drop (t .n) (t .promised)) in
+      and-left a b (and-left (a && b) c (and-left (a && b && c) d (and-left (a && b && c && d) e (accepted-tail t accepted))))
 
   early : (j : ℕ) → getD (t .release) j 0 ≤ 1000000
   early j =
@@ -119,3 +118,24 @@ module _ (t : Table) (accepted : Accepted t) where
 
       is : (x : ℕ) → In x (rowsOf t) → at (padded (map (cap t s) (rowsOf t))) x ≡ cap t s x
       is x i = let r = rows-in t x i in padded-at (cap t s) (t .n) x (r .from) (r .upTo) (f .few)
+
+  -- What `part_finish` returns with those columns at G and the need of row i's promised part there, where m is the word of the rows down to i: the
+  -- promised moment of row i with the rows of a above it.
+  pub finds-part : (a b : List ℕ) (m i own : ℕ) (queue caps : List ℕ) → Within (a ++ (i ∷ [])) (rowsOf t) → Holds m (a ++ (i ∷ [])) → isPromised t i ≡ true
+      → queue ≡ padded (byRelease t) → caps ≡ padded (map (cap t (t .degraded)) (rowsOf t)) → own ≡ promiseNeed t i
+      → trial (t .release) (put caps i own) m (releaseOf t i) 0 (take (t .n) queue) ≡ promisedMoment t (a ++ (i ∷ b)) i
+  finds-part a b m i own queue caps w h x p q z =
+      ap (λ (l : List ℕ). trial (t .release) (put caps i own) m (releaseOf t i) 0 (take (t .n) l)) p
+      ∙ ap (trial (t .release) (put caps i own) m (releaseOf t i) 0) (sorted-take (releaseOf t) (t .n) (f .few))
+      ∙ sym (moment-sweep t accepted a b i w x (queued t m) (queued-sorted t m) same (λ j. at (put caps i own) j) (at-put-same caps i own wide (r .from) (omega (arith, r .upTo, f .few)) ∙ z)
+      (λ y k n. let v = rows-in t y (omega (arith, same y, w y)) in
+      at-put-other caps i y own (r .from) (v .from) n ∙ ap (λ (l : List ℕ). at l y) q ∙ padded-at (cap t (t .degraded)) (t .n) y (v .from) (v .upTo) (f .few)))
+    where
+      r : Row t i
+      r = rows-in t i (omega (arith, w i, in-last a i))
+
+      same : Same (queued t m) (a ++ (i ∷ []))
+      same = queued-same t m (a ++ (i ∷ [])) h w
+
+      wide : length caps ≡ 64
+      wide = ap length q ∙ padded-length (map (cap t (t .degraded)) (rowsOf t)) (omega (arith, rows-length (cap t (t .degraded)) (t .n), f .few))

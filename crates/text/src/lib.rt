@@ -17,39 +17,39 @@ use rules::Reading;
 use rules::Table;
 
 // The bytes kept of an input: one more than the longest sheet has.
-pub const KEPT: usize = 2146;
+pub const KEPT: usize = 2658;
 
 // The bytes of the longest text: a first line of 17 and 64 lines of 25.
 pub const LONGEST: usize = 1617;
 
-// The line of a place, from 1: the place, its row, and that row's slack in slots. finishes has each row's worst finish.
+// The line of a place, from 1: the place, its row, and that row's slack in slots. clocks has the clock that each row's slack counts from.
 fn put_place(
     out: &mut [u8],
     at: usize,
     t: Table,
     order: [u8; 64],
-    finishes: [u32; 64],
+    clocks: [u32; 64],
     place: u32,
 ) -> usize
-    requires { ⌜ Timed t order finishes × (1 ≤ place) × (place ≤ t .n) × (at + 25 ≤ length (now out)) ⌝ }
+    requires { ⌜ Timed t order clocks × (1 ≤ place) × (place ≤ t .n) × (at + 25 ≤ length (now out)) ⌝ }
     ensures { λ r. ⌜ Wrote (now (out .entry)) at (now (out .exit)) r (placeLine t order place) ⌝ }
 {
     let row = order[(place - 1) as usize];
     let deadline = t.deadline;
     let due = sweep::entry(&deadline, row);
-    let finish = sweep::entry(&finishes, row);
-    fields::put_triple(out, at, place, row as u32, due - finish)
+    let clock = sweep::entry(&clocks, row);
+    fields::put_triple(out, at, place, row as u32, due - clock)
 }
 
 // The lines of all places, highest first.
-fn put_places(out: &mut [u8], at: usize, t: Table, order: [u8; 64], finishes: [u32; 64]) -> usize
-    requires { ⌜ Timed t order finishes × (at + 25 * t .n ≤ length (now out)) ⌝ }
+fn put_places(out: &mut [u8], at: usize, t: Table, order: [u8; 64], clocks: [u32; 64]) -> usize
+    requires { ⌜ Timed t order clocks × (at + 25 * t .n ≤ length (now out)) ⌝ }
     ensures { λ r. ⌜ Wrote (now (out .entry)) at (now (out .exit)) r (joined (placeLine t order) (rowsTo (t .n))) ⌝ }
 {
     let mut next = at;
     let mut k: u32 = 0;
     while k < t.n {
-        next = put_place(out, next, t, order, finishes, k + 1);
+        next = put_place(out, next, t, order, clocks, k + 1);
         k += 1;
     }
     next
@@ -60,9 +60,9 @@ fn put_order(out: &mut [u8], t: Table, order: [u8; 64]) -> usize
     requires { ⌜ Right t order × (1617 ≤ length (now out)) ⌝ }
     ensures { λ r. ⌜ Wrote (now (out .entry)) 0 (now (out .exit)) r (planText t order Planned.Ordered) ⌝ }
 {
-    let finishes = judge::worst_finishes(t, order);
+    let clocks = judge::latest_clocks(t, order);
     let next = fields::put_pair(out, 0, 0, t.n);
-    put_places(out, next, t, order, finishes)
+    put_places(out, next, t, order, clocks)
 }
 
 // The text for an accepted table: its order, or how many rows are left.
@@ -82,7 +82,7 @@ fn put_plan(out: &mut [u8], t: Table) -> usize
 
 // What the bytes kept of an input say.
 fn read_kept(input: &[u8]) -> Reading
-    ensures { λ r. ⌜ r ≡ readOf (take 2146 (now (input .entry))) ⌝ }
+    ensures { λ r. ⌜ r ≡ readOf (take 2658 (now (input .entry))) ⌝ }
 {
     if input.len() <= KEPT {
         return sheet::read(input);

@@ -16,12 +16,12 @@ use Rattle.rules.specs.Correct.{Correct}
 use Rattle.rules.specs.Worst.{meets}
 use Rattle.rules.specs.Choice.{insert, falling, sequence, passes, taker, Choice, fill, choice, padded}
 use Rattle.theory.specs.Tests.{by-bool, by-eqb, by-leb, not-both, and-both}
-use Rattle.theory.specs.Counts.{In, Once, Within, Same, part, last-of, count-append, count-same, count-other, count-erase-same, count-erase-other}
+use Rattle.theory.specs.Counts.{In, Within, Same, part, last-of, count-append, count-same, count-other, count-erase-same, count-erase-other}
 use Rattle.theory.specs.Counts.{erase-last, length-erase, first-in, first-passes, first-none, same-size}
 use Rattle.theory.specs.Facts.{Row, in-rows, rows-in, in-all, count-rows, count-zero, TableFacts}
 use Rattle.theory.specs.Places.{order-rows, rows-once, length-rows, count-zeros}
-use Rattle.theory.specs.Finishes.{clear-within, meets-clear, clear-meets}
-use Rattle.theory.specs.Verdict.{all-meet, correct}
+use Rattle.theory.specs.Finishes.{rows-of}
+use Rattle.theory.specs.Promised.{moved, all-meet, correct}
 
 -- the trial sequence holds the rows
 
@@ -61,21 +61,6 @@ pub record Filling (t : Table) (left placed : List ℕ) : Type 0 where
   pub meet : (i : ℕ) → In i placed → meets t (left ++ placed) i ≡ true
 
 module _ (t : Table) (f : TableFacts t) where
-  -- rows among the table's, each once
-  pub rows-of : (l : List ℕ) → Within l (rowsOf t) → (x : ℕ) → In x l → Row t x
-  rows-of l w x i = rows-in t x (omega (arith, w x))
-
-  pub once-of : (l : List ℕ) → Within l (rowsOf t) → Once l
-  once-of l w x = omega (arith, w x, rows-once (t .n) x)
-
-  -- a row moved: what it met above a list, it meets above another, with no more rows above it
-  pub moved : (a b a' b' : List ℕ) (i : ℕ) → Within (a ++ (i ∷ [])) (rowsOf t) → Within (a' ++ (i ∷ [])) (a ++ (i ∷ [])) → meets t (a ++ (i ∷ b)) i ≡ true
-      → meets t (a' ++ (i ∷ b')) i ≡ true
-  moved a b a' b' i w s m =
-      let w' : Within (a' ++ (i ∷ [])) (rowsOf t) = λ x. omega (arith, w x, s x) in
-      clear-meets t f a' b' i (rows-of (a' ++ (i ∷ [])) w') (once-of (a' ++ (i ∷ [])) w')
-      (clear-within t (a' ++ (i ∷ [])) (a ++ (i ∷ [])) i s (meets-clear t f a b i (rows-of (a ++ (i ∷ [])) w) (once-of (a ++ (i ∷ [])) w) m))
-
   -- row i takes the place
   module _ (left placed : List ℕ) (h : Filling t left placed) (i : ℕ) (j : In i left) (p : passes t left i ≡ true) where
     taken-every : Same (erase i left ++ (i ∷ placed)) (rowsOf t)
@@ -101,7 +86,7 @@ module _ (t : Table) (f : TableFacts t) where
     taken-self : meets t (erase i left ++ (i ∷ placed)) i ≡ true
     unfolding passes
     taken-self =
-        moved (erase i left) [] (erase i left) placed i
+        moved t f (erase i left) [] (erase i left) placed i
         (λ x. omega (arith, taken-every x, count-append x (erase i left) (i ∷ []), count-append x (erase i left) (i ∷ placed), count-append x (i ∷ []) placed))
         (λ x. omega arith) p
 
@@ -114,7 +99,7 @@ module _ (t : Table) (f : TableFacts t) where
         let is : erase i left ++ (i ∷ placed) ≡ erase i left ++ (i ∷ a) ++ (k ∷ b) =
         ap (λ (l : List ℕ). erase i left ++ (i ∷ l)) (d .whole) ∙ sym (append-assoc (erase i left) (i ∷ a) (k ∷ b)) in
         subst (λ (l : List ℕ). meets t l k ≡ true) (sym is)
-        (moved (left ++ a) b (erase i left ++ (i ∷ a)) b k
+        (moved t f (left ++ a) b (erase i left ++ (i ∷ a)) b k
         (λ x. omega (arith, h .every x, ap (count x) was, count-append x (left ++ a) (k ∷ []), count-append x (left ++ a) (k ∷ b), count-append x (k ∷ []) b))
         (λ x. fewer a k x)
         (subst (λ (l : List ℕ). meets t l k ≡ true) was (h .meet k y)))
@@ -219,7 +204,7 @@ module _ (t : Table) (f : TableFacts t) where
         let is : padded l ≡ d .above ++ (i ∷ (d .below ++ rest)) =
         padded-is ∙ ap (λ (k : List ℕ). k ++ rest) (d .whole) ∙ append-assoc (d .above) (i ∷ d .below) rest in
         subst (λ (k : List ℕ). meets t k i ≡ true) (sym is)
-        (moved (d .above) (d .below) (d .above) (d .below ++ rest) i
+        (moved t f (d .above) (d .below) (d .above) (d .below ++ rest) i
         (λ x. omega (
           arith,
           every x,
@@ -273,7 +258,7 @@ module _ (t : Table) (f : TableFacts t) where
     lowest-passes : meets t o k ≡ true → passes t s k ≡ true
     unfolding passes
     lowest-passes m =
-        moved a (b ++ drop (t .n) o) (erase k s) [] k down-to all-above
+        moved t f a (b ++ drop (t .n) o) (erase k s) [] k down-to all-above
         (subst (λ (l : List ℕ). meets t l k ≡ true)
         (sym (take-append-drop (t .n) o) ∙ ap (λ (l : List ℕ). l ++ drop (t .n) o) whole ∙ append-assoc a (k ∷ b) (drop (t .n) o)) m)
 
@@ -284,7 +269,7 @@ module _ (t : Table) (f : TableFacts t) where
       let r = last-of (λ y. leb 1 (count y s)) (take (t .n) o) x (omega (arith, w x, order-rows t o e x)) (le-leb 1 (count x s) i) in
       let j : In (r .row) s = leb-true 1 (count (r .row) s) (r .passing) in
       not-both (passes t s (r .row))
-      (lowest-passes s w o e (r .above) (r .below) (r .row) j (r .whole) (r .after) (all-meet t f o e c (r .row) (rows-of s w (r .row) j)))
+      (lowest-passes s w o e (r .above) (r .below) (r .row) j (r .whole) (r .after) (all-meet t f o e c (r .row) (rows-of t s w (r .row) j)))
       (stuck (r .row) j)
 
   -- the choice leaves a row: no order is correct

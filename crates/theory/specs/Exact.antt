@@ -66,7 +66,7 @@ module _ (t : Table) (f : TableFacts t) (a b : List ℕ) (rows : (x : ℕ) → I
           let works = f .row x r .works in
           by-brought (t .loading) (y .used) s s
           (λ b w z. absurd (omega (arith, b, e, p, works, w)))
-          (λ b q z. cap-done t s x (f .runs) s1 sn (suc (y .used)) (omega arith) (rw one (omega (arith, b, z, e, p))))
+          (λ b q z. cap-done t s x (f .runs) s1 (suc (y .used)) (omega arith) (rw one (omega (arith, b, z, e, p))))
       spent y e (inr p) = cap-dropped t s x (suc (y .used)) (p .0) (p .1)
 
   left-slot : (u : ℕ) → sum (leftAt (suc u)) a ≡ sum (leftAt u) a + sum (bring t s u) a - 1

@@ -1,19 +1,19 @@
 -- What an accepted table and a checked order say, as facts.
 use Prim.Native.Nat.{ℕ, zero, suc, _≤_, _<_}
-use mathlib.Core.Bool.{Bool, true, _&&_}
+use mathlib.Core.Bool.{Bool, true, _&&_, _||_}
 use mathlib.Core.Path.{_≡_, refl}
 use mathlib.Core.List.{List, [], _∷_}
 use native.Mathlib.Omega.{arith}
-use lib.Dec.{ltb, leb}
-use borrow.Author.Tests.{leb-true, ltb-true, lt-ltb, le-leb}
+use lib.Dec.{eqb, ltb, leb}
+use borrow.Author.Tests.{leb-true, ltb-true, eqb-true, lt-ltb, le-leb}
 use Rattle.rules.specs.declared.Table.{Table}
 use Rattle.rules.specs.declared.Refusal.{Refusal}
 use Rattle.rules.specs.declared.Check.{Check}
 use Rattle.rules.specs.declared.Check.the-variants.{Passed, Refused}
 use Rattle.rules.specs.Lists.{all, rowsTo, count}
-use Rattle.rules.specs.Rows.{at, isRow, rowsOf, releaseOf, workOf, deadlineOf}
+use Rattle.rules.specs.Rows.{at, isRow, rowsOf, releaseOf, workOf, deadlineOf, promisedOf, isLow}
 use Rattle.rules.specs.Orders.{isOrder, checkOrder, andThen, checkBoth}
-use Rattle.rules.specs.Tables.{countOk, speedsOk, loadingOk, rowOk, tailOk, checkTable, Accepted}
+use Rattle.rules.specs.Tables.{countOk, speedsOk, loadingOk, rowOk, promiseOk, tailOk, checkTable, Accepted}
 use Rattle.theory.specs.Tests.{by-bool, by-eqb, by-leb, and-left, and-right, and-both}
 use Rattle.theory.specs.Counts.{In, count-append, count-other, in-head, in-tail}
 
@@ -100,6 +100,22 @@ row-facts t i e =
     d3 : a && b && c ≡ true
     d3 = and-left (a && b && c) d d4
 
+-- the promised part, in work units
+pub record PartFacts (t : Table) (i : ℕ) : Type 0 where
+  pub within : promisedOf t i ≤ workOf t i
+  pub low : 1 ≤ promisedOf t i → isLow t i ≡ true
+
+part-facts : (t : Table) (i : ℕ) → promiseOk t i ≡ true → PartFacts t i
+unfolding promiseOk
+part-facts t i e =
+    record {
+      within = leb-true (promisedOf t i) (workOf t i) (and-left (leb (promisedOf t i) (workOf t i)) (isLow t i || eqb (promisedOf t i) 0) e);
+      low = λ h. by-bool (isLow t i) (λ l. l) (λ l. absurd (omega (
+        arith,
+        eqb-true (promisedOf t i) 0 (rw l at (and-right (leb (promisedOf t i) (workOf t i)) (isLow t i || eqb (promisedOf t i) 0) e)),
+      )));
+    }
+
 -- speeds in work units per slot, loading in slots
 pub record TableFacts (t : Table) : Type 0 where
   pub some : 1 ≤ t .n
@@ -110,7 +126,7 @@ pub record TableFacts (t : Table) : Type 0 where
   pub slower : t .degraded ≤ t .normal
   pub loads : t .loading ≤ 16
   pub row : (i : ℕ) → Row t i → RowFacts t i
-  pub tail : tailOk t ≡ true
+  pub part : (i : ℕ) → Row t i → PartFacts t i
 
 -- a refusal is not a check that passed
 pub clash : {A : Type 0} {r : Refusal} → Refused r ≡ Passed → A
@@ -123,7 +139,8 @@ facts t h =
     (λ e1. by-bool (speedsOk (t .normal) (t .degraded))
     (λ e2. by-bool (loadingOk (t .loading))
     (λ e4. by-bool (all (rowOk t) (rowsOf t) && tailOk t)
-    (λ e3. record {
+    (λ e3. by-bool (all (promiseOk t) (rowsOf t))
+    (λ e5. record {
       some = leb-true 1 (t .n) (and-left (leb 1 (t .n)) (leb (t .n) 64) e1);
       few = leb-true (t .n) 64 (and-right (leb 1 (t .n)) (leb (t .n) 64) e1);
       runs = leb-true 1 (t .normal) (and-left p q (and-left (p && q) r (and-left (p && q && r) s e2)));
@@ -132,8 +149,9 @@ facts t h =
       slower = leb-true (t .degraded) (t .normal) (and-right (p && q && r) s e2);
       loads = leb-true (t .loading) 16 e4;
       row = λ i k. row-facts t i (all-in (rowOk t) (rowsOf t) (and-left (all (rowOk t) (rowsOf t)) (tailOk t) e3) i (in-rows t i k));
-      tail = and-right (all (rowOk t) (rowsOf t)) (tailOk t) e3;
+      part = λ i k. part-facts t i (all-in (promiseOk t) (rowsOf t) e5 i (in-rows t i k));
     })
+    (λ e5. clash (rw (e1, e2, e4, e3, e5) at h)))
     (λ e3. clash (rw (e1, e2, e4, e3) at h)))
     (λ e4. clash (rw (e1, e2, e4) at h)))
     (λ e2. clash (rw (e1, e2) at h)))
@@ -150,6 +168,20 @@ facts t h =
 
     s : Bool
     s = leb (t .degraded) (t .normal)
+
+-- and no figure stands after its last row
+pub accepted-tail : (t : Table) → Accepted t → tailOk t ≡ true
+unfolding checkTable
+accepted-tail t h =
+    by-bool (all (rowOk t) (rowsOf t) && tailOk t)
+    (λ e. and-right (all (rowOk t) (rowsOf t)) (tailOk t) e)
+    (λ e. by-bool (countOk (t .n))
+    (λ e1. by-bool (speedsOk (t .normal) (t .degraded))
+    (λ e2. by-bool (loadingOk (t .loading))
+    (λ e4. clash (rw (e1, e2, e4, e) at h))
+    (λ e4. clash (rw (e1, e2, e4) at h)))
+    (λ e2. clash (rw (e1, e2) at h)))
+    (λ e1. clash (rw e1 at h)))
 
 -- a table and an order that pass the checks of the table and 6
 pub both-pass : (t : Table) (o : List ℕ) → Accepted t → isOrder t o ≡ true → checkBoth t o ≡ Passed

@@ -1,23 +1,25 @@
 -- The worst finish of a row is the finish of the set of rows down to it.
 use Prim.Native.Nat.{ℕ, _+_, _≤_, _<_, min}
-use mathlib.Core.Bool.{true}
+use mathlib.Core.Bool.{Bool, true}
 use mathlib.Core.Path.{_≡_, subst}
 use mathlib.Core.List.{List, [], _∷_, _++_, append-assoc}
 use native.Mathlib.Omega.{arith}
+use lib.Dec.{leb}
 use borrow.Author.Tests.{leb-true, le-leb}
 use Rattle.rules.specs.declared.Table.{Table}
 use Rattle.rules.specs.Lists.{count, sum, greatest, least}
 use Rattle.rules.specs.Rows.{at, rowsOf, releaseOf, deadlineOf, needFor, isLow}
 use Rattle.rules.specs.Slots.{after}
 use Rattle.rules.specs.Correct.{earliest}
-use Rattle.rules.specs.Worst.{worstSpeed, horizon, worstFinish, meets}
+use Rattle.rules.specs.Worst.{worstSpeed, horizon, worstFinish}
 use Rattle.theory.specs.Tests.{by-bool, by-leb, by-eqb}
 use Rattle.theory.specs.Counts.{In, Once, Within, Same, in-last, sum-within, sum-le}
 use Rattle.theory.specs.Backlog.{backlog, arrivals, Finish, finish-first, finish-only, finish-set, arrivals-within}
 use Rattle.theory.specs.Sorting.{Sorted}
 use Rattle.theory.specs.Sweep.{sweep, sweep-finish, Ends, ends}
 use Rattle.theory.specs.Caps.{cap, cap-positive, cap-need}
-use Rattle.theory.specs.Facts.{Row, in-rows, TableFacts}
+use Rattle.theory.specs.Facts.{Row, in-rows, rows-in, TableFacts}
+use Rattle.theory.specs.Places.{rows-once}
 use Rattle.theory.specs.Exact.{closes-at}
 
 pub greatest-of : (f : ℕ → ℕ) (l : List ℕ) (x : ℕ) → In x l → f x ≤ greatest f l
@@ -35,10 +37,21 @@ least-of f b (y ∷ l) x i =
     (λ e q. rw q (omega (arith, least-start f (min b (f y)) l)))
     (λ e q. least-of f (min b (f y)) l x (rw e at i))
 
+-- rows among the table's, each once
+pub rows-of : (t : Table) (l : List ℕ) → Within l (rowsOf t) → (x : ℕ) → In x l → Row t x
+rows-of t l w x i = rows-in t x (omega (arith, w x))
+
+pub once-of : (t : Table) (l : List ℕ) → Within l (rowsOf t) → Once l
+once-of t l w x = omega (arith, w x, rows-once (t .n) x)
+
 -- no release is before the earliest
 pub earliest-first : (t : Table) (i : ℕ) → Row t i → earliest t ≤ releaseOf t i
 unfolding earliest
 earliest-first t i r = least-of (releaseOf t) (releaseOf t 1) (rowsOf t) i (in-rows t i r)
+
+-- row i's worst finish is not after its deadline
+abbrev pub onTime : Table → List ℕ → ℕ → Bool
+onTime t o i = leb (worstFinish t o i) (deadlineOf t i)
 
 -- at a clock after row i's release and by its deadline, nothing is left of the rows of l at i's worst speed
 pub record Clear (t : Table) (l : List ℕ) (i : ℕ) : Type 0 where
@@ -71,7 +84,7 @@ module _ (t : Table) (f : TableFacts t) where
       omega (
         arith,
         sum-within (cap t s) l (rowsOf t) (within-rows l rows once),
-        sum-le (cap t s) (needFor t s) (rowsOf t) (λ x i. cap-need t s x (f .runs) s1 sn),
+        sum-le (cap t s) (needFor t s) (rowsOf t) (λ x i. cap-need t s x (f .runs) s1),
       )
 
   module _ (a b : List ℕ) (i : ℕ) (rows : (x : ℕ) → In x (a ++ (i ∷ [])) → Row t x) (once : Once (a ++ (i ∷ []))) where
@@ -118,15 +131,13 @@ module _ (t : Table) (f : TableFacts t) where
         (sweep-finish (releaseOf t) (cap t (worstSpeed t i)) l sorted i (omega (arith, same i, (in-last a i))) own-cap))
 
   module _ (a b : List ℕ) (i : ℕ) (rows : (x : ℕ) → In x (a ++ (i ∷ [])) → Row t x) (once : Once (a ++ (i ∷ []))) where
-    pub meets-clear : meets t (a ++ (i ∷ b)) i ≡ true → Clear t (a ++ (i ∷ [])) i
-    unfolding meets
-    meets-clear e =
+    pub time-clear : onTime t (a ++ (i ∷ b)) i ≡ true → Clear t (a ++ (i ∷ [])) i
+    time-clear e =
         let w = worst-finish a b i rows once in
         record { at = worstFinish t (a ++ (i ∷ b)) i; after = w .after; by = leb-true (worstFinish t (a ++ (i ∷ b)) i) (deadlineOf t i) e; clear = w .clear }
 
-    pub clear-meets : Clear t (a ++ (i ∷ [])) i → meets t (a ++ (i ∷ b)) i ≡ true
-    unfolding meets
-    clear-meets c =
+    pub clear-time : Clear t (a ++ (i ∷ [])) i → onTime t (a ++ (i ∷ b)) i ≡ true
+    clear-time c =
         le-leb (worstFinish t (a ++ (i ∷ b)) i) (deadlineOf t i)
         (omega (
           arith,
@@ -134,3 +145,20 @@ module _ (t : Table) (f : TableFacts t) where
           finish-first (workDownTo a b i rows once) (releaseOf t i) (worstFinish t (a ++ (i ∷ b)) i) (c .at)
               (worst-finish a b i rows once) (c .after) (c .clear),
         ))
+
+  -- a row moved: what it met above a list, it meets above another, with no more rows above it
+  pub time-moved : (a b a' b' : List ℕ) (i : ℕ) → Within (a ++ (i ∷ [])) (rowsOf t) → Within (a' ++ (i ∷ [])) (a ++ (i ∷ []))
+      → onTime t (a ++ (i ∷ b)) i ≡ true → onTime t (a' ++ (i ∷ b')) i ≡ true
+  time-moved a b a' b' i w s m =
+      let w' : Within (a' ++ (i ∷ [])) (rowsOf t) = λ x. omega (arith, w x, s x) in
+      clear-time a' b' i (rows-of t (a' ++ (i ∷ [])) w') (once-of t (a' ++ (i ∷ [])) w')
+      (clear-within t (a' ++ (i ∷ [])) (a ++ (i ∷ [])) i s (time-clear a b i (rows-of t (a ++ (i ∷ [])) w) (once-of t (a ++ (i ∷ [])) w) m))
+
+  -- the worst finish depends on which rows stand above, and not on their order or on the rows below
+  pub finish-set-only : (a b c d : List ℕ) (i : ℕ) → Within (a ++ (i ∷ [])) (rowsOf t) → Within (c ++ (i ∷ [])) (rowsOf t)
+      → Same (a ++ (i ∷ [])) (c ++ (i ∷ [])) → worstFinish t (a ++ (i ∷ b)) i ≡ worstFinish t (c ++ (i ∷ d)) i
+  finish-set-only a b c d i w v both =
+      let p = worst-finish a b i (rows-of t (a ++ (i ∷ [])) w) (once-of t (a ++ (i ∷ [])) w) in
+      let q = worst-finish c d i (rows-of t (c ++ (i ∷ [])) v) (once-of t (c ++ (i ∷ [])) v) in
+      finish-only _ (releaseOf t i) (worstFinish t (a ++ (i ∷ b)) i) (worstFinish t (c ++ (i ∷ d)) i)
+      (finish-set (releaseOf t) (cap t (worstSpeed t i)) (a ++ (i ∷ [])) (c ++ (i ∷ [])) both (releaseOf t i) (worstFinish t (a ++ (i ∷ b)) i) p) q

@@ -1,4 +1,5 @@
 pub mod Tests
+pub mod Agree
 pub mod Signed
 pub mod Counts
 pub mod Sorting
@@ -17,12 +18,13 @@ pub mod Sustain
 pub mod Exact
 pub mod Places
 pub mod Finishes
+pub mod Part
 pub mod Verdict
+pub mod Promised
 pub mod Choosing
 pub mod Speeds
 pub mod Runs
 pub mod Results
-pub mod Agree
 pub mod Lost
 pub mod Seven
 pub mod Serving

@@ -2,42 +2,43 @@
 -- Lists of rows are compared by how often each row stands in them (Counts): `In x l`, row x stands in l; `Within a b`, what stands in a
 -- stands in b; `Same a b`, the two hold the same rows. A list that is within the table's rows holds each row at most once.
 use Prim.Native.Nat.{ℕ, _+_, _-_, _≤_, _<_}
-use mathlib.Core.Bool.{true, false}
-use mathlib.Core.Path.{_≡_, sym, subst}
+use mathlib.Core.Bool.{true, false, true≢false}
+use mathlib.Core.Path.{_≡_, refl, sym, subst, _∙_}
 use mathlib.Core.List.{List, [], _∷_, _++_}
 use mathlib.Core.Logic.{_↔_, _⊎_}
 use native.Mathlib.Omega.{arith}
-use lib.IntN.{pos}
+use lib.IntN.{ℤ, pos, negsuc, natAbs}
 use lib.Signed.{ltZ}
-use borrow.Author.Tests.{leb-true}
 use Rattle.rules.specs.declared.Sought.{Sought}
 use Rattle.rules.specs.declared.Table.{Table}
 use Rattle.rules.specs.Lists.{sum, greatest, erase}
-use Rattle.rules.specs.Rows.{at, isRow, isLow, isHigh, rowsOf, releaseOf, workOf, deadlineOf}
+use Rattle.rules.specs.Rows.{at, isRow, isLow, isHigh, isPromised, rowsOf, releaseOf, workOf, deadlineOf, promisedOf, promiseNeed, needFor}
 use Rattle.rules.specs.Tables.{Accepted}
 use Rattle.rules.specs.Orders.{isOrder}
 use Rattle.rules.specs.Slots.{State, allowance, after}
 use Rattle.rules.specs.Correct.{KeptIn, Correct, CorrectOrder, earliest, Window}
 use Rattle.rules.specs.Running.{runAfter, RunServes}
-use Rattle.rules.specs.Worst.{worstSpeed, horizon, worstFinish, slack, meets}
+use Rattle.rules.specs.Worst.{worstSpeed, horizon, worstFinish, promisedMoment, slack}
 use Rattle.rules.specs.Choice.{passes, choice, padded}
 use Rattle.rules.specs.Speeds.{withSpeeds, atSpeed, slowest, fastest, InRange, LeastSpeed}
-use Rattle.theory.specs.Tests.{not-is}
-use Rattle.theory.specs.Counts.{In, Within, Same, in-head, in-tail, erase-last, count-append, sum-within, sum-most}
-use Rattle.theory.specs.Backlog.{finish-set, finish-only}
+use Rattle.theory.specs.Tests.{by-bool, not-is}
+use Rattle.theory.specs.Counts.{In, Within, Same, in-head, in-tail, in-last, erase-last, count-append, sum-within, sum-most}
 use Rattle.theory.specs.Sorting.{Sorted}
 use Rattle.theory.specs.Sweep.{sweep}
-use Rattle.theory.specs.Caps.{cap, cap-most}
+use Rattle.theory.specs.Caps.{cap, cap-most, slots-most}
 use Rattle.theory.specs.Cells.{cellAt}
 use Rattle.theory.specs.Ends.{running, running-is}
 use Rattle.theory.specs.Facts.{Row, TableFacts, row-is, is-row, rows-in, facts}
 use Rattle.theory.specs.Runs.{Timely, timely, high-done, dropped, one-run}
 use Rattle.theory.specs.Places.{placed, length-rows}
-use Rattle.theory.specs.Finishes.{worst-runs, worst-slower, worst-finish, worst-bound, within-rows}
+use Rattle.theory.specs.Finishes.{rows-of, once-of, worst-runs, worst-slower, worst-bound, within-rows}
 use Rattle.theory.specs.Finishes as Finishes
-use Rattle.theory.specs.Verdict.{Finished, finished, slack-difference, less-left, slack-meets, meets-slack, kept-by, kept, all-meet, correct}
-use Rattle.theory.specs.Speeds.{accepted-speeds, finish-falls, correct-faster, correct-at, least-parts}
-use Rattle.theory.specs.Choosing.{rows-of, once-of, moved, choice-filled, no-order}
+use Rattle.theory.specs.Verdict.{Finished, finished, less-left, kept-by, kept}
+use Rattle.theory.specs.Part.{partTable}
+use Rattle.theory.specs.Promised.{latest, slack-is, slack-meets, meets-slack, latest-by, part-of, moved, meets-kept, meets-promise, all-meet, correct}
+use Rattle.theory.specs.Promised as Promises
+use Rattle.theory.specs.Speeds.{accepted-speeds, finish-falls, moment-falls, latest-falls, correct-faster, correct-at, least-parts}
+use Rattle.theory.specs.Choosing.{choice-filled, no-order}
 use Rattle.theory.specs.Choosing as Choosing
 
 -- row i is LO and dropped in this state: with its allowance used up, at its deadline or before, or with slots left, at its deadline (rule 19.9)
@@ -54,11 +55,27 @@ module _ (t : Table) (accepted : Accepted t) where
   pub set-only : (a b c d : List ℕ) (i : ℕ) → Within (a ++ (i ∷ [])) (rowsOf t) → Same a c → worstFinish t (a ++ (i ∷ b)) i ≡ worstFinish t (c ++ (i ∷ d)) i
   set-only a b c d i w s =
       let both : Same (a ++ (i ∷ [])) (c ++ (i ∷ [])) = λ x. omega (arith, s x, count-append x a (i ∷ []), count-append x c (i ∷ [])) in
-      let v : Within (c ++ (i ∷ [])) (rowsOf t) = λ x. omega (arith, w x, both x) in
-      let p = worst-finish t f a b i (rows-of t f (a ++ (i ∷ [])) w) (once-of t f (a ++ (i ∷ [])) w) in
-      let q = worst-finish t f c d i (rows-of t f (c ++ (i ∷ [])) v) (once-of t f (c ++ (i ∷ [])) v) in
-      finish-only _ (releaseOf t i) (worstFinish t (a ++ (i ∷ b)) i) (worstFinish t (c ++ (i ∷ d)) i)
-      (finish-set (releaseOf t) (cap t (worstSpeed t i)) (a ++ (i ∷ [])) (c ++ (i ∷ [])) both (releaseOf t i) (worstFinish t (a ++ (i ∷ b)) i) p) q
+      Finishes.finish-set-only t f a b c d i w (λ x. omega (arith, w x, both x)) both
+
+  -- So does its promised moment, and so its slack.
+  pub set-only-moment : (a b c d : List ℕ) (i : ℕ) → Within (a ++ (i ∷ [])) (rowsOf t) → Same a c → isPromised t i ≡ true
+      → promisedMoment t (a ++ (i ∷ b)) i ≡ promisedMoment t (c ++ (i ∷ d)) i
+  set-only-moment a b c d i w s x =
+      let both : Same (a ++ (i ∷ [])) (c ++ (i ∷ [])) = λ y. omega (arith, s y, count-append y a (i ∷ []), count-append y c (i ∷ [])) in
+      let v : Within (c ++ (i ∷ [])) (rowsOf t) = λ y. omega (arith, w y, both y) in
+      let promise = part-of t i x in
+      let r = rows-of t (a ++ (i ∷ [])) w i (in-last a i) in
+      let g = Promises.part-known t f i r promise in
+      Promises.moment-is t f i r promise a b (rows-of t (a ++ (i ∷ [])) w) (once-of t (a ++ (i ∷ [])) w)
+      ∙ Finishes.finish-set-only (partTable t i) g a b c d i w v both
+      ∙ sym (Promises.moment-is t f i r promise c d (rows-of t (c ++ (i ∷ [])) v) (once-of t (c ++ (i ∷ [])) v))
+
+  pub set-only-slack : (a b c d : List ℕ) (i : ℕ) → Within (a ++ (i ∷ [])) (rowsOf t) → Same a c → slack t (a ++ (i ∷ b)) i ≡ slack t (c ++ (i ∷ d)) i
+  unfolding slack
+  set-only-slack a b c d i w s =
+      by-bool (isPromised t i)
+      (λ e. rw (e, set-only a b c d i w s, set-only-moment a b c d i w s e))
+      (λ e. rw (e, set-only a b c d i w s))
 
   module _ (o : List ℕ) (order : isOrder t o ≡ true) where
     -- 2. SUSTAINABILITY. A row whose slack is not below zero has kept its deadline at every clock from d on, if every slot from the
@@ -66,18 +83,18 @@ module _ (t : Table) (accepted : Accepted t) where
     pub sustainable : (i : ℕ) → isRow t i ≡ true → ltZ (slack t o i) (pos 0) ≡ false → (σ : ℕ → ℕ) → Window t σ i (t .normal)
         → (k : ℕ) → deadlineOf t i ≤ k → KeptIn t (after t o σ k) i
     sustainable i r s σ w k q =
-        kept t f o order i (row-is t i r) (slack-meets t o i s) σ (λ u p l. omega (arith, w u p l, worst-slower t f i)) k (omega arith)
+        kept t f o order i (row-is t i r) (meets-kept t f o order i (row-is t i r) (slack-meets t o i s)) σ (λ u p l. omega (arith, w u p l, worst-slower t f i)) k (omega arith)
 
     -- The same for a HI row, if those slots supplied at least G.
     pub sustainable-degraded : (i : ℕ) → isRow t i ≡ true → isHigh t i ≡ true → ltZ (slack t o i) (pos 0) ≡ false → (σ : ℕ → ℕ) → Window t σ i (t .degraded)
         → (k : ℕ) → deadlineOf t i ≤ k → KeptIn t (after t o σ k) i
     sustainable-degraded i r h s σ w k q =
-        kept t f o order i (row-is t i r) (slack-meets t o i s) σ (λ u p l. rw (not-is (isLow t i) h) (w u p l)) k (omega arith)
+        kept t f o order i (row-is t i r) (meets-kept t f o order i (row-is t i r) (slack-meets t o i s)) σ (λ u p l. rw (not-is (isLow t i) h) (w u p l)) k (omega arith)
 
     -- The same for any row at its own worst speed, N for LO and G for HI.
     pub sustainable-worst : (i : ℕ) → isRow t i ≡ true → ltZ (slack t o i) (pos 0) ≡ false → (σ : ℕ → ℕ) → Window t σ i (worstSpeed t i)
         → (k : ℕ) → deadlineOf t i ≤ k → KeptIn t (after t o σ k) i
-    sustainable-worst i r s σ w k q = kept t f o order i (row-is t i r) (slack-meets t o i s) σ w k (omega arith)
+    sustainable-worst i r s σ w k q = kept t f o order i (row-is t i r) (meets-kept t f o order i (row-is t i r) (slack-meets t o i s)) σ w k (omega arith)
 
     -- 3. VERDICT. An order is correct, over all courses of speed, exactly if no row's slack is below zero.
     pub verdict : Correct t o ↔ ((i : ℕ) → isRow t i ≡ true → ltZ (slack t o i) (pos 0) ≡ false)
@@ -86,10 +103,13 @@ module _ (t : Table) (accepted : Accepted t) where
       λ h. correct t f o order (λ i r. slack-meets t o i (h i (is-row t i r))),
     )
 
-    -- A slack that is not below zero is the difference of deadline and worst finish as natural numbers.
-    pub natural-slack : (i : ℕ) → ltZ (slack t o i) (pos 0) ≡ false → pos (deadlineOf t i - worstFinish t o i) ≡ slack t o i
-    unfolding meets
-    natural-slack i s = slack-difference t o i (leb-true (worstFinish t o i) (deadlineOf t i) (slack-meets t o i s))
+    -- A slack that is not below zero is a natural number.
+    pub natural-slack : (i : ℕ) → ltZ (slack t o i) (pos 0) ≡ false → pos (natAbs (slack t o i)) ≡ slack t o i
+    natural-slack i s = go (slack t o i) s
+      where
+        go : (z : ℤ) → ltZ z (pos 0) ≡ false → pos (natAbs z) ≡ z
+        go (pos v) e = refl
+        go (negsuc v) e = absurd (true≢false e)
 
     -- A worst run may last as long as it likes: at every clock from the horizon on, the row is closed at its worst finish, which is at
     -- least 1 slot, and has got all its work.
@@ -100,7 +120,15 @@ module _ (t : Table) (accepted : Accepted t) where
   -- release on, and the pass stops at a row released after i that finds the processor free.
   pub worst-sweep : (a b : List ℕ) (i : ℕ) → Within (a ++ (i ∷ [])) (rowsOf t) → (l : List ℕ) → Sorted (releaseOf t) 0 l → Same l (a ++ (i ∷ []))
       → worstFinish t (a ++ (i ∷ b)) i ≡ sweep (releaseOf t) (cap t (worstSpeed t i)) (releaseOf t i) 0 l
-  worst-sweep a b i w l s p = Finishes.worst-sweep t f a b i (rows-of t f (a ++ (i ∷ [])) w) (once-of t f (a ++ (i ∷ [])) w) l s p
+  worst-sweep a b i w l s p = Finishes.worst-sweep t f a b i (rows-of t (a ++ (i ∷ [])) w) (once-of t (a ++ (i ∷ [])) w) l s p
+
+  -- The promised moment is found by such a pass with the caps at G, but for i its need of the promised part there.
+  pub moment-sweep : (a b : List ℕ) (i : ℕ) → Within (a ++ (i ∷ [])) (rowsOf t) → isPromised t i ≡ true → (l : List ℕ) → Sorted (releaseOf t) 0 l
+      → Same l (a ++ (i ∷ [])) → (c : ℕ → ℕ) → c i ≡ promiseNeed t i → ((x : ℕ) → In x l → (x ≡ i → ⊥) → c x ≡ cap t (t .degraded) x)
+      → promisedMoment t (a ++ (i ∷ b)) i ≡ sweep (releaseOf t) c (releaseOf t i) 0 l
+  moment-sweep a b i w x l s p c own other =
+      let rows = rows-of t (a ++ (i ∷ [])) w in
+      Promises.moment-sweep t f i (rows i (in-last a i)) (part-of t i x) a b rows (once-of t (a ++ (i ∷ [])) w) l s p c own other
 
   -- 5. ANTITONE. A row that passes lowest in a set passes lowest in every subset that holds it.
   pub antitone : (s r : List ℕ) (i : ℕ) → Within s (rowsOf t) → Within r s → In i r → passes t s i ≡ true → passes t r i ≡ true
@@ -134,6 +162,12 @@ module _ (t : Table) (accepted : Accepted t) where
       → isOrder t o ≡ true → Correct t o → ⊥
   stuck-none = no-order t f
 
+  latest-release : (l : List ℕ) → ((x : ℕ) → In x l → Row t x) → greatest (releaseOf t) l ≤ 1000000
+  latest-release [] r = omega arith
+  latest-release (x ∷ l) r =
+      let g = f .row x (r x (in-head x l)) in
+      omega (arith, g .before, g .soon, latest-release l (λ y i. r y (in-tail y x l i)))
+
   -- 7. BOUNDS. What a sweep adds, the latest release (1,000,000 slots) and every row's cap (64 times 1,000,016 slots), is at most
   -- 65,001,024 slots.
   pub sum-bound : (s : ℕ) → 1 ≤ s → (l : List ℕ) → Within l (rowsOf t) → greatest (releaseOf t) (rowsOf t) + sum (cap t s) l ≤ 65001024
@@ -142,23 +176,17 @@ module _ (t : Table) (accepted : Accepted t) where
         arith,
         sum-within (cap t s) l (rowsOf t) w,
         sum-most (cap t s) 1000016 (rowsOf t) (λ x i. omega (arith, cap-most t s x (f .runs) s1, f .loads, f .row x (rows-in t x i) .light)),
-        latest (rowsOf t) (λ x i. rows-in t x i),
+        latest-release (rowsOf t) (λ x i. rows-in t x i),
         length-rows (t .n),
         f .few,
       )
-    where
-      latest : (l : List ℕ) → ((x : ℕ) → In x l → Row t x) → greatest (releaseOf t) l ≤ 1000000
-      latest [] r = omega arith
-      latest (x ∷ l) r =
-          let g = f .row x (r x (in-head x l)) in
-          omega (arith, g .before, g .soon, latest l (λ y i. r y (in-tail y x l i)))
 
   -- A worst finish is at most 65,001,024 slots.
   pub finish-bound : (a b : List ℕ) (i : ℕ) → Within (a ++ (i ∷ [])) (rowsOf t) → worstFinish t (a ++ (i ∷ b)) i ≤ 65001024
   finish-bound a b i w =
       omega (
         arith,
-        worst-bound t f a b i (rows-of t f (a ++ (i ∷ [])) w) (once-of t f (a ++ (i ∷ [])) w),
+        worst-bound t f a b i (rows-of t (a ++ (i ∷ [])) w) (once-of t (a ++ (i ∷ [])) w),
         sum-bound (worstSpeed t i) (worst-runs t f i) (a ++ (i ∷ [])) w,
       )
 
@@ -168,6 +196,31 @@ module _ (t : Table) (accepted : Accepted t) where
       let p = placed t o e i (row-is t i r) in
       subst (λ (l : List ℕ). worstFinish t l i ≤ 65001024) (sym (p .whole))
       (finish-bound (p .above) (p .below) i (within-rows t f (p .above ++ (i ∷ [])) (p .rows) (p .once)))
+
+  -- The run at exactly G, in which promised moments are looked for, is as short.
+  pub horizon-bound : (s : ℕ) → 1 ≤ s → horizon t s ≤ 65001024
+  unfolding horizon
+  horizon-bound s s1 =
+      omega (
+        arith,
+        sum-most (needFor t s) 1000016 (rowsOf t)
+            (λ x i. omega (arith, slots-most (workOf t x) s s1, f .loads, f .row x (rows-in t x i) .light)),
+        latest-release (rowsOf t) (λ x i. rows-in t x i),
+        length-rows (t .n),
+        f .few,
+      )
+
+  -- So the clock from which a slack is counted is at most 65,001,024 slots.
+  pub latest-bound : (o : List ℕ) → isOrder t o ≡ true → (i : ℕ) → isRow t i ≡ true → latest t o i ≤ 65001024
+  latest-bound o e i r =
+      latest-by t o i 65001024 (order-bound o e i r)
+      (λ x. let p = placed t o e i (row-is t i r) in
+      subst (λ (l : List ℕ). promisedMoment t l i ≤ 65001024) (sym (p .whole))
+      (omega (
+        arith,
+        Promises.moment-bound t f i (row-is t i r) (part-of t i x) (p .above) (p .below) (p .rows) (p .once),
+        horizon-bound (t .degraded) (f .crawls),
+      )))
 
   -- 8. SPEEDS. An order that is correct, over all courses of speed, stays correct at a larger G, a larger N, or both, within their limits.
   pub larger-speeds : (o : List ℕ) → isOrder t o ≡ true → Correct t o → (n g : ℕ) → t .normal ≤ n → n ≤ 1000 → t .degraded ≤ g → g ≤ n
@@ -183,12 +236,21 @@ module _ (t : Table) (accepted : Accepted t) where
       finish-falls t (t .normal) (t .degraded) n g normal degraded f
       (facts (withSpeeds t n g) (accepted-speeds t accepted n g most (omega (arith, f .crawls)) slower)) o e i (row-is t i r)
 
+  -- Nor does any promised moment.
+  pub moment-larger : (o : List ℕ) → isOrder t o ≡ true → (i : ℕ) → isRow t i ≡ true → isPromised t i ≡ true → (n g : ℕ) → t .normal ≤ n → n ≤ 1000
+      → t .degraded ≤ g → g ≤ n → promisedMoment (withSpeeds t n g) o i ≤ promisedMoment t o i
+  moment-larger o e i r x n g normal most degraded slower =
+      moment-falls t (t .normal) (t .degraded) n g normal degraded f
+      (facts (withSpeeds t n g) (accepted-speeds t accepted n g most (omega (arith, f .crawls)) slower)) o e i (row-is t i r) x
+
   -- And so no row's slack falls.
   pub slack-larger : (o : List ℕ) → isOrder t o ≡ true → (i : ℕ) → isRow t i ≡ true → (n g : ℕ) → t .normal ≤ n → n ≤ 1000 → t .degraded ≤ g → g ≤ n
       → ltZ (slack (withSpeeds t n g) o i) (slack t o i) ≡ false
-  unfolding slack
   slack-larger o e i r n g normal most degraded slower =
-      less-left (deadlineOf t i) (worstFinish (withSpeeds t n g) o i) (worstFinish t o i) (finish-larger o e i r n g normal most degraded slower)
+      let known = facts (withSpeeds t n g) (accepted-speeds t accepted n g most (omega (arith, f .crawls)) slower) in
+      rw (slack-is (withSpeeds t n g) o i, slack-is t o i)
+      (less-left (deadlineOf t i) (latest (withSpeeds t n g) o i) (latest t o i)
+      (latest-falls t (t .normal) (t .degraded) n g normal degraded f known o e i (row-is t i r)))
 
   -- The least workable speed parts its range: a correct order exists at it and at every larger speed, and at no smaller one.
   pub least-exact : (q : Sought) (s : ℕ) → LeastSpeed q t s → (r : ℕ) → InRange q t r → CorrectOrder (atSpeed q t r) ↔ (s ≤ r)
@@ -206,7 +268,15 @@ module _ (t : Table) (accepted : Accepted t) where
     pub running-sustainable : (i : ℕ) → isRow t i ≡ true → ltZ (slack t o i) (pos 0) ≡ false → (σ : ℕ → ℕ) → Window t σ i (worstSpeed t i)
         → (k : ℕ) → deadlineOf t i ≤ k → KeptIn t (runAfter t o σ k) i
     running-sustainable i r s σ w k q =
-        subst (λ (x : State). KeptIn t x i) (running-is t o σ k) (kept-by t f o order (running t) i (row-is t i r) (slack-meets t o i s) σ w k q)
+        subst (λ (x : State). KeptIn t x i) (running-is t o σ k) (kept-by t f o order (running t) i (row-is t i r) (meets-kept t f o order i (row-is t i r) (slack-meets t o i s)) σ w k q)
+
+    -- A LO row whose slack is not below zero has got its promised part at every clock from d on, if every slot from the earliest release to d-1
+    -- supplied at least G, whatever the other slots supplied.
+    pub running-promise : (i : ℕ) → isRow t i ≡ true → isLow t i ≡ true → ltZ (slack t o i) (pos 0) ≡ false → (σ : ℕ → ℕ) → Window t σ i (t .degraded)
+        → (k : ℕ) → deadlineOf t i ≤ k → promisedOf t i ≤ at (runAfter t o σ k .got) i
+    running-promise i r l s σ w k q =
+        subst (λ (x : State). promisedOf t i ≤ at (x .got) i) (running-is t o σ k)
+        (meets-promise t f o order (running t) i (row-is t i r) l (slack-meets t o i s) σ w k q)
 
     -- In particular every row does under a correct order.
     pub correct-window : Correct t o → (i : ℕ) → isRow t i ≡ true → (σ : ℕ → ℕ) → Window t σ i (worstSpeed t i) → (k : ℕ) → deadlineOf t i ≤ k
@@ -221,6 +291,7 @@ module _ (t : Table) (accepted : Accepted t) where
               (λ u p l. omega (arith, enough u, worst-slower t f i)) (deadlineOf t i) (omega arith);
           degraded = λ σ enough i r h. running-sustainable i r (verdict o order .0 c i r) σ
               (λ u p l. rw (not-is (isLow t i) h) (enough u)) (deadlineOf t i) (omega arith);
+          promised = λ σ enough i r l. running-promise i r l (verdict o order .0 c i r) σ (λ u p q. enough u) (deadlineOf t i) (omega arith);
         }
 
     -- Under a correct order the two rules make one run up to clock m, if every slot from the earliest release to m-1 supplied at least N.

@@ -16,7 +16,6 @@ use Rattle.rules.specs.Orders.{isOrder}
 use Rattle.rules.specs.Rows.{at, isRow, isLow, releaseOf, workOf, deadlineOf}
 use Rattle.rules.specs.Running.{isDue, closeLate, runSlot, runAfter}
 use Rattle.rules.specs.Slots.{State, allowance, isReady, chosen, isOver, slot, after}
-use Rattle.rules.specs.Worst.{meets}
 use Rattle.theory.specs.Tests.{by-bool, by-eqb, by-leb, not-both, and-left}
 use Rattle.theory.specs.Counts.{In}
 use Rattle.theory.specs.Facts.{Row, row-is, is-row, in-rows, count-zero, TableFacts}
@@ -26,7 +25,7 @@ use Rattle.theory.specs.Finishes.{worst-slower}
 use Rattle.theory.specs.Invariant.{Held, Over, workedBy, cell-served, cell-other, clock-worked, ran, held}
 use Rattle.theory.specs.Late.{closed-at, closed-none}
 use Rattle.theory.specs.Places.{order-rows}
-use Rattle.theory.specs.Verdict.{kept, all-meet}
+use Rattle.theory.specs.Verdict.{kept, all-timely}
 
 -- no open row of the table is due: the look at the clock changes nothing
 pub close-none : (t : Table) (s : State) → ((i : ℕ) → isRow t i ≡ true → at (s .closing) i ≡ 0 → isDue t (s .clock) i ≡ false) → closeLate t s ≡ s
@@ -189,7 +188,7 @@ module _ (t : Table) (f : TableFacts t) (o : List ℕ) (e : isOrder t o ≡ true
       by-leb (deadlineOf t i) k
       (λ _ d. absurd (omega (
         arith,
-        kept t f o e i (row-is t i r) (all-meet t f o e c i (row-is t i r)) σ
+        kept t f o e i (row-is t i r) (all-timely t f o e c i (row-is t i r)) σ
             (λ u q l. omega (arith, enough u q (omega arith), worst-slower t f i)) k d .closed,
       )))
       (λ w _. w)

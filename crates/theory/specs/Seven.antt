@@ -17,11 +17,11 @@ use Rattle.rules.specs.Lists.{all}
 use Rattle.rules.specs.Need.{workSlots}
 use Rattle.rules.specs.Numbers.{plannedNumber}
 use Rattle.rules.specs.Orders.{isOrder}
-use Rattle.rules.specs.Rows.{at, isRow, isHigh, workOf, deadlineOf}
+use Rattle.rules.specs.Rows.{at, isRow, isHigh, workOf, deadlineOf, promisedOf}
 use Rattle.rules.specs.Running.{closeLate, runSlot, runAfter, RunServes}
 use Rattle.rules.specs.Slots.{State, fresh, isReady, chosen, isOver, brought, serve, slot}
-use Rattle.rules.specs.Tables.{rowOk, tailOk, checkTable, Accepted}
-use Rattle.rules.specs.Worst.{horizon, worstFinish, meets}
+use Rattle.rules.specs.Tables.{rowOk, promiseOk, tailOk, checkTable, Accepted}
+use Rattle.rules.specs.Worst.{horizon, worstFinish, slack, meets}
 use Rattle.theory.specs.Counts.{In}
 use Rattle.theory.specs.Facts.{row-is}
 use Rattle.theory.specs.Results.{choice-none}
@@ -131,6 +131,7 @@ trouble-serves =
           (λ _. kept-in trouble 1 _ (each-course 1 (1 ∷ 2 ∷ 3 ∷ []) from-one σ h 2 (hasKept trouble 1) (kept-degraded .0)))
           (λ z. absurd (true≢false (sym z)))
           (λ _. kept-in trouble 3 _ (each-course 1 (1 ∷ 2 ∷ 3 ∷ []) from-one σ h 4 (hasKept trouble 3) (kept-degraded .1)));
+      promised = λ σ h i r l. let none : promisedOf trouble i ≡ 0 = by-row (λ (j : ℕ). promisedOf trouble j ≡ 0) i r refl refl refl in omega arith;
     }
 
 -- it is an order of an accepted table
@@ -139,16 +140,16 @@ unfolding tableOf isOrder padded
 trouble-order = refl
 
 pub trouble-accepted : Accepted trouble
-unfolding tableOf checkTable rowOk tailOk
+unfolding tableOf checkTable rowOk promiseOk tailOk
 trouble-accepted = refl
 
 -- the planner's number is 7, and indeed no order is correct
 pub trouble-seven : plannedNumber (planOf trouble .answer) ≡ 7
-unfolding plannedNumber planOf padded passes sequence choice fill taker word tableOf workSlots fresh isReady chosen isOver brought serve slot checkTable rowOk tailOk horizon worstFinish meets
+unfolding plannedNumber planOf padded passes sequence choice fill taker word tableOf workSlots fresh isReady chosen isOver brought serve slot checkTable rowOk promiseOk tailOk horizon worstFinish slack meets
 trouble-seven = refl
 
 pub trouble-none : CorrectOrder trouble → ⊥
-unfolding padded passes sequence choice fill taker tableOf workSlots fresh isReady chosen isOver brought serve slot horizon worstFinish meets
+unfolding padded passes sequence choice fill taker tableOf workSlots fresh isReady chosen isOver brought serve slot horizon worstFinish slack meets
 trouble-none c = choice-none trouble trouble-accepted 1 left (c .order) (c .passes) (c .correct)
   where
     left : In 1 (choice trouble .left)

@@ -1,5 +1,6 @@
 -- A correct order stays correct at larger speeds (rule 18.8): needs fall there, so caps fall, so the backlog of every set of rows falls, and so
--- no row finishes later. Courses of speed that stay above larger speeds are fewer as well, but that alone would not do: allowances change with N.
+-- no row finishes later and none gets its promised part later. Courses of speed that stay above larger speeds are fewer as well, but that alone would
+-- not do: allowances change with the speeds.
 use Prim.Native.Nat.{ℕ, _≤_}
 use mathlib.Core.Bool.{true}
 use mathlib.Core.Path.{_≡_, refl, sym, subst, _∙_}
@@ -9,11 +10,11 @@ use native.Mathlib.Omega.{arith}
 use lib.Dec.{eqb}
 use borrow.Author.Tests.{leb-true, le-leb}
 use Rattle.rules.specs.declared.Table.{Table}
-use Rattle.rules.specs.Rows.{isLow, releaseOf, workOf, deadlineOf}
-use Rattle.rules.specs.Tables.{speedsOk, rowOk, tailOk, checkTable, Accepted}
+use Rattle.rules.specs.Rows.{isLow, isPromised, releaseOf, workOf, promisedOf, deadlineOf}
+use Rattle.rules.specs.Tables.{speedsOk, rowOk, promiseOk, tailOk, checkTable, Accepted}
 use Rattle.rules.specs.Orders.{isOrder}
 use Rattle.rules.specs.Correct.{Correct, CorrectOrder}
-use Rattle.rules.specs.Worst.{worstSpeed, worstFinish, meets}
+use Rattle.rules.specs.Worst.{worstSpeed, worstFinish, promisedMoment}
 use Rattle.rules.specs.declared.Sought.{Sought}
 use Rattle.rules.specs.declared.Sought.the-variants.{Degraded, Normal}
 use Rattle.rules.specs.Speeds.{withSpeeds, atSpeed, slowest, fastest, InRange, LeastSpeed}
@@ -24,7 +25,8 @@ use Rattle.theory.specs.Caps.{cap, slots-fall}
 use Rattle.theory.specs.Facts.{Row, TableFacts, facts}
 use Rattle.theory.specs.Places.{placed}
 use Rattle.theory.specs.Finishes.{worst-runs, worst-finish}
-use Rattle.theory.specs.Verdict.{all-meet, correct}
+use Rattle.theory.specs.Part.{partTable, part-row}
+use Rattle.theory.specs.Promised.{latest, latest-by, finish-latest, moment-latest, meets-is, part-of, part-known, moment-order, all-meet, correct}
 
 -- smaller caps, smaller backlog
 caps-backlog : (rel less more : ℕ → ℕ) (l : List ℕ) → ((x : ℕ) → less x ≤ more x) → (u : ℕ) → backlog (arrivals rel less l) u ≤ backlog (arrivals rel more l) u
@@ -39,7 +41,7 @@ same-row t n g m h i r = record { from = r .from; upTo = r .upTo }
 
 -- other speeds within their limits leave an accepted table accepted
 pub accepted-speeds : (t : Table) → Accepted t → (n g : ℕ) → n ≤ 1000 → 1 ≤ g → g ≤ n → Accepted (withSpeeds t n g)
-unfolding checkTable rowOk tailOk
+unfolding checkTable rowOk promiseOk tailOk
 accepted-speeds t accepted n g fast crawls slower =
     let f = facts t accepted in
     let old : speedsOk (t .normal) (t .degraded) ≡ true = speeds-ok (t .normal) (t .degraded) (f .fast) (f .crawls) (f .slower) in
@@ -61,11 +63,16 @@ module _ (t : Table) (n g m h : ℕ) (normal : n ≤ m) (degraded : g ≤ h) whe
   worst-faster i = by-bool (isLow t i) (λ e. rw e normal) (λ e. rw e degraded)
 
   -- no row takes more slots
-  cap-falls : 1 ≤ n → (s r x : ℕ) → 1 ≤ s → s ≤ r → cap fast r x ≤ cap slow s x
+  cap-falls : 1 ≤ n → 1 ≤ g → (s r x : ℕ) → 1 ≤ s → s ≤ r → cap fast r x ≤ cap slow s x
   unfolding cap
-  cap-falls n1 s r x s1 q =
+  cap-falls n1 g1 s r x s1 q =
       by-bool (isLow t x)
-      (λ e. rw e (omega (arith, slots-fall (workOf t x) n m n1 normal)))
+      (λ e. rw e (omega (
+        arith,
+        slots-fall (workOf t x) n m n1 normal,
+        slots-fall (promisedOf t x) g h g1 degraded,
+        slots-fall (workOf t x) s r s1 q,
+      )))
       (λ e. rw e (omega (arith, slots-fall (workOf t x) s r s1 q)))
 
   -- check 6 does not look at speeds
@@ -86,7 +93,7 @@ module _ (t : Table) (n g m h : ℕ) (normal : n ≤ m) (degraded : g ≤ h) whe
           arith,
           before .clear,
           caps-backlog (releaseOf t) (cap fast (worstSpeed fast i)) (cap slow (worstSpeed slow i)) (a ++ (i ∷ []))
-              (λ x. cap-falls (f .runs) (worstSpeed slow i) (worstSpeed fast i) x (worst-runs slow f i) (worst-faster i))
+              (λ x. cap-falls (f .runs) (f .crawls) (worstSpeed slow i) (worstSpeed fast i) x (worst-runs slow f i) (worst-faster i))
               (worstFinish slow (a ++ (i ∷ b)) i),
         ))
 
@@ -97,17 +104,49 @@ module _ (t : Table) (n g m h : ℕ) (normal : n ≤ m) (degraded : g ≤ h) whe
         let p = placed slow o e i r in
         subst (λ (l : List ℕ). worstFinish fast l i ≤ worstFinish slow l i) (sym (p .whole)) (finish-below f k (p .above) (p .below) i (p .rows) (p .once))
 
-    -- an order that was correct is correct
-    pub correct-faster : Correct slow o → Correct fast o
-    unfolding meets
-    correct-faster c =
-        correct fast k o (sym (order-same o) ∙ e)
-        (λ i r. le-leb (worstFinish fast o i) (deadlineOf t i)
-        (omega (
-          arith,
-          leb-true (worstFinish slow o i) (deadlineOf t i) (all-meet slow f o e c i (same-row t m h n g i r)),
-          finish-falls i (same-row t m h n g i r),
-        )))
+module _ (t : Table) (n g m h : ℕ) (normal : n ≤ m) (degraded : g ≤ h) (f : TableFacts (withSpeeds t n g)) (k : TableFacts (withSpeeds t m h)) (o : List ℕ)
+    (e : isOrder (withSpeeds t n g) o ≡ true) where
+  abbrev was : Table
+  was = withSpeeds t n g
+
+  abbrev is : Table
+  is = withSpeeds t m h
+
+  now-order : isOrder is o ≡ true
+  now-order = sym (order-same t n g m h normal degraded o) ∙ e
+
+  -- no row gets its promised part later: the part, as a job of its own, finishes no later
+  pub moment-falls : (i : ℕ) → Row was i → isPromised t i ≡ true → promisedMoment is o i ≤ promisedMoment was o i
+  unfolding isOrder
+  moment-falls i r x =
+      let r' = same-row t n g m h i r in
+      let before = part-known was f i r (part-of was i x) in
+      let after = part-known is k i r' (part-of is i x) in
+      omega (
+        arith,
+        moment-order was f i r (part-of was i x) o e,
+        moment-order is k i r' (part-of is i x) o now-order,
+        finish-falls (partTable t i) n g m h normal degraded before after o e i (part-row was i i r),
+      )
+
+  pub latest-falls : (i : ℕ) → Row was i → latest is o i ≤ latest was o i
+  latest-falls i r =
+      latest-by is o i (latest was o i)
+      (omega (arith, finish-falls t n g m h normal degraded f k o e i r, finish-latest was o i))
+      (λ x. omega (arith, moment-falls i r x, moment-latest was o i x))
+
+  -- an order that was correct is correct
+  pub correct-faster : Correct was o → Correct is o
+  correct-faster c =
+      correct is k o now-order
+      (λ i r. let r' = same-row t m h n g i r in
+      meets-is is o i
+      ∙ le-leb (latest is o i) (deadlineOf t i)
+      (omega (
+        arith,
+        leb-true (latest was o i) (deadlineOf t i) (sym (meets-is was o i) ∙ all-meet was f o e c i r'),
+        latest-falls i r',
+      )))
 
 -- the speed sought, in the table and in its range
 

@@ -144,3 +144,9 @@ module _ (rel cap : ℕ → ℕ) where
         finish = finish-set rel cap s l p (rel x) (sweep (rel x) 0 s) (sweep-finish s (sorted-sort rel l) x (omega (arith, p x)) c);
         bound = omega (arith, sweep-bound (rel x) 0 m s (omega arith) (λ y i. k y (omega (arith, p y))), sum-same cap s l p);
       }
+
+-- the sweep looks at the figures of the rows in its list alone
+pub sweep-same : (rel f g : ℕ → ℕ) (a b : ℕ) (l : List ℕ) → ((x : ℕ) → In x l → f x ≡ g x) → sweep rel f a b l ≡ sweep rel g a b l
+sweep-same rel f g a b [] h = refl
+sweep-same rel f g a b (x ∷ l) h =
+    rw (h x (in-head x l), sweep-same rel f g a (max b (rel x) + g x) l (λ y i. h y (in-tail y x l i)))

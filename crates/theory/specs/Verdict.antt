@@ -1,5 +1,5 @@
--- A row whose worst finish is in time keeps its deadline in every run that supplies as much, by either rule of a slot (rule 19.5); an order is
--- correct exactly if all rows do (rules 3.4 and 3.6).
+-- A row whose worst finish is in time keeps its deadline in every run that supplies as much, by either rule of a slot (rule 19.5), and under a
+-- correct order every row's is (rules 3.2, 3.3 and 3.6). Promised parts are in Promised.
 use Prim.Native.Nat.{ℕ, zero, suc, _+_, _-_, _≤_, _<_}
 use mathlib.Core.Bool.{true, false, true≢false}
 use mathlib.Core.Path.{_≡_, sym, ap, subst, _∙_}
@@ -9,28 +9,37 @@ use native.Mathlib.Omega.{arith}
 use lib.Dec.{ltb, leb}
 use lib.IntN.{pos, _-ℤ_}
 use lib.Signed.{ltZ}
-use borrow.Author.Tests.{lt-ltb, le-ltb, le-leb, leb-true, ltb-false}
+use borrow.Author.Tests.{lt-ltb, le-ltb, le-leb}
 use Rattle.rules.specs.declared.Table.{Table}
 use Rattle.rules.specs.Rows.{at, isLow, workOf, deadlineOf}
 use Rattle.rules.specs.Orders.{isOrder}
 use Rattle.rules.specs.Slots.{after}
 use Rattle.rules.specs.Correct.{KeptIn, Kept, Correct, earliest, Window}
-use Rattle.rules.specs.Worst.{worstSpeed, horizon, worstFinish, slack, meets}
-use Rattle.theory.specs.Tests.{by-bool, by-ltb, not-is}
+use Rattle.rules.specs.Worst.{worstSpeed, horizon, worstFinish}
+use Rattle.theory.specs.Tests.{by-bool, by-ltb}
 use Rattle.theory.specs.Counts.{In, in-last}
-use Rattle.theory.specs.Facts.{Row, row-is, is-row, TableFacts}
+use Rattle.theory.specs.Facts.{Row, is-row, TableFacts}
 use Rattle.theory.specs.Cells.{Cell, cellAt}
 use Rattle.theory.specs.Ends.{Rule, planning, stateBy}
 use Rattle.theory.specs.Invariant.{Held, Over, workedBy, held, held-worked, got-high, got-normal}
 use Rattle.theory.specs.Sustain.{closed-by, over-by, look-stays, closed-stays}
 use Rattle.theory.specs.Exact.{closed-finish}
 use Rattle.theory.specs.Places.{placed}
-use Rattle.theory.specs.Finishes.{earliest-first, worst-runs, worst-slower, worst-finish, worst-lasts, Clear, meets-clear}
+use Rattle.theory.specs.Finishes.{earliest-first, worst-runs, worst-slower, worst-finish, worst-lasts, Clear, onTime, time-clear}
 
 -- a slack is below zero exactly if the finish is after the deadline
 pub late-is : (d k : ℕ) → ltZ (pos d -ℤ pos k) (pos 0) ≡ ltb d k
 late-is d zero = le-ltb (d + 0) 0 (omega arith) ∙ sym (le-ltb d 0 (omega arith))
 late-is d (suc k) = by-bool (ltb d (suc k)) (λ e. rw e) (λ e. rw e (le-ltb (d - suc k) 0 (omega arith)))
+
+-- a finish that is later leaves a slack that is less
+pub more-left : (d k m : ℕ) → k < m → ltZ (pos d -ℤ pos m) (pos d -ℤ pos k) ≡ true
+more-left d k zero h = absurd (omega arith)
+more-left d zero (suc m) h = by-ltb d (suc m) (λ e p. rw e) (λ e p. rw e (lt-ltb (d - suc m) (d + 0) (omega arith)))
+more-left d (suc k) (suc m) h =
+    by-ltb d (suc k)
+    (λ e p. rw (e, lt-ltb d (suc m) (omega arith)) (lt-ltb (suc k - suc d) (suc m - suc d) (omega arith)))
+    (λ e p. by-ltb d (suc m) (λ f q. rw (e, f)) (λ f q. rw (e, f) (lt-ltb (d - suc m) (d - suc k) (omega arith))))
 
 -- a finish that is not later leaves a slack that is not less
 pub less-left : (d k m : ℕ) → k ≤ m → ltZ (pos d -ℤ pos k) (pos d -ℤ pos m) ≡ false
@@ -41,25 +50,6 @@ less-left d (suc k) (suc m) h =
     by-ltb d (suc k)
     (λ e p. rw (e, lt-ltb d (suc m) (omega arith)) (le-ltb (suc m - suc d) (suc k - suc d) (omega arith)))
     (λ e p. by-bool (ltb d (suc m)) (λ f. rw (e, f)) (λ f. rw (e, f) (le-ltb (d - suc k) (d - suc m) (omega arith))))
-
-pub slack-meets : (t : Table) (o : List ℕ) (i : ℕ) → ltZ (slack t o i) (pos 0) ≡ false → meets t o i ≡ true
-unfolding slack meets
-slack-meets t o i e =
-    le-leb (worstFinish t o i) (deadlineOf t i) (ltb-false (deadlineOf t i) (worstFinish t o i) (sym (late-is (deadlineOf t i) (worstFinish t o i)) ∙ e))
-
-pub meets-slack : (t : Table) (o : List ℕ) (i : ℕ) → meets t o i ≡ true → ltZ (slack t o i) (pos 0) ≡ false
-unfolding slack meets
-meets-slack t o i e =
-    late-is (deadlineOf t i) (worstFinish t o i) ∙ le-ltb (deadlineOf t i) (worstFinish t o i) (leb-true (worstFinish t o i) (deadlineOf t i) e)
-
--- where the finish is not after the deadline, the slack is their difference as natural numbers
-pub slack-difference : (t : Table) (o : List ℕ) (i : ℕ) → worstFinish t o i ≤ deadlineOf t i → pos (deadlineOf t i - worstFinish t o i) ≡ slack t o i
-unfolding slack
-slack-difference t o i h = difference (deadlineOf t i) (worstFinish t o i) h
-  where
-    difference : (d k : ℕ) → k ≤ d → pos (d - k) ≡ pos d -ℤ pos k
-    difference d zero h = ap pos (let e : d - 0 ≡ d + 0 = omega arith in e)
-    difference d (suc k) h = rw (le-ltb d (suc k) h)
 
 -- row i's cell shows that it has kept its deadline
 pub record KeptCell (t : Table) (i : ℕ) (x : Cell) : Type 0 where
@@ -134,15 +124,15 @@ module _ (t : Table) (f : TableFacts t) where
   -- an order under check 6
   module _ (o : List ℕ) (e : isOrder t o ≡ true) where
     -- by either rule, at every clock from the deadline on
-    pub kept-by : (rule : Rule t) (i : ℕ) → Row t i → meets t o i ≡ true → (σ : ℕ → ℕ) → Window t σ i (worstSpeed t i) → (k : ℕ) → deadlineOf t i ≤ k
+    pub kept-by : (rule : Rule t) (i : ℕ) → Row t i → onTime t o i ≡ true → (σ : ℕ → ℕ) → Window t σ i (worstSpeed t i) → (k : ℕ) → deadlineOf t i ≤ k
         → KeptIn t (stateBy rule o σ k) i
     kept-by rule i r m σ w k q =
         let p = placed t o e i r in
         let whole : o ≡ p .above ++ (i ∷ []) ++ p .below = p .whole ∙ sym (append-assoc (p .above) (i ∷ []) (p .below)) in
-        let c = meets-clear t f (p .above) (p .below) i (p .rows) (p .once) (subst (λ (l : List ℕ). meets t l i ≡ true) (p .whole) m) in
+        let c = time-clear t f (p .above) (p .below) i (p .rows) (p .once) (subst (λ (l : List ℕ). onTime t l i ≡ true) (p .whole) m) in
         subst (λ (l : List ℕ). KeptIn t (stateBy rule l σ k) i) (sym whole) (kept-below rule (p .above) (p .below) i (p .rows) c σ w k q)
 
-    pub kept : (i : ℕ) → Row t i → meets t o i ≡ true → (σ : ℕ → ℕ) → Window t σ i (worstSpeed t i) → (k : ℕ) → deadlineOf t i ≤ k → KeptIn t (after t o σ k) i
+    pub kept : (i : ℕ) → Row t i → onTime t o i ≡ true → (σ : ℕ → ℕ) → Window t σ i (worstSpeed t i) → (k : ℕ) → deadlineOf t i ≤ k → KeptIn t (after t o σ k) i
     kept = kept-by (planning t)
 
     -- row i's worst run at a clock k that is not before the horizon
@@ -178,9 +168,8 @@ module _ (t : Table) (f : TableFacts t) where
         (λ l. c .normal (λ _. worstSpeed t i) (λ u. rw l (omega arith)) i (is-row t i r))
         (λ l. c .degraded (λ _. worstSpeed t i) (λ u. rw l (omega arith)) i (is-row t i r) (rw l))
 
-    pub all-meet : Correct t o → (i : ℕ) → Row t i → meets t o i ≡ true
-    unfolding meets
-    all-meet c i r =
+    pub all-timely : Correct t o → (i : ℕ) → Row t i → onTime t o i ≡ true
+    all-timely c i r =
         let p = placed t o e i r in
         let whole : o ≡ p .above ++ (i ∷ []) ++ p .below = p .whole ∙ sym (append-assoc (p .above) (i ∷ []) (p .below)) in
         let k = kept-worst c i r .closed in
@@ -190,10 +179,3 @@ module _ (t : Table) (f : TableFacts t) where
         (worstFinish t (p .above ++ (i ∷ p .below)) i) (deadlineOf t i)
         (worst-finish t f (p .above) (p .below) i (p .rows) (p .once))
         (subst (λ (l : List ℕ). 1 ≤ at (after t l (λ _. worstSpeed t i) (deadlineOf t i) .closing) i) whole k)))
-
-    pub correct : ((i : ℕ) → Row t i → meets t o i ≡ true) → Correct t o
-    correct h =
-        record {
-          normal = λ σ s i r. kept i (row-is t i r) (h i (row-is t i r)) σ (λ u p q. omega (arith, s u, worst-slower t f i)) (deadlineOf t i) (omega arith);
-          degraded = λ σ s i r g. kept i (row-is t i r) (h i (row-is t i r)) σ (λ u p q. rw (not-is (isLow t i) g) (s u)) (deadlineOf t i) (omega arith);
-        }

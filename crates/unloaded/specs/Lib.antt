@@ -1,9 +1,6 @@
 pub mod Unloaded
-pub mod OldRecords
 pub mod OldSheets
-pub mod OldTexts
 pub mod UnloadedCases
 pub mod Same
-pub mod SameRecords
 pub mod SameSheets
-pub mod SameTexts
+pub mod SameProgram

@@ -1,4 +1,5 @@
--- What the rules said of sheets before jobs could load: a first line of 25 bytes with n, N and G. The table read has K = 0.
+-- What the rules said of sheets before jobs could load: a first line of 25 bytes with n, N and G, and lines of 33 bytes for the rows. The table read
+-- has K = 0, and r = 0 in every row. The program took such sheets.
 use Prim.Native.Nat.{ℕ, _+_, _-_, _*_}
 use mathlib.Core.Bool.{cond}
 use mathlib.Core.List.{List, [], _∷_, _++_, map}
@@ -12,9 +13,12 @@ use Rattle.rules.specs.declared.Reading.{Reading}
 use Rattle.rules.specs.Fields.{written, line}
 use Rattle.rules.specs.Lists.{all, rowsTo, joined}
 use Rattle.rules.specs.Rows.{rowsOf}
-use Rattle.rules.specs.Sheets.{isLine, numberAt, readChecked, rowLine}
+use Rattle.rules.specs.Sheets.{isLine, numberAt, readChecked}
 use Rattle.rules.specs.Tables.{countOk}
-use Rattle.unloaded.specs.Unloaded.{checkTable}
+use Rattle.unpromised.specs.OldSheets.{rowLine}
+use Rattle.unpromised.specs.OldTexts.{readText}
+use Rattle.unpromised.specs.Unpromised.{checkTable}
+use Rattle.unloaded.specs.Unloaded.{without}
 
 -- the byte at which row i's line starts
 abbrev pub lineOf : ℕ → ℕ
@@ -35,6 +39,7 @@ tableIn bytes =
       work = columnOf bytes n 2;
       deadline = columnOf bytes n 3;
       level = columnOf bytes n 4;
+      promised = replicate 64 0;
     }
 
 -- the reader
@@ -45,7 +50,7 @@ checkSheet bytes =
     (cond (isLine bytes 0 3)
     (cond (countOk (numberAt bytes 0 1))
     (cond (eqb (length bytes) (25 + 33 * numberAt bytes 0 1))
-    (cond (all (λ i. isLine bytes (lineOf i) 4) (rowsTo (numberAt bytes 0 1))) (checkTable (tableIn bytes)) (Refused Malformed))
+    (cond (all (λ i. isLine bytes (lineOf i) 4) (rowsTo (numberAt bytes 0 1))) (checkTable without (tableIn bytes)) (Refused Malformed))
     (Refused Length))
     (Refused RowCount))
     (Refused Malformed))
@@ -56,6 +61,10 @@ readOf bytes = readChecked (checkSheet bytes) (tableIn bytes)
 -- the sheet of a table
 unfoldable pub sheetOf : Table → List ℕ
 sheetOf t = line (t .n ∷ t .normal ∷ t .degraded ∷ []) ++ joined (rowLine t) (rowsOf t)
+
+-- the program from input to output; of its input it looked at 2,138 bytes
+unfoldable pub programText : List ℕ → List ℕ
+programText input = let r = readOf (take 2138 input) in readText without (r .check) (r .table)
 
 -- bytes with the field of K = 0 put in before the end of the first line, as a fourth field
 unfoldable pub withField : List ℕ → List ℕ

@@ -1,5 +1,6 @@
--- Old sheets. Whatever the bytes, with the field of K = 0 added they are answered as the old reader answered them without it; bytes that the
--- old reader accepted are answered 2; and the sheet of a table with K = 0 is its old sheet with that field, 8 bytes longer.
+-- Old sheets. Whatever the bytes, with the fields of K = 0 and r = 0 put in they are answered as the old reader answered them without; bytes that the
+-- old reader accepted are answered 2; and the sheet of a table with K = 0 and an r of all 0 is its old sheet with those fields. The field of r = 0 is
+-- put in by the crate unpromised, with whose reader, Then, the one of before K is compared first.
 use Prim.Native.Nat.{ℕ, _+_, _-_, _*_, _/_, _%_, _≤_, _<_}
 use mathlib.Core.Bool.{Bool, true, false, _||_, true≢false}
 use mathlib.Core.Path.{_≡_, refl, sym, ap, subst, _∙_}
@@ -12,28 +13,29 @@ use borrow.Author.Tests.{lt-ltb, le-ltb, leb-true, eqb-true, eq-eqb, ne-eqb}
 use Rattle.rules.specs.declared.Table.{Table}
 use Rattle.rules.specs.declared.Refusal.the-variants.{Malformed}
 use Rattle.rules.specs.declared.Check.the-variants.{Passed, Refused}
-use Rattle.rules.specs.Fields.{digitAt, digitOf, written, line, valueOf, isField, fieldAt}
-use Rattle.rules.specs.Lists.{all, rowsTo, joined}
+use Rattle.rules.specs.Fields.{digitAt, written, line, valueOf, isField, fieldAt}
+use Rattle.rules.specs.Lists.{all, allZero, rowsTo, joined}
 use Rattle.rules.specs.Rows.{rowsOf}
-use Rattle.rules.specs.Sheets.{isLine, numberAt, lineOf, columnOf, tableIn, checkSheet, readOf, rowLine, sheetOf}
+use Rattle.rules.specs.Sheets.{isLine, numberAt, checkSheet, readOf, sheetOf}
 use Rattle.rules.specs.Tables.{countOk, zeroTable}
 use Rattle.theory.specs.Agree.{map-agree, all-agree}
 use Rattle.theory.specs.Tests.{by-bool, by-ltb, by-eqb, and-left, and-right}
 use Rattle.theory.specs.Facts.{all-in, clash}
 use Rattle.fields.specs.Bytes.{field-within}
 use Rattle.fields.specs.Lengths.{written-long}
+use Rattle.unpromised.specs.OldSheets as Then
+use Rattle.unpromised.specs.OldSheets.{rowLine, widen}
+use Rattle.unpromised.specs.SameSheets as Since
+use Rattle.unpromised.specs.SameSheets.{zero-field, zero-value}
+use Rattle.unpromised.specs.Unpromised.{loading, checkTable}
 use Rattle.unloaded.specs.OldSheets as Old
 use Rattle.unloaded.specs.OldSheets.{withField}
-use Rattle.unloaded.specs.Same.{check-same}
+use Rattle.unloaded.specs.Unloaded.{without}
 
--- the field of 0: it is well formed, and its number is 0
-zero-field : isField (written 0) ≡ true
-unfolding isField valueOf written digitAt digitOf
-zero-field = refl
-
-zero-value : valueOf (written 0) ≡ 0
-unfolding valueOf written digitAt digitOf
-zero-value = refl
+-- check 11 lets K = 0 through
+check-none : (t : Table) → t .loading ≡ 0 → checkTable loading t ≡ checkTable without t
+unfolding checkTable
+check-none t none = rw none
 
 -- a are the three fields of the first line, r all bytes after them
 module _ (a r : List ℕ) (head : length a ≡ 24) where
@@ -116,13 +118,13 @@ module _ (a r : List ℕ) (head : length a ≡ 24) where
   unfolding numberAt
   count-same = ap valueOf (field-kept 0 (omega arith))
 
-  column-same : (n j : ℕ) → columnOf now n j ≡ Old.columnOf was n j
-  unfolding columnOf Old.columnOf
+  column-same : (n j : ℕ) → Then.columnOf now n j ≡ Old.columnOf was n j
+  unfolding Then.columnOf Old.columnOf
   column-same n j =
-      rw (map-agree (λ i. numberAt now (lineOf i) j) (λ i. numberAt was (Old.lineOf i) j) (λ i. number-moved (33 * (i - 1)) j) (rowsTo n))
+      rw (map-agree (λ i. numberAt now (Then.lineOf i) j) (λ i. numberAt was (Old.lineOf i) j) (λ i. number-moved (33 * (i - 1)) j) (rowsTo n))
 
-  table-same : tableIn now ≡ Old.tableIn was
-  unfolding tableIn Old.tableIn numberAt
+  table-same : Then.tableIn now ≡ Old.tableIn was
+  unfolding Then.tableIn Old.tableIn numberAt
   table-same =
       rw (
         field-kept 0 (omega arith),
@@ -153,21 +155,21 @@ module _ (a r : List ℕ) (head : length a ≡ 24) where
   none-was = refl
 
   -- the whole reader
-  check-now : checkSheet now ≡ Old.checkSheet was
-  unfolding checkSheet Old.checkSheet
+  check-now : Then.checkSheet now ≡ Old.checkSheet was
+  unfolding Then.checkSheet Old.checkSheet
   check-now =
       rw (
         short-same,
         first-same,
         count-same,
         long-same (numberAt was 0 1),
-        all-agree (λ i. isLine now (lineOf i) 4) (λ i. isLine was (Old.lineOf i) 4) (λ i. line-moved (33 * (i - 1)) 4) (rowsTo (numberAt was 0 1)),
+        all-agree (λ i. isLine now (Then.lineOf i) 4) (λ i. isLine was (Old.lineOf i) 4) (λ i. line-moved (33 * (i - 1)) 4) (rowsTo (numberAt was 0 1)),
         table-same,
-        check-same (Old.tableIn was) none-was,
+        check-none (Old.tableIn was) none-was,
       )
 
-  read-now : readOf now ≡ Old.readOf was
-  unfolding readOf Old.readOf
+  read-now : Then.readOf now ≡ Old.readOf was
+  unfolding Then.readOf Old.readOf
   read-now = rw (check-now, table-same)
 
 -- any bytes are 8 longer by the field
@@ -183,13 +185,12 @@ field-long bytes =
       length-drop 24 bytes,
     )
 
--- 1. With the field of K = 0 added, bytes are answered as they were by the old reader: number and table, refusals included.
-pub read-same : (bytes : List ℕ) → readOf (withField bytes) ≡ Old.readOf bytes
-unfolding withField readOf checkSheet Old.readOf Old.checkSheet
-read-same bytes =
+pub then-read : (bytes : List ℕ) → Then.readOf (withField bytes) ≡ Old.readOf bytes
+unfolding withField Then.readOf Then.checkSheet Old.readOf Old.checkSheet
+then-read bytes =
     by-ltb (length bytes) 24
     (λ _ h. short h)
-    (λ _ h. subst (λ (l : List ℕ). readOf (take 24 bytes ++ (written 0 ++ drop 24 bytes)) ≡ Old.readOf l) (take-append-drop 24 bytes)
+    (λ _ h. subst (λ (l : List ℕ). Then.readOf (take 24 bytes ++ (written 0 ++ drop 24 bytes)) ≡ Old.readOf l) (take-append-drop 24 bytes)
     (read-now (take 24 bytes) (drop 24 bytes) (length-take-le 24 bytes h)))
   where
     with : List ℕ
@@ -198,8 +199,12 @@ read-same bytes =
     size : length with ≡ length bytes + 8
     size = field-long bytes
 
-    short : length bytes < 24 → readOf with ≡ Old.readOf bytes
+    short : length bytes < 24 → Then.readOf with ≡ Old.readOf bytes
     short h = rw (lt-ltb (length with) 33 (omega (arith, size)), lt-ltb (length bytes) 25 (omega arith))
+
+-- 1. With the fields of K = 0 and r = 0 put in, bytes are answered as they were by the old reader: number and table, refusals included.
+pub read-same : (bytes : List ℕ) → readOf (widen (withField bytes)) ≡ Old.readOf bytes
+read-same bytes = Since.read-same (withField bytes) ∙ then-read bytes
 
 -- no byte of a field is a line end
 digit-no-end : (v w : ℕ) → eqb 10 (digitAt v w) ≡ false
@@ -259,10 +264,11 @@ first-malformed bytes h e = rw (le-ltb (length bytes) 33 h, no-fourth bytes (ome
 pub old-malformed : (bytes : List ℕ) → Old.checkSheet bytes ≡ Passed → readOf bytes ≡ record { check = Refused Malformed; table = zeroTable }
 old-malformed bytes h = let o = old-sheet bytes h in first-malformed bytes (o .long) (o .first)
 
--- 3. The sheet of a table with K = 0 is its old sheet with the field of K = 0, and so 8 bytes longer.
-pub sheet-longer : (t : Table) → t .loading ≡ 0 → sheetOf t ≡ withField (Old.sheetOf t)
-unfolding sheetOf Old.sheetOf withField
-sheet-longer t none = ap (λ (k : ℕ). line (t .n ∷ t .normal ∷ t .degraded ∷ k ∷ []) ++ joined (rowLine t) (rowsOf t)) none ∙ sym whole
+-- 3. The sheet of a table with K = 0 and an r of all 0 is its old sheet with the field of K = 0, and with that of r = 0 at each row, and so 8 bytes
+-- longer for each of these fields.
+then-sheet : (t : Table) → t .loading ≡ 0 → Then.sheetOf t ≡ withField (Old.sheetOf t)
+unfolding Then.sheetOf Old.sheetOf withField
+then-sheet t none = ap (λ (k : ℕ). line (t .n ∷ t .normal ∷ t .degraded ∷ k ∷ []) ++ joined (rowLine t) (rowsOf t)) none ∙ sym whole
   where
     a : List ℕ
     a = written (t .n) ++ (written (t .normal) ++ written (t .degraded))
@@ -289,5 +295,9 @@ sheet-longer t none = ap (λ (k : ℕ). line (t .n ∷ t .normal ∷ t .degraded
         ≡ line (t .n ∷ t .normal ∷ t .degraded ∷ 0 ∷ []) ++ joined (rowLine t) (rowsOf t)
     whole = rw (old, take-at a r 24 head, drop-at a r 24 head) (simp append-assoc)
 
-pub eight-longer : (t : Table) → t .loading ≡ 0 → length (sheetOf t) ≡ length (Old.sheetOf t) + 8
-eight-longer t none = ap length (sheet-longer t none) ∙ field-long (Old.sheetOf t)
+pub sheet-longer : (t : Table) → t .loading ≡ 0 → allZero (t .promised) ≡ true → sheetOf t ≡ widen (withField (Old.sheetOf t))
+sheet-longer t none free = Since.sheet-wider t free ∙ ap widen (then-sheet t none)
+
+pub eights-longer : (t : Table) → t .loading ≡ 0 → allZero (t .promised) ≡ true → length (sheetOf t) ≡ length (Old.sheetOf t) + 8 + 8 * t .n
+eights-longer t none free =
+    Since.wider-by t free ∙ ap (λ (k : ℕ). k + 8 * t .n) (ap length (then-sheet t none) ∙ field-long (Old.sheetOf t))

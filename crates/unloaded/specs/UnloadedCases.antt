@@ -1,4 +1,4 @@
--- That the rules kept here are those without loading: P1 and P3 with a K beyond every limit, which they do not look at, and sheets of before.
+-- That the rules from before loading are those without it: P1 and P3 with a K beyond every limit, which they do not look at, and sheets of before.
 -- One table of cases, computed and checked by one theorem.
 use Prim.Native.Nat.{ℕ}
 use mathlib.Core.Bool.{Bool, not, _&&_}
@@ -18,12 +18,13 @@ use Rattle.rules.specs.Rows.{at, rowsOf}
 use Rattle.rules.specs.Sheets.{isLine, numberAt}
 use Rattle.rules.specs.Running.{closeLate}
 use Rattle.rules.specs.Slots.{State, fresh, isReady, chosen}
-use Rattle.rules.specs.Tables.{rowOk, tailOk}
+use Rattle.rules.specs.Tables.{rowOk}
 use Rattle.rules.specs.TextCases.{bytes}
 use Rattle.record.specs.Records.{recordOf, tailSound}
-use Rattle.unloaded.specs.OldRecords as Records
+use Rattle.unpromised.specs.OldRecords as Records
+use Rattle.unpromised.specs.Unpromised as Then
 use Rattle.unloaded.specs.OldSheets as Sheets
-use Rattle.unloaded.specs.Unloaded as Then
+use Rattle.unloaded.specs.Unloaded.{need, without}
 
 -- P1 and P3 with K = 99 slots
 abbrev p1 : Table
@@ -42,22 +43,22 @@ shows s xs = same (s .clock ∷ at (s .got) 1 ∷ at (s .used) 1 ∷ at (s .clos
 -- the planner, worst finishes, the judge and the checks
 abbrev verdicts : Bool
 verdicts =
-    eqb (plannedNumber (Then.planOf p1 .answer)) 0
-    && same (Then.planOf p1 .order) (padded (1 ∷ 2 ∷ 3 ∷ 4 ∷ []))
-    && same (map (Then.worstFinish p1 (padded (1 ∷ 2 ∷ 3 ∷ 4 ∷ []))) (rowsOf p1)) (10 ∷ 8 ∷ 19 ∷ 5 ∷ [])
-    && eqb (rowsLeft (Then.planOf p3 .answer)) 3
-    && eqb (verdictNumber (Then.judgeOf p3 order)) 0
-    && not (verdictYes (Then.judgeOf p3 order))
-    && eqb (verdictRow (Then.judgeOf p3 order)) 2
-    && eqb (checkNumber (Then.checkTable p3)) 0
+    eqb (plannedNumber (Then.planOf without p1 .answer)) 0
+    && same (Then.planOf without p1 .order) (padded (1 ∷ 2 ∷ 3 ∷ 4 ∷ []))
+    && same (map (Then.worstFinish without p1 (padded (1 ∷ 2 ∷ 3 ∷ 4 ∷ []))) (rowsOf p1)) (10 ∷ 8 ∷ 19 ∷ 5 ∷ [])
+    && eqb (rowsLeft (Then.planOf without p3 .answer)) 3
+    && eqb (verdictNumber (Then.judgeOf without p3 order)) 0
+    && not (verdictYes (Then.judgeOf without p3 order))
+    && eqb (verdictRow (Then.judgeOf without p3 order)) 2
+    && eqb (checkNumber (Then.checkTable without p3)) 0
 
 -- the runs of P7 and P8, and a record
 abbrev runs : Bool
 runs =
-    shows (Then.tellAll p3 order (forward (replicate 5 1) ∷ []) fresh .state) (5 ∷ 1 ∷ 1 ∷ 1 ∷ 4 ∷ 4 ∷ 5 ∷ [])
-    && shows (Then.tellAll p3 order (map one (replicate 5 2)) fresh .state) (5 ∷ 2 ∷ 1 ∷ 1 ∷ 4 ∷ 2 ∷ 3 ∷ [])
-    && Records.isSound (recordOf p3 order fresh)
-    && eqb (at (Records.nextRun (recordOf p3 order fresh) 1 .closing) 1) 1
+    shows (Then.tellAll without p3 order (forward (replicate 5 1) ∷ []) fresh .state) (5 ∷ 1 ∷ 1 ∷ 1 ∷ 4 ∷ 4 ∷ 5 ∷ [])
+    && shows (Then.tellAll without p3 order (map one (replicate 5 2)) fresh .state) (5 ∷ 2 ∷ 1 ∷ 1 ∷ 4 ∷ 2 ∷ 3 ∷ [])
+    && Records.isSound without (recordOf p3 order fresh)
+    && eqb (at (Records.nextRun without (recordOf p3 order fresh) 1 .closing) 1) 1
 
 -- a sheet of before, with its line ended after G, is taken, and one of today is not; the field of K = 0 makes the one of the other
 abbrev sheets : Bool
@@ -70,5 +71,5 @@ sheets =
     (bytes "       1       3       2       0\n       4      56     789       1\n")
 
 pub before-loading : T (verdicts && runs && sheets)
-unfolding padded sequence word tableOf refusalNumber checkNumber plannedNumber rowsLeft verdictNumber verdictYes verdictRow isOrder checkOrder fresh isReady chosen rowOk tailOk tailSound digitAt digitOf written valueOf isField isLine numberAt Records.rowSound Records.isSound Records.nextRun Sheets.columnOf Sheets.tableIn Sheets.checkSheet Sheets.withField Then.need Then.isOver Then.serve Then.slot Then.after Then.horizon Then.worstFinish Then.slack Then.checkTable Then.checkBoth Then.passes Then.taker Then.fill Then.choice Then.planOf Then.tightest Then.judgeOf Then.runSlot Then.tellOne Then.tellForward Then.tellAll closeLate
+unfolding padded sequence word tableOf refusalNumber checkNumber plannedNumber rowsLeft verdictNumber verdictYes verdictRow isOrder checkOrder fresh isReady chosen rowOk Then.tailOk tailSound digitAt digitOf written valueOf isField isLine numberAt Records.rowSound Records.isSound Records.nextRun Sheets.columnOf Sheets.tableIn Sheets.checkSheet Sheets.withField need Then.isOver Then.serve Then.slot Then.horizon Then.worstFinish Then.slack Then.checkTable Then.checkBoth Then.passes Then.taker Then.fill Then.choice Then.planOf Then.tightest Then.judgeOf Then.runSlot Then.tellOne Then.tellForward Then.tellAll closeLate
 before-loading = tt

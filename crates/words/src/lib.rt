@@ -16,6 +16,8 @@ const DEADLINE: usize = 4 + 64 * 2;
 
 const LEVEL: usize = 4 + 64 * 3;
 
+const PROMISED: usize = 4 + 64 * 4;
+
 // Where the columns of a state's words begin, after the clock.
 const GOT: usize = 1;
 
@@ -50,7 +52,7 @@ fn put_column(words: &mut [u32], from: usize, entries: [u32; 64])
 }
 
 // The table that the words hold, as specs/Words lays it out.
-pub fn table_in(words: &[u32; 260]) -> Table
+pub fn table_in(words: &[u32; 324]) -> Table
     ensures { λ t. ⌜ t ≡ tableIn (now (words .entry)) ⌝ }
 {
     let n = words[0];
@@ -61,6 +63,7 @@ pub fn table_in(words: &[u32; 260]) -> Table
     let work = column(words, WORK);
     let deadline = column(words, DEADLINE);
     let level = column(words, LEVEL);
+    let promised = column(words, PROMISED);
     Table {
         n,
         normal,
@@ -70,14 +73,15 @@ pub fn table_in(words: &[u32; 260]) -> Table
         work,
         deadline,
         level,
+        promised,
     }
 }
 
 // The words of a table.
-pub fn words_of(t: Table) -> [u32; 260]
+pub fn words_of(t: Table) -> [u32; 324]
     ensures { λ r. ⌜ r ≡ wordsOf t ⌝ }
 {
-    let mut words = [0u32; 260];
+    let mut words = [0u32; 324];
     words[0] = t.n;
     words[1] = t.normal;
     words[2] = t.degraded;
@@ -86,15 +90,17 @@ pub fn words_of(t: Table) -> [u32; 260]
     let work = t.work;
     let deadline = t.deadline;
     let level = t.level;
+    let promised = t.promised;
     put_column(&mut words, RELEASE, release);
     put_column(&mut words, WORK, work);
     put_column(&mut words, DEADLINE, deadline);
     put_column(&mut words, LEVEL, level);
+    put_column(&mut words, PROMISED, promised);
     words
 }
 
 // The run record that the words of a table, an order and the words of a state hold.
-pub fn run_in(table: &[u32; 260], order: [u8; 64], state: [u32; 193]) -> Run
+pub fn run_in(table: &[u32; 324], order: [u8; 64], state: [u32; 193]) -> Run
     ensures { λ r. ⌜ r ≡ runIn (now (table .entry)) order state ⌝ }
 {
     let t = table_in(table);

@@ -7,7 +7,7 @@ use lib.Dec.{leb}
 use Rattle.rules.specs.declared.Table.{Table}
 use Rattle.rules.specs.Lists.{all}
 use Rattle.rules.specs.Rows.{rowsOf}
-use Rattle.rules.specs.Tables.{countOk, speedsOk, loadingOk, rowOk, checkTable}
+use Rattle.rules.specs.Tables.{countOk, speedsOk, loadingOk, rowOk, tailOk, checkTable}
 use Rattle.theory.specs.Tests.{and-right}
 use borrow.Author.Needs.{needs}
 use Rattle.checks.proofs.check_table.Statement.{statement}
@@ -26,6 +26,9 @@ speeds-passed c = c .before .before
 abbrev loading-passed : tie.Else4 → tie.Else3
 loading-passed c = c .before .before
 
+abbrev limits-passed : tie.Else5 → tie.Else4
+limits-passed c = c .before .before
+
 -- the table, past each check that passed
 abbrev table1 : tie.Else1 → Table
 table1 c = c .before .before .args .t
@@ -38,6 +41,9 @@ table3 c = table2 (speeds-passed c)
 
 abbrev table4 : tie.Else4 → Table
 table4 c = table3 (loading-passed c)
+
+abbrev table5 : tie.Else5 → Table
+table5 c = table4 (limits-passed c)
 
 counted : (c : tie.Else1) → countOk (table1 c .n) ≡ true
 counted c = sym (c .before .count-ok .ensures) ∙ not-false _ (c .if1 .left)
@@ -55,6 +61,9 @@ loaded c = sym (c .before .loading-ok .ensures) ∙ not-false _ (c .if3 .left)
 
 limited : (c : tie.Else4) → all (rowOk (table4 c)) (rowsOf (table4 c)) ≡ true
 limited c = sym (c .before .rows-ok .ensures) ∙ not-false _ (c .if4 .left)
+
+tailed : (c : tie.Else5) → tailOk (table5 c) ≡ true
+tailed c = sym (c .before .tail-ok .ensures) ∙ not-false _ (c .if5 .left)
 
 returns : tie.Need-returns
 unfolding checkTable
@@ -106,15 +115,33 @@ returns-5 c =
       sym (c .before .tail-ok .ensures) ∙ not-true _ (c .if5 .taken),
     )
 
+promises-ok-requires : tie.Need-promises-ok-requires
+promises-ok-requires c κs = few (count-passed (speeds-passed (loading-passed (limits-passed c))))
+
 returns-6 : tie.Need-returns-6
 unfolding checkTable
 returns-6 c =
+    let d = limits-passed (c .before .before) in
     rw (
-      counted (count-passed (speeds-passed (loading-passed (c .before .before)))),
-      paced (speeds-passed (loading-passed (c .before .before))),
-      loaded (loading-passed (c .before .before)),
-      limited (c .before .before),
-      sym (c .before .tail-ok .ensures) ∙ not-false _ (c .if5 .left),
+      counted (count-passed (speeds-passed (loading-passed d))),
+      paced (speeds-passed (loading-passed d)),
+      loaded (loading-passed d),
+      limited d,
+      tailed (c .before .before),
+      sym (c .before .promises-ok .ensures) ∙ not-true _ (c .if6 .taken),
+    )
+
+returns-7 : tie.Need-returns-7
+unfolding checkTable
+returns-7 c =
+    let d = limits-passed (c .before .before) in
+    rw (
+      counted (count-passed (speeds-passed (loading-passed d))),
+      paced (speeds-passed (loading-passed d)),
+      loaded (loading-passed d),
+      limited d,
+      tailed (c .before .before),
+      sym (c .before .promises-ok .ensures) ∙ not-false _ (c .if6 .left),
     )
 
 pub check-table-spec : {M : Type 1} → statement M
@@ -131,4 +158,6 @@ check-table-spec =
     returns-4
     tail-ok-requires
     returns-5
-    returns-6)
+    promises-ok-requires
+    returns-6
+    returns-7)

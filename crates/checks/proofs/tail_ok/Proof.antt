@@ -13,6 +13,9 @@ first-passed c = c .before .before .before
 abbrev second-passed : tie.After-zero-after3 → tie.Else2
 second-passed c = c .before .before .before
 
+abbrev third-passed : tie.After-zero-after4 → tie.Else3
+third-passed c = c .before .before .before
+
 zero-after-requires : tie.Need-zero-after-requires
 zero-after-requires c κs = search needs
 
@@ -27,7 +30,7 @@ returns-2 : tie.Need-returns-2
 unfolding tailOk
 returns-2 c =
     let b = first-passed (c .before) in
-    simp (sym (b .before .zero-after .ensures) ∙ not-false _ (b .if1 .left), sym (c .before .zero-after2 .ensures) ∙ not-true _ (c .if2 .taken))
+    rw (sym (b .before .zero-after .ensures) ∙ not-false _ (b .if1 .left), sym (c .before .zero-after2 .ensures) ∙ not-true _ (c .if2 .taken))
 
 zero-after-requires-3 : tie.Need-zero-after-requires-3
 zero-after-requires-3 c κs = search needs
@@ -37,7 +40,7 @@ unfolding tailOk
 returns-3 c =
     let d = second-passed (c .before) in
     let b = first-passed (d .before) in
-    simp (
+    rw (
       sym (b .before .zero-after .ensures) ∙ not-false _ (b .if1 .left),
       sym (d .before .zero-after2 .ensures) ∙ not-false _ (d .if2 .left),
       sym (c .before .zero-after3 .ensures) ∙ not-true _ (c .if3 .taken),
@@ -49,14 +52,32 @@ zero-after-requires-4 c κs = search needs
 returns-4 : tie.Need-returns-4
 unfolding tailOk
 returns-4 c =
-    let e = c .before .before .before in
+    let e = third-passed (c .before) in
     let d = second-passed (e .before) in
     let b = first-passed (d .before) in
-    simp (
+    rw (
       sym (b .before .zero-after .ensures) ∙ not-false _ (b .if1 .left),
       sym (d .before .zero-after2 .ensures) ∙ not-false _ (d .if2 .left),
       sym (e .before .zero-after3 .ensures) ∙ not-false _ (e .if3 .left),
-    ) (c .zero-after4 .ensures)
+      sym (c .before .zero-after4 .ensures) ∙ not-true _ (c .if4 .taken),
+    )
+
+zero-after-requires-5 : tie.Need-zero-after-requires-5
+zero-after-requires-5 c κs = search needs
+
+returns-5 : tie.Need-returns-5
+unfolding tailOk
+returns-5 c =
+    let g = c .before .before .before in
+    let e = third-passed (g .before) in
+    let d = second-passed (e .before) in
+    let b = first-passed (d .before) in
+    rw (
+      sym (b .before .zero-after .ensures) ∙ not-false _ (b .if1 .left),
+      sym (d .before .zero-after2 .ensures) ∙ not-false _ (d .if2 .left),
+      sym (e .before .zero-after3 .ensures) ∙ not-false _ (e .if3 .left),
+      sym (g .before .zero-after4 .ensures) ∙ not-false _ (g .if4 .left),
+    ) (c .zero-after5 .ensures)
 
 pub tail-ok-spec : {M : Type 1} → statement M
 tail-ok-spec =
@@ -69,4 +90,6 @@ tail-ok-spec =
     zero-after-requires-3
     returns-3
     zero-after-requires-4
-    returns-4)
+    returns-4
+    zero-after-requires-5
+    returns-5)

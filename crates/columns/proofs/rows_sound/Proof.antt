@@ -13,15 +13,15 @@ use Rattle.columns.proofs.rows_sound.Statement.{statement}
 use Rattle.columns.proofs.rows_sound.Tie as tie
 
 abbrev Inv-loop : tie.InvT-loop
-Inv-loop n normal loading clock work deadline level got used closing i₀ i =
-    (i ≤ n) × (all (rowSoundAt normal loading clock work deadline level got used closing) (rowsTo i) ≡ true)
+Inv-loop n normal degraded loading clock work deadline level promised got used closing i₀ i =
+    (i ≤ n) × (all (rowSoundAt normal degraded loading clock work deadline level promised got used closing) (rowsTo i) ≡ true)
 
 abbrev μ-loop : tie.MeasureT-loop
-μ-loop n normal loading clock work deadline level got used closing i₀ i = n - i
+μ-loop n normal degraded loading clock work deadline level promised got used closing i₀ i = n - i
 
 -- the turn that a row was tested in
 abbrev turn-of : tie.After-row-sound Inv-loop μ-loop → tie.In-loop Inv-loop μ-loop
-turn-of c = c .before .before .before .before .before .before .before
+turn-of c = c .before .before .before .before .before .before .before .before
 
 loop-holds : tie.Need-loop-holds Inv-loop μ-loop
 loop-holds c = (omega arith, refl)
@@ -65,6 +65,12 @@ mul-row-sound-6 c = search needs
 element-copy-out-row-sound-6 : tie.Need-element-copy-out-row-sound-6 Inv-loop μ-loop
 element-copy-out-row-sound-6 c = search needs
 
+mul-row-sound-7 : tie.Need-mul-row-sound-7 Inv-loop μ-loop
+mul-row-sound-7 c = search needs
+
+element-copy-out-row-sound-7 : tie.Need-element-copy-out-row-sound-7 Inv-loop μ-loop
+element-copy-out-row-sound-7 c = search needs
+
 row-sound-requires : tie.Need-row-sound-requires Inv-loop μ-loop
 row-sound-requires c κs = search needs
 
@@ -72,9 +78,9 @@ returns : tie.Need-returns Inv-loop μ-loop
 returns c =
     let a = turn-of (c .before) .before in
     let x = a .before .args in
-    let p = rowSoundAt (x .normal) (x .loading) (x .clock) (x .work .now) (x .deadline .now) (x .level .now) (x .got .now) (x .used .now) (x .closing .now) in
+    let p = rowSoundAt (x .normal) (x .degraded) (x .loading) (x .clock) (x .work .now) (x .deadline .now) (x .level .now) (x .promised .now) (x .got .now) (x .used .now) (x .closing .now) in
     let e : p (a .loop .i + 1) ≡ false =
-    row-next (x .normal) (x .loading) (x .clock) (x .work .now) (x .deadline .now) (x .level .now) (x .got .now) (x .used .now) (x .closing .now) (a .loop .i)
+    row-next (x .normal) (x .degraded) (x .loading) (x .clock) (x .work .now) (x .deadline .now) (x .level .now) (x .promised .now) (x .got .now) (x .used .now) (x .closing .now) (a .loop .i)
     ∙ sym (c .before .row-sound .ensures)
     ∙ not-true _ (c .if1 .taken) in
     sym (all-rows-fail p (a .loop .i) (x .n) (omega arith) e)
@@ -89,9 +95,9 @@ loop-again : tie.Need-loop-again Inv-loop μ-loop
 loop-again c =
     let a = turn-of (c .before) .before in
     let x = a .before .args in
-    let p = rowSoundAt (x .normal) (x .loading) (x .clock) (x .work .now) (x .deadline .now) (x .level .now) (x .got .now) (x .used .now) (x .closing .now) in
+    let p = rowSoundAt (x .normal) (x .degraded) (x .loading) (x .clock) (x .work .now) (x .deadline .now) (x .level .now) (x .promised .now) (x .got .now) (x .used .now) (x .closing .now) in
     let e : p (a .loop .i + 1) ≡ true =
-    row-next (x .normal) (x .loading) (x .clock) (x .work .now) (x .deadline .now) (x .level .now) (x .got .now) (x .used .now) (x .closing .now) (a .loop .i)
+    row-next (x .normal) (x .degraded) (x .loading) (x .clock) (x .work .now) (x .deadline .now) (x .level .now) (x .promised .now) (x .got .now) (x .used .now) (x .closing .now) (a .loop .i)
     ∙ sym (c .before .row-sound .ensures)
     ∙ not-false _ (c .if1 .left) in
     (search needs, all-next p (a .loop .i) (a .loop .inv .1) e)
@@ -100,7 +106,7 @@ returns-2 : tie.Need-returns-2 Inv-loop μ-loop
 returns-2 c =
     let a = c .before in
     let x = a .before .args in
-    let p = rowSoundAt (x .normal) (x .loading) (x .clock) (x .work .now) (x .deadline .now) (x .level .now) (x .got .now) (x .used .now) (x .closing .now) in
+    let p = rowSoundAt (x .normal) (x .degraded) (x .loading) (x .clock) (x .work .now) (x .deadline .now) (x .level .now) (x .promised .now) (x .got .now) (x .used .now) (x .closing .now) in
     let e : a .loop .i ≡ x .n = omega arith in
     sym (a .loop .inv .1) ∙ ap (λ (k : ℕ). all p (rowsTo k)) e
 
@@ -124,6 +130,8 @@ rows-sound-spec =
     element-copy-out-row-sound-5
     mul-row-sound-6
     element-copy-out-row-sound-6
+    mul-row-sound-7
+    element-copy-out-row-sound-7
     row-sound-requires
     returns
     add-i

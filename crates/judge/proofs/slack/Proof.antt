@@ -13,12 +13,12 @@ cast-result-2 : tie.Need-cast-result-2
 cast-result-2 c = search needs
 
 sub-result : tie.Need-sub-result
-sub-result c = difference-fits (c .args .deadline) (c .args .finish) (c .pre .0) (c .pre .1)
+sub-result c = difference-fits (c .args .deadline) (c .args .clock) (c .pre .0) (c .pre .1)
 
 returns : tie.Need-returns
 returns c =
-    toZ-ofZ (difference-fits (c .args .deadline) (c .args .finish) (c .pre .0) (c .pre .1))
-    ∙ difference (c .args .deadline) (c .args .finish) (c .pre .0) (c .pre .1)
+    toZ-ofZ (difference-fits (c .args .deadline) (c .args .clock) (c .pre .0) (c .pre .1))
+    ∙ difference (c .args .deadline) (c .args .clock) (c .pre .0) (c .pre .1)
 
 pub slack-spec : {M : Type 1} → statement M
 slack-spec = tie.close (tie.spec cast-result cast-result-2 sub-result returns)

@@ -14,11 +14,11 @@ use Rattle.judge.proofs.tightest.Statement.{statement}
 use Rattle.judge.proofs.tightest.Tie as tie
 
 abbrev Inv-loop : tie.InvT-loop
-Inv-loop n deadline finish row₀ least₀ k₀ row least k =
-    (k ≤ n) × (toZ w32 least ≡ slackIn deadline finish row) × (leastFrom (slackIn deadline finish) n row k ≡ leastBy (slackIn deadline finish) 1 (rowsTo n))
+Inv-loop n deadline clock row₀ least₀ k₀ row least k =
+    (k ≤ n) × (toZ w32 least ≡ slackIn deadline clock row) × (leastFrom (slackIn deadline clock) n row k ≡ leastBy (slackIn deadline clock) 1 (rowsTo n))
 
 abbrev μ-loop : tie.MeasureT-loop
-μ-loop n deadline finish row₀ least₀ k₀ row least k = n - k
+μ-loop n deadline clock row₀ least₀ k₀ row least k = n - k
 
 array-read-slack : tie.Need-array-read-slack Inv-loop μ-loop
 array-read-slack c = search needs

@@ -17,8 +17,8 @@ use Rattle.judge.specs.Promise.{verdict-no, verdict-yes}
 use Rattle.judge.proofs.verdict.Statement.{statement}
 use Rattle.judge.proofs.verdict.Tie as tie
 
-worst-finishes-requires : tie.Need-worst-finishes-requires
-worst-finishes-requires c κs = search needs
+latest-clocks-requires : tie.Need-latest-clocks-requires
+latest-clocks-requires c κs = search needs
 
 tightest-requires : tie.Need-tightest-requires
 tightest-requires c κs =
@@ -28,11 +28,11 @@ tightest-requires c κs =
     let o = s .args .order in
     let ok = checked t o (s .pre) in
     let f = facts t (ok .accepted) in
-    (f .some, f .few, slack-small t o ok (w .worst-finishes .result) (w .worst-finishes .ensures))
+    (f .some, f .few, slack-small t o ok (w .latest-clocks .result) (w .latest-clocks .ensures))
 
 -- the row found, and its slack read back from its bits
 module _ (c : tie.After-struct-told) where
-  abbrev finished : tie.After-worst-finishes
+  abbrev finished : tie.After-latest-clocks
   finished = c .before .before .before
 
   abbrev t : Table
@@ -47,14 +47,14 @@ module _ (c : tie.After-struct-told) where
   is-tightest : c .before .tightest .result .row ≡ tightest t o
   is-tightest =
       let w = finished in
-      c .before .tightest .ensures .0 ∙ least-is t o (checked t o (w .before .pre)) (w .worst-finishes .result) (w .worst-finishes .ensures)
+      c .before .tightest .ensures .0 ∙ least-is t o (checked t o (w .before .pre)) (w .latest-clocks .result) (w .latest-clocks .ensures)
 
   is-least : found ≡ slack t o (tightest t o)
   is-least =
       let w = finished in
       toZ-ofZ {w = w32} {z = c .before .tightest .result .slack} (record { sfits = c .struct-told .given .1 .0 .1 })
-      ∙ c .before .tightest .ensures .1 ∙ ap (slackIn (t .deadline) (w .worst-finishes .result)) is-tightest
-      ∙ least-slack t o (checked t o (w .before .pre)) (w .worst-finishes .result) (w .worst-finishes .ensures)
+      ∙ c .before .tightest .ensures .1 ∙ ap (slackIn (t .deadline) (w .latest-clocks .result)) is-tightest
+      ∙ least-slack t o (checked t o (w .before .pre)) (w .latest-clocks .result) (w .latest-clocks .ensures)
 
 returns : tie.Need-returns
 returns c =
@@ -67,4 +67,4 @@ returns-2 c =
     verdict-yes (t s) (o s) (s .before .tightest .result .row) (found s) (is-tightest s) (is-least s) (c .if1 .left)
 
 pub verdict-spec : {M : Type 1} → statement M
-verdict-spec = tie.close (tie.spec worst-finishes-requires tightest-requires returns returns-2)
+verdict-spec = tie.close (tie.spec latest-clocks-requires tightest-requires returns returns-2)

@@ -33,16 +33,22 @@ mul-level c = search needs
 array-write-level : tie.Need-array-write-level
 array-write-level c = search needs
 
-add-t19 : tie.Need-add-t19
-add-t19 c = search needs
+mul-promised : tie.Need-mul-promised
+mul-promised c = search needs
+
+array-write-promised : tie.Need-array-write-promised
+array-write-promised c = search needs
+
+add-t22 : tie.Need-add-t22
+add-t22 c = search needs
 
 returns : tie.Need-returns
 unfolding withRow
-returns c = rw (lt-ltb (c .before .before .before .before .before .args .t .n) 64 (omega arith))
+returns c = rw (lt-ltb (c .before .before .before .before .before .before .args .t .n) 64 (omega arith))
 
 returns-2 : tie.Need-returns-2
 unfolding withRow
-returns-2 c = rw (le-ltb (c .before .before .before .before .before .args .t .n) 64 (omega arith))
+returns-2 c = rw (le-ltb (c .before .before .before .before .before .before .args .t .n) 64 (omega arith))
 
 pub with-row-spec : {M : Type 1} → statement M
 with-row-spec =
@@ -57,6 +63,8 @@ with-row-spec =
     array-write-deadline
     mul-level
     array-write-level
-    add-t19
+    mul-promised
+    array-write-promised
+    add-t22
     returns
     returns-2)

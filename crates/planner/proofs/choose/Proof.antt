@@ -14,7 +14,7 @@ use Rattle.sweep.specs.Masks.{bit, cleared-ones, one-shl}
 use Rattle.sweep.specs.Padded.{zeros}
 use Rattle.planner.specs.Trying.{leftOf, KnownAt}
 use Rattle.planner.specs.Taking.{Waiting, Taken, waiting-start}
-use Rattle.planner.specs.Turns.{KnownIn, known-same, normal-speed, degraded-speed, open-entries, normal-first, degraded-first, low-taken, high-taken, taken-range}
+use Rattle.planner.specs.Turns.{KnownIn, known-same, normal-speed, degraded-speed, degraded-parts, open-entries, normal-first, degraded-first, low-taken, high-taken, taken-range}
 use Rattle.planner.specs.Turns.{row-is, row-some, normal-within, degraded-within, waiting-next, normal-next, degraded-next}
 use Rattle.planner.specs.Placing.{Placing, placing-start, placing-done, placing-stuck, placing-turn, taker-range, taker-bit}
 use Rattle.planner.proofs.choose.Statement.{statement}
@@ -39,7 +39,7 @@ abbrev start : tie.At-loop Inv-loop μ-loop → tie.Start Inv-loop μ-loop
 start l = prepared l .before
 
 abbrev turn-of : tie.After-period Inv-loop μ-loop → tie.In-loop Inv-loop μ-loop
-turn-of c = c .before .before .before .before .before .before .before .before
+turn-of c = c .before .before .before .before .before .before .before .before .before .before .before .before
 
 abbrev failed : tie.After-slow-period Inv-loop μ-loop → tie.Then1 Inv-loop μ-loop
 failed c = c .before .before .before .before .before .before .before .before
@@ -67,21 +67,22 @@ loop-holds c =
       degraded-first t (s .pre) (w .prepare .result) (w .prepare .ensures) (first .result),
     )
 
-first-in-time-requires : tie.Need-first-in-time-requires Inv-loop μ-loop
-first-in-time-requires c κs =
+first-low-requires : tie.Need-first-low-requires Inv-loop μ-loop
+first-low-requires c κs =
     let l = turn-of c .before in
     let w = prepared l in
     let s = start l in
     let t = s .args .t1 in
     let v = w .prepare .result in (
       normal-speed t (s .pre) v (w .prepare .ensures),
+      degraded-parts t (s .pre) v (w .prepare .ensures),
       l .loop .inv .3,
       open-entries t (s .pre) v (w .prepare .ensures) (l .loop .left) (l .loop .waiting) (v .low)
           (l .loop .inv .2),
     )
 
-first-in-time-requires-2 : tie.Need-first-in-time-requires-2 Inv-loop μ-loop
-first-in-time-requires-2 c κs =
+first-in-time-requires : tie.Need-first-in-time-requires Inv-loop μ-loop
+first-in-time-requires c κs =
     let l = turn-of (failed c .before .before) .before in
     let w = prepared l in
     let s = start l in
@@ -111,10 +112,10 @@ module _ (c : tie.Joined1 Inv-loop μ-loop) where
       ⊎-elim
       (λ v. subst (Taken (begun .args .t1) (head .loop .left) (head .loop .waiting)) (sym (v .13))
       (high-taken (begun .args .t1) (begun .pre) (w .result) (w .ensures) (head .loop .left) (head .loop .waiting) (i .1 .holds) (i .2)
-      (c .before .first-in-time .result .found) (v .9 .result .found) (c .before .first-in-time .ensures .0) (v .0 .taken) (v .9 .ensures .0)))
+      (c .before .first-low .result .found) (v .9 .result .found) (c .before .first-low .ensures .0) (v .0 .taken) (v .9 .ensures .0)))
       (λ v. subst (Taken (begun .args .t1) (head .loop .left) (head .loop .waiting)) (sym (v .4))
       (low-taken (begun .args .t1) (begun .pre) (w .result) (w .ensures) (head .loop .left) (head .loop .waiting) (i .1 .holds) (i .2)
-      (c .before .first-in-time .result .found) (c .before .first-in-time .ensures .0) (v .0 .left)))
+      (c .before .first-low .result .found) (c .before .first-low .ensures .0) (v .0 .left)))
       (c .if1 .came)
 
   known : KnownIn (begun .args .t1) (begun .pre) (prepared head .prepare .result) (prepared head .prepare .ensures) (prepared head .prepare .result .degraded) (head .loop .left)
@@ -235,7 +236,7 @@ cast-changed c =
     let w = prepared l .prepare in
     let h = normal-within (s .args .t1) (s .pre) (w .result) (w .ensures) (l .loop .left) (l .loop .waiting) (l .loop .inv .1 .holds)
     (l .loop .inv .2) (e .before .if1 .entry) (taken (e .before)) (e .if2 .left) (held e) _
-    (e .before .before .first-in-time .result .changed) (e .before .before .first-in-time .result .passing) (e .before .before .first-in-time .ensures .1) in
+    (e .before .before .first-low .result .changed) (e .before .before .first-low .result .passing) (e .before .before .first-low .ensures .1) in
     omega (arith, h)
 
 shl-changed : tie.Need-shl-changed Inv-loop μ-loop
@@ -246,7 +247,7 @@ shl-changed c =
     let w = prepared l .prepare in
     let h = normal-within (s .args .t1) (s .pre) (w .result) (w .ensures) (l .loop .left) (l .loop .waiting) (l .loop .inv .1 .holds)
     (l .loop .inv .2) (e .before .if1 .entry) (taken (e .before)) (e .if2 .left) (held e) _
-    (e .before .before .first-in-time .result .changed) (e .before .before .first-in-time .result .passing) (e .before .before .first-in-time .ensures .1) in
+    (e .before .before .first-low .result .changed) (e .before .before .first-low .result .passing) (e .before .before .first-low .ensures .1) in
     h
 
 array-read-slow-changed : tie.Need-array-read-slow-changed Inv-loop μ-loop
@@ -271,7 +272,7 @@ loop-again c =
     let l = entered e in
     let w = prepared l .prepare in
     let gone = c .before .before .before .without in
-    let low = e .before .before .first-in-time in
+    let low = e .before .before .first-low in
     let high = e .before .if1 in
     let p = placing-turn t (s .pre) (l .loop .order) (l .loop .left) (l .loop .place) (l .loop .inv .1)
     (turn (e .before) .loop-test .taken) (mine e) (is e) (some e)
@@ -305,8 +306,8 @@ choose-spec =
     first-rows-requires
     how-many-requires
     loop-holds
+    first-low-requires
     first-in-time-requires
-    first-in-time-requires-2
     returns
     sub-row
     cast-row

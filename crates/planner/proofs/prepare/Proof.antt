@@ -4,7 +4,7 @@ use Prim.Native.Nat.{ℕ, _≤_}
 use mathlib.Core.Path.{sym, subst, _∙_}
 use mathlib.Core.List.{List}
 use Rattle.rules.specs.Rows.{at}
-use Rattle.sweep.specs.CapColumn.{limited, caps-normal, caps-degraded}
+use Rattle.sweep.specs.CapColumn.{limited, limited-parts, caps-normal, caps-degraded}
 use Rattle.sweep.specs.Padded.{Rows}
 use Rattle.sweep.specs.Sorts.{sorted-rows}
 use Rattle.theory.specs.Facts.{facts}
@@ -33,8 +33,11 @@ low-made c = c .before .before .before
 abbrev high-made : tie.After-needs-arg → tie.After-entries-at2
 high-made c = c .before .before
 
-abbrev needs-made : tie.After-normal → tie.After-needs
-needs-made c = c .before .before .before .before
+abbrev parts-made : tie.After-part → tie.After-needs2
+parts-made c = c .before .before .before .before .before
+
+abbrev needs-made : tie.After-needs2 → tie.After-needs
+needs-made c = c .before .before .before
 
 abbrev keys-before : tie.After-sorted2 → tie.After-trial-keys
 keys-before c = keys-made (c .before .before)
@@ -73,12 +76,16 @@ entries-at-requires-2 c κs = sequenced (both-sorted (low-made c .before))
 needs-requires : tie.Need-needs-requires
 needs-requires c κs = limited _ (start (keys-before (sorted-before c)) .pre)
 
+needs-requires-2 : tie.Need-needs-requires-2
+needs-requires-2 c κs = limited-parts _ (start (keys-before (sorted-before (c .before .before .before))) .pre)
+
 degraded-caps-requires : tie.Need-degraded-caps-requires
-degraded-caps-requires c κs = limited _ (start (keys-before (sorted-before (needs-made c .before))) .pre)
+degraded-caps-requires c κs = limited _ (start (keys-before (sorted-before (needs-made (parts-made c) .before))) .pre)
 
 returns : tie.Need-returns
 returns c =
-    let needed = needs-made (c .before) in
+    let parts = parts-made (c .before) in
+    let needed = needs-made parts in
     let high = high-made (needed .before) in
     let low = low-made (high .before) in
     let entered = entries-made (low .before) in
@@ -88,12 +95,14 @@ returns c =
     let s = start k in
     let t = s .args .t1 in
     prepared t (s .pre)
-    (queued .sorted .result) (k .trial-keys .result) (second .sorted2 .result) (entered .entries .result) (needed .needs .result) (c .degraded-caps .result)
+    (queued .sorted .result) (k .trial-keys .result) (second .sorted2 .result) (entered .entries .result) (needed .needs .result) (c .degraded-caps .result) (parts .needs2 .result)
     (low .entries-at .result) (high .entries-at2 .result)
     (queued .sorted .ensures) (k .trial-keys .ensures ∙ keys-of t (t .n)) (second .sorted2 .ensures) (entered .entries .ensures)
     (low .entries-at .ensures) (high .entries-at2 .ensures)
     (needed .needs .ensures ∙ caps-normal t)
-    (caps-degraded t (s .pre) (needed .needs .result) (c .degraded-caps .result) (needed .needs .ensures) (c .degraded-caps .ensures))
+    (caps-degraded t (s .pre) (needed .needs .result) (parts .needs2 .result) (c .degraded-caps .result) (needed .needs .ensures) (parts .needs2 .ensures)
+    (c .degraded-caps .ensures))
+    (parts .needs2 .ensures)
 
 pub prepare-spec : {M : Type 1} → statement M
 prepare-spec =
@@ -106,5 +115,6 @@ prepare-spec =
     entries-at-requires
     entries-at-requires-2
     needs-requires
+    needs-requires-2
     degraded-caps-requires
     returns)

@@ -11,8 +11,8 @@ use Rattle.record.proofs.is_sound.Statement.{statement}
 use Rattle.record.proofs.is_sound.Tie as tie
 
 -- the place past the checks of the table, the order and the clock, from where the rows are checked
-abbrev clock-passed : tie.After-rows-sound-arg6 → tie.Else2
-clock-passed c = c .before .before .before .before .before .before .before
+abbrev clock-passed : tie.After-rows-sound-arg7 → tie.Else2
+clock-passed c = c .before .before .before .before .before .before .before .before
 
 passes-requires : tie.Need-passes-requires
 passes-requires c κs = search needs
@@ -32,7 +32,7 @@ rows-sound-requires c κs =
     let b = clock-passed c .before in
     let r = b .before .before .before .before .args .t1 in
     let l = limits (r .table) (r .order) (passed-true (checkBoth (r .table) (r .order)) (sym (b .before .passes .ensures) ∙ not-false _ (b .if1 .left))) in
-    (l .few, l .runs, l .fast, clock-passed c .if2 .left)
+    (l .few, l .crawls, l .slower, l .fast, clock-passed c .if2 .left)
 
 returns-3 : tie.Need-returns-3
 unfolding isSound rowSound soundAt isOver over

@@ -8,7 +8,7 @@ use mir.Facts.{toZ-ofZ}
 use Rattle.rules.specs.Worst as Worst
 use Rattle.rules.specs.Worst.{worstFinish}
 use Rattle.theory.specs.Facts.{Row}
-use Rattle.report.specs.Jobs.{few, row-at, need-is, finish-is, slack-is, slack-fits, due-small, finish-small}
+use Rattle.report.specs.Jobs.{few, row-at, need-is, finish-is, clock-is, slack-from, slack-fits, due-small, clock-small}
 use Rattle.report.proofs.job_at.Statement.{statement}
 use Rattle.report.proofs.job_at.Tie as tie
 
@@ -22,15 +22,18 @@ is-row s = row-at (s .args .t) (s .args .t2) (s .args .times) (s .pre .0) (s .ar
 range : (s : tie.Start) → (1 ≤ row s) × (row s ≤ 64)
 range s = (is-row s .from, omega (arith, is-row s .upTo, few (s .args .t) (s .args .t2) (s .pre .0 .checked)))
 
--- the places of the code, each from a later one: the deadline is about to be read, the need is, the finish is
+-- the places of the code, each from a later one: the deadline is about to be read, the need is, the finish is, the clock is
 abbrev start : tie.After-deadlines2 → tie.Start
-start c = c .before .before .before .before
+start c = c .before .before .before .before .before
 
 abbrev due-next : tie.After-needs2 → tie.After-deadlines2
 due-next c = c .before .before
 
 abbrev need-next : tie.After-finishes2 → tie.After-needs2
 need-next c = c .before .before
+
+abbrev finish-next : tie.After-clocks2 → tie.After-finishes2
+finish-next c = c .before .before
 
 sub-row : tie.Need-sub-row
 sub-row c = search needs
@@ -50,24 +53,28 @@ entry-requires-2 c κs = range (start (due-next c))
 entry-requires-3 : tie.Need-entry-requires-3
 entry-requires-3 c κs = range (start (due-next (need-next c)))
 
+entry-requires-4 : tie.Need-entry-requires-4
+entry-requires-4 c κs = range (start (due-next (need-next (finish-next c))))
+
 slack-requires : tie.Need-slack-requires
 slack-requires c κs =
-    let d = c .before .before .before .before in
+    let d = c .before .before .before .before .before .before in
     let s = start (d .before) in
     let u = is-row s in
     let ok = s .pre .0 .checked in (
       omega (arith, d .entry .ensures, due-small (s .args .t) (s .args .t2) ok (row s) u),
       omega (
         arith,
-        c .entry3 .ensures,
-        finish-is (s .args .t) (s .args .t2) (s .args .times) (s .pre .0) (row s) u,
-        finish-small (s .args .t) (s .args .t2) ok (row s) u,
+        c .entry4 .ensures,
+        clock-is (s .args .t) (s .args .t2) (s .args .times) (s .pre .0) (row s) u,
+        clock-small (s .args .t) (s .args .t2) ok (row s) u,
       ),
     )
 
 returns : tie.Need-returns
 returns c =
-    let f = c .before in
+    let k = c .before in
+    let f = k .before .before in
     let n = f .before .before in
     let d = n .before .before in
     let s = start (d .before) in
@@ -76,7 +83,8 @@ returns c =
     let u = is-row s in
     let finish : f .entry3 .result ≡ worstFinish t o (row s) = f .entry3 .ensures ∙ finish-is t o (s .args .times) (s .pre .0) (row s) u in
     let slack : c .slack .result ≡ Worst.slack t o (row s) =
-    c .slack .ensures ∙ slack-is t o (row s) (d .entry .result) (f .entry3 .result) (d .entry .ensures) finish in
+    c .slack .ensures
+    ∙ slack-from t o (row s) (d .entry .result) (k .entry4 .result) (d .entry .ensures) (k .entry4 .ensures ∙ clock-is t o (s .args .times) (s .pre .0) (row s) u) in
     record {
       place = refl;
       row = refl;
@@ -95,5 +103,6 @@ job-at-spec =
     entry-requires
     entry-requires-2
     entry-requires-3
+    entry-requires-4
     slack-requires
     returns)

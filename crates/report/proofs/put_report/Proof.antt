@@ -29,7 +29,7 @@ put-jobs-requires : tie.Need-put-jobs-requires
 put-jobs-requires c κs =
     let m = columns c in
     let s = start m in
-    (record { checked = s .pre .0; needs = m .timed .ensures .0; finishes = m .timed .ensures .1 }, omega (arith, s .pre .1))
+    (record { checked = s .pre .0; needs = m .timed .ensures .0; finishes = m .timed .ensures .1; clocks = m .timed .ensures .2 }, omega (arith, s .pre .1))
 
 put-totals-requires : tie.Need-put-totals-requires
 put-totals-requires c κs =

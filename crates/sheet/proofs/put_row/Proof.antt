@@ -1,13 +1,28 @@
--- The row's figures, on a line of four fields.
+-- The row's release, and a line of its four other figures.
 use borrow.Author.Needs.{needs}
-use Rattle.fields.specs.Wrote.{wrote-as}
+use native.Mathlib.Omega.{arith}
+use lib.ListN.{getD}
+use Rattle.fields.specs.Lengths.{written-long}
+use Rattle.fields.specs.Wrote.{wrote-as, wrote-then}
 use Rattle.sheet.specs.Writer.{row-line}
 use Rattle.sheet.proofs.put_row.Statement.{statement}
 use Rattle.sheet.proofs.put_row.Tie as tie
 
--- the start, from where the line is put
-abbrev start : tie.After-put-four → tie.Start
-start g = g .before .before .before .before .before .before .before
+-- the place where the release is put, from where the other figures are about to be, and the start, from there
+abbrev release-put : tie.After-put-four-arg5 → tie.After-put-field
+release-put c = c .before .before .before .before .before .before .before
+
+abbrev start : tie.After-put-field → tie.Start
+start f = f .before .before .before .before
+
+mul-put-field : tie.Need-mul-put-field
+mul-put-field c = search needs
+
+element-copy-out-put-field : tie.Need-element-copy-out-put-field
+element-copy-out-put-field c = search needs
+
+put-field-requires : tie.Need-put-field-requires
+put-field-requires c κs = search needs
 
 mul-put-four : tie.Need-mul-put-four
 mul-put-four c = search needs
@@ -34,7 +49,7 @@ element-copy-out-put-four-4 : tie.Need-element-copy-out-put-four-4
 element-copy-out-put-four-4 c = search needs
 
 put-four-requires : tie.Need-put-four-requires
-put-four-requires c κs = search needs
+put-four-requires c κs = let s = start (release-put c) in omega (arith, written-long (getD (s .args .t3 .release) (s .args .k) 0))
 
 same-length : tie.Need-same-length
 same-length c = search needs
@@ -42,13 +57,17 @@ same-length c = search needs
 returns : tie.Need-returns
 returns c =
     let g = c .before .before in
-    let s = start g in
-    wrote-as (row-line (s .args .t3) (s .args .k)) (g .put-four .ensures)
+    let f = release-put (g .before) in
+    let s = start f in
+    wrote-as (row-line (s .args .t3) (s .args .k)) (wrote-then (f .put-field .ensures) (g .put-four .ensures))
 
 pub put-row-spec : {M : Type 1} → statement M
 put-row-spec =
     tie.close
     (tie.spec
+    mul-put-field
+    element-copy-out-put-field
+    put-field-requires
     mul-put-four
     element-copy-out-put-four
     mul-put-four-2

@@ -12,8 +12,8 @@ use Rattle.text.proofs.put_order.Tie as tie
 abbrev first-put : tie.After-put-places-arg → tie.After-put-pair
 first-put c = c .before .before .before
 
-worst-finishes-requires : tie.Need-worst-finishes-requires
-worst-finishes-requires c κs = let s = c .before in both-pass (s .args .t) (s .args .order) (s .pre .0 .accepted) (s .pre .0 .order)
+latest-clocks-requires : tie.Need-latest-clocks-requires
+latest-clocks-requires c κs = let s = c .before in both-pass (s .args .t) (s .args .order) (s .pre .0 .accepted) (s .pre .0 .order)
 
 put-pair-requires : tie.Need-put-pair-requires
 put-pair-requires c κs = search needs
@@ -23,7 +23,7 @@ unfolding written
 put-places-requires c κs =
     let f = first-put c .before .before in
     let s = f .before .before in
-    (record { right = s .pre .0; worst = f .worst-finishes .ensures }, omega (arith, few (s .args .t) (s .args .order) (s .pre .0)))
+    (record { right = s .pre .0; counted = f .latest-clocks .ensures }, omega (arith, few (s .args .t) (s .args .order) (s .pre .0)))
 
 same-length : tie.Need-same-length
 same-length c = search needs
@@ -37,7 +37,7 @@ pub put-order-spec : {M : Type 1} → statement M
 put-order-spec =
     tie.close
     (tie.spec
-    worst-finishes-requires
+    latest-clocks-requires
     put-pair-requires
     put-places-requires
     same-length

@@ -1,4 +1,4 @@
--- The place's row is a row of the table, and its worst finish is not after its deadline.
+-- The place's row is a row of the table, and the clock that its slack counts from is not after its deadline.
 use Prim.Native.Nat.{_-_}
 use borrow.Author.Needs.{needs}
 use native.Mathlib.Omega.{arith}
@@ -13,11 +13,11 @@ use Rattle.text.proofs.put_place.Tie as tie
 row : (s : tie.Start) → Row (s .args .t) (getD (s .args .t4) (s .args .place - 1) 0)
 row s = place-row (s .args .t) (s .args .t4) (s .args .t5) (s .pre .0) (s .args .place) (s .pre .1) (s .pre .2)
 
--- the places of the code, each from a later one: the row's deadline is about to be read, its finish is
+-- the places of the code, each from a later one: the row's deadline is about to be read, its clock is
 abbrev start : tie.After-deadline2 → tie.Start
 start c = c .before .before .before
 
-abbrev deadline-next : tie.After-finishes → tie.After-deadline2
+abbrev deadline-next : tie.After-clocks → tie.After-deadline2
 deadline-next c = c .before .before
 
 sub-row : tie.Need-sub-row

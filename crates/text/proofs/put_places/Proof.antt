@@ -14,10 +14,10 @@ use Rattle.text.proofs.put_places.Statement.{statement}
 use Rattle.text.proofs.put_places.Tie as tie
 
 abbrev Inv-loop : tie.InvT-loop
-Inv-loop out₀ at t order finishes next₀ k₀ out next k = (k ≤ t .n) × (length out ≡ length out₀) × Wrote out₀ at out next (joined (placeLine t order) (rowsTo k))
+Inv-loop out₀ at t order clocks next₀ k₀ out next k = (k ≤ t .n) × (length out ≡ length out₀) × Wrote out₀ at out next (joined (placeLine t order) (rowsTo k))
 
 abbrev μ-loop : tie.MeasureT-loop
-μ-loop out₀ at t order finishes next₀ k₀ out next k = t .n - k
+μ-loop out₀ at t order clocks next₀ k₀ out next k = t .n - k
 
 -- the start, from the loop's head, and the head, from where a row's line is about to be put
 abbrev start : tie.At-loop Inv-loop μ-loop → tie.Start Inv-loop μ-loop

@@ -1,4 +1,4 @@
--- The four numbers and the four columns are the table's own.
+-- The four numbers and the five columns are the table's own.
 use borrow.Author.Needs.{needs}
 use Rattle.words.specs.Words.{tableIn}
 use Rattle.words.proofs.table_in.Statement.{statement}
@@ -28,14 +28,18 @@ column-requires-3 c κs = search needs
 column-requires-4 : tie.Need-column-requires-4
 column-requires-4 c κs = search needs
 
+column-requires-5 : tie.Need-column-requires-5
+column-requires-5 c κs = search needs
+
 returns : tie.Need-returns
 unfolding tableIn
 returns c =
     rw (
-      c .before .before .before .before .before .before .column .ensures,
-      c .before .before .before .before .column2 .ensures,
-      c .before .before .column3 .ensures,
-      c .column4 .ensures,
+      c .before .before .before .before .before .before .before .before .column .ensures,
+      c .before .before .before .before .before .before .column2 .ensures,
+      c .before .before .before .before .column3 .ensures,
+      c .before .before .column4 .ensures,
+      c .column5 .ensures,
     )
 
 pub table-in-spec : {M : Type 1} → statement M
@@ -50,4 +54,5 @@ table-in-spec =
     column-requires-2
     column-requires-3
     column-requires-4
+    column-requires-5
     returns)

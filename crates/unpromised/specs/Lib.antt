@@ -1,0 +1,9 @@
+pub mod Unpromised
+pub mod OldRecords
+pub mod OldSheets
+pub mod OldTexts
+pub mod UnpromisedCases
+pub mod Same
+pub mod SameRecords
+pub mod SameSheets
+pub mod SameTexts
