@@ -3,13 +3,13 @@
 
 use model::order::Order;
 use model::record::Record;
-use model::table::{Table, ROWS};
+use model::table::{Row, Table, ROWS};
 
 /// Words in a table before its columns: n, N, G and K.
 const FIGURES: usize = 4;
 
-/// Words in a table: n, N, G, K and four columns.
-pub const TABLE_WORDS: usize = FIGURES + 4 * ROWS;
+/// Words in a table: n, N, G, K and five columns.
+pub const TABLE_WORDS: usize = FIGURES + 5 * ROWS;
 
 /// Words in the state of a run: the clock and three columns.
 pub const STATE_WORDS: usize = 1 + 3 * ROWS;
@@ -20,8 +20,8 @@ pub const TEXT: usize = 17 + 25 * ROWS;
 pub type TableWords = [u32; TABLE_WORDS];
 pub type StateWords = [u32; STATE_WORDS];
 
-/// A row as the library takes it: release, work, deadline, level.
-pub type RowWords = [u32; 4];
+/// A row as the library takes it: release, work, deadline, level, promised part.
+pub type RowWords = [u32; 5];
 pub type Finishes = [u32; ROWS];
 
 extern "C" {
@@ -108,9 +108,21 @@ pub fn table_words(table: &Table) -> TableWords {
     let mut words = [0; TABLE_WORDS];
     let figures = [table.n, table.normal, table.degraded, table.loading];
     words[..FIGURES].copy_from_slice(&figures);
-    let columns = [&table.release, &table.work, &table.deadline, &table.level];
+    let columns = [
+        &table.release,
+        &table.work,
+        &table.deadline,
+        &table.level,
+        &table.promised,
+    ];
     put_columns(&mut words[FIGURES..], &columns);
     words
+}
+
+/// The words of a row.
+pub fn row_words(row: &Row) -> RowWords {
+    let (release, work, deadline) = (row.release, row.work, row.deadline);
+    [release, work, deadline, row.level, row.promised]
 }
 
 /// The table that these words hold.
@@ -125,6 +137,7 @@ pub fn table_of(words: &TableWords) -> Table {
         work: column(columns, 1),
         deadline: column(columns, 2),
         level: column(columns, 3),
+        promised: column(columns, 4),
     }
 }
 

@@ -19,6 +19,7 @@ pub fn easy_loading(n: u32, loading: u32) -> Table {
         work: 5,
         deadline: (n + index) * (loading + 1),
         level: LO,
+        promised: 0,
     };
     let rows: Vec<Row> = (0..n).map(row).collect();
     Table::of(5, 2, loading, &rows)
@@ -45,6 +46,7 @@ pub fn hard_loading(n: u32, loading: u32) -> Table {
             work: 5,
             deadline: release + place * (loading + 1),
             level: LO,
+            promised: 0,
         };
         rows.extend([low(1), low(2), low(3)]);
         rows.push(Row {
@@ -52,9 +54,36 @@ pub fn hard_loading(n: u32, loading: u32) -> Table {
             work: 5,
             deadline: 10_000 - group,
             level: HI,
+            promised: 0,
         });
     }
     Table::of(5, 2, loading, &rows)
+}
+
+/// The table with a promise of one slot at G, or of the whole work if that is less, for
+/// each LO row. Their allowances are those without promises, and so are all worst
+/// finishes.
+pub fn promising(table: &Table) -> Table {
+    let mut promising = *table;
+    for index in 0..table.n as usize {
+        if table.level[index] == LO {
+            promising.promised[index] = table.degraded.min(table.work[index]);
+        }
+    }
+    promising
+}
+
+/// `hard_loading` with LO rows that are all in time below their HI row, but promise one
+/// slot's work at G, which they do not have in time there. So they fail as often, and
+/// for their promises alone.
+pub fn late_promises(n: u32, loading: u32) -> Table {
+    let mut table = promising(&hard_loading(n, loading));
+    for index in 0..n as usize {
+        if table.level[index] == LO {
+            table.deadline[index] = table.release[index] + 4 * (loading + 1);
+        }
+    }
+    table
 }
 
 /// Rows in one busy period, at either speed and at every place. Every other one is a
@@ -78,6 +107,7 @@ pub fn one_period(n: u32, loading: u32) -> Table {
             work: 5,
             deadline,
             level,
+            promised: 0,
         }
     };
     let rows: Vec<Row> = (0..n).map(row).collect();
@@ -88,10 +118,10 @@ pub fn one_period(n: u32, loading: u32) -> Table {
 /// so that busy periods break and join as rows are placed. At N they take 3, 2, 2, 2,
 /// 2, 2, 2 and 1 slots in turn after loading: eight of them fill the time until the
 /// next is released, and their busy period ends just there. Every third row is HI and
-/// takes 1 or 2 slots more at G, where all rows are in one busy period at first. Each
-/// deadline is the row's worst finish under the order in which the row released first
+/// takes 1 or 2 slots more at G, where all rows are in one busy period at first. No
+/// deadline leaves a slot to spare under the order in which the row released first
 /// stands lowest, then the last, the second, the last but one and so on; so that order
-/// is correct and leaves no slot to spare. In the table every other row comes first.
+/// is correct. In the table every other row comes first.
 pub fn staggered(n: u32, loading: u32) -> Table {
     let turns: Vec<u32> = (0..n).step_by(2).chain((1..n).step_by(2)).collect();
     let row = |&turn: &u32| Row {
@@ -99,6 +129,7 @@ pub fn staggered(n: u32, loading: u32) -> Table {
         work: 10 * [3, 2, 2, 2, 2, 2, 2, 1][turn as usize % 8],
         deadline: 1_000_000,
         level: if turn % 3 == 2 { HI } else { LO },
+        promised: 0,
     };
     let rows: Vec<Row> = turns.iter().map(row).collect();
     let table = Table::of(10, 7, loading, &rows);
@@ -107,17 +138,19 @@ pub fn staggered(n: u32, loading: u32) -> Table {
         let turn = turns[row as usize - 1];
         std::cmp::Reverse((2 * turn).min(2 * (n - 1 - turn) + 1))
     });
-    due_at_finishes(&table, &order_of(&places))
+    without_slack(&table, &order_of(&places))
 }
 
-/// The table with the worst finishes under this order as deadlines.
-fn due_at_finishes(table: &Table, order: &Order) -> Table {
-    let (number, finishes) = plain::finishes(table, order);
+/// The table with deadlines under which every row's slack is 0 slots in this order.
+pub fn without_slack(table: &Table, order: &Order) -> Table {
+    let (number, slacks) = plain::slacks(table, order);
     assert_eq!(number, 0, "the table and the order are accepted");
-    Table {
-        deadline: finishes,
-        ..*table
+    let mut tight = *table;
+    for (deadline, slack) in tight.deadline.iter_mut().zip(slacks) {
+        let moved = i64::from(*deadline) - slack;
+        *deadline = u32::try_from(moved).expect("no row is through before slot 0");
     }
+    tight
 }
 
 /// A hard table with the longest range of speeds, N of 1,000 and G of 1 work unit per
@@ -152,8 +185,8 @@ pub fn easy_at(n: u32, level: u32, work: u32) -> Table {
     table
 }
 
-/// A table of n rows whose deadlines are those of a random order's worst
-/// finishes or a little later, so that it just has a correct order; then, once
+/// A table of n rows whose deadlines leave no slack under a random order, or
+/// a little, so that it just has a correct order; then, once
 /// in two times, one deadline is moved forward, so that it often has none.
 pub fn tight(random: &mut Random, n: u32, ranges: Ranges) -> Table {
     let table = table_of_rows_in(random, n, ranges);
@@ -163,7 +196,7 @@ pub fn tight(random: &mut Random, n: u32, ranges: Ranges) -> Table {
 /// This accepted table with such deadlines.
 pub fn tightened(random: &mut Random, table: &Table) -> Table {
     let n = table.n;
-    let mut table = due_at_finishes(table, &random_order(random, n));
+    let mut table = without_slack(table, &random_order(random, n));
     let spare = random.between(0, 3);
     for deadline in &mut table.deadline[..n as usize] {
         *deadline += random.between(0, spare);
@@ -192,6 +225,7 @@ pub fn largest(release: u32) -> Table {
         work: 1_000_000,
         deadline: 1_000_000,
         level: HI,
+        promised: 0,
     };
     Table::of(1, 1, 0, &[row; ROWS])
 }
@@ -204,6 +238,7 @@ pub fn longest_windows() -> Table {
         work: 1_000 + index,
         deadline: 1_000_000,
         level: LO,
+        promised: 0,
     };
     let rows: Vec<Row> = (0..ROWS as u32).map(row).collect();
     Table::of(7, 3, 0, &rows)

@@ -3,7 +3,7 @@
 //! how much of the pattern is left. Linux with POSIX threads.
 
 use crate::raw::{self, StateWords, TableWords};
-use crate::sheets::{easy, easy_loading, hard, largest, longest_windows};
+use crate::sheets::{easy, easy_loading, hard, largest, late_promises, longest_windows, promising};
 use model::order::{order_of, Order};
 use model::record::Record;
 use model::report::LONGEST_REPORT;
@@ -128,11 +128,10 @@ impl Inputs {
         let order = order_of(&rows);
         let record = Record::fresh(table, &order).1;
         let reached = record.forward(&vec![table.normal; slots]).record;
-        let words = |row: &model::table::Row| [row.release, row.work, row.deadline, row.level];
         Inputs {
             sheet: sheet_of(table),
             table: raw::table_words(table),
-            rows: table.rows().iter().map(words).collect(),
+            rows: table.rows().iter().map(raw::row_words).collect(),
             figures: [table.normal, table.degraded, table.loading],
             order,
             state: raw::state_words(&reached),
@@ -141,14 +140,16 @@ impl Inputs {
 }
 
 /// Most bytes of stack that each export took, without what the caller lends:
-/// the most over easy, hard and large tables of 64 rows, some of which load, one
-/// row, and tables and orders that are refused.
+/// the most over easy, hard and large tables of 64 rows, some of which load or promise
+/// parts, one row, and tables and orders that are refused.
 pub fn peaks() -> Vec<(&'static str, usize)> {
     let mut refused = hard(64);
     refused.level[63] = 2;
     let tables = [
         hard(64),
+        late_promises(64, 0),
         easy_loading(64, 16),
+        promising(&easy_loading(64, 16)),
         largest(999_999).with_loading(16),
         longest_windows(),
         easy(1),

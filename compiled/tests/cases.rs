@@ -1,16 +1,19 @@
 //! The cases that must hold on the compiled library, starred and also run
 //! (section 13 of the rules). In the starred ones no job loads; after them come
-//! cases in which jobs do, and cases in which previews are late.
+//! cases in which jobs do, cases in which previews are late, and cases with promises.
 
 use compiled::{library, raw};
 use model::cases::{
-    at_loading, at_loading_planned, late_runs, loading_runs, no_order, ordered, p1, p3, row,
-    serving, table, HandRun,
+    at_loading, at_loading_planned, checked_promises, late_runs, loading_runs, no_order, ordered,
+    p1, p3, promise_at_deadline, promise_runs, promises, row, serving, table, HandRun,
 };
 use model::judge::Verdict;
 use model::order::{order_of, NO_ORDER};
 use model::plan::Plan;
-use model::sheet::{sheet_of, write_sheet};
+use model::record::Record;
+use model::run::State;
+use model::sheet::{sheet_of, write_line, write_sheet};
+use model::speeds::{Least, BOTH};
 use model::table::{Table, MOST_LOADING};
 
 fn refused(number: u32) -> Plan {
@@ -135,10 +138,94 @@ fn loading_of_16_and_of_17_slots() {
     assert_eq!((judged(17).number, judged(17).slack), (11, 0));
 }
 
+/// A LO row has the allowance of its promise (rule 1.9).
 #[test]
-fn the_interface_has_number_3() {
+fn runs_with_promises() {
+    promise_runs().iter().for_each(assert_worked);
+}
+
+/// Worst finishes, verdict and planner's answer (rules 3.6 to 3.9 and 4.4).
+#[test]
+fn tables_with_promises() {
+    for case in promises() {
+        let (what, table, order) = (case.what, &case.table, &case.order);
+        assert_eq!(library::plan(table), case.plan, "{what}");
+        let (number, finishes) = library::finishes(table, order);
+        assert_eq!(number, 0, "{what}");
+        assert_eq!(finishes[..case.finishes.len()], case.finishes, "{what}");
+        let least = *case.slacks.iter().min().expect("a row");
+        let tightest = case.slacks.iter().position(|&slack| slack == least);
+        let verdict = Verdict {
+            number: 0,
+            yes: least >= 0,
+            row: tightest.expect("a row") as u8 + 1,
+            slack: least,
+        };
+        assert_eq!(library::judge(table, order), verdict, "{what}");
+        let figures = (table.normal, table.degraded, table.loading);
+        let of_rows = library::judge_rows(figures.0, figures.1, figures.2, &table.rows(), order);
+        assert_eq!(of_rows, verdict, "{what}");
+    }
+}
+
+/// Row 2 has its promised part at clock 5, its deadline, and not at clock 4; what comes
+/// later takes nothing from it (rule 9.18).
+#[test]
+fn a_promise_kept_at_its_deadline_alone() {
+    let order = order_of(&[1, 2]);
+    assert_eq!(library::plan(&promise_at_deadline()), ordered(&[1, 2]));
+    let (_, fresh) = library::fresh(&promise_at_deadline(), &order);
+    let got_after = |supplies: &[u32]| library::forward(&fresh, supplies).record.got[1];
+    assert_eq!(got_after(&[1; 4]), 2);
+    assert_eq!(got_after(&[1; 5]), 3);
+    assert_eq!(got_after(&[1, 1, 1, 1, 1, 0, 0]), 3);
+    assert_eq!(got_after(&[1, 1, 1, 0, 1, 9, 9]), 2);
+}
+
+/// 12 is answered as 5 is, comes after 5 in all rows and before 6 and 10, and is within 9
+/// for a record (rules 5.9, 8.4, 10.12 and 11.3).
+#[test]
+fn promises_above_the_work_and_of_hi_rows() {
+    for (what, table, number) in checked_promises() {
+        let rows: Vec<u8> = (1..=table.n as u8).collect();
+        let order = order_of(&rows);
+        assert_eq!(library::judge(&table, &order).number, number, "{what}");
+        if table.promised[63] == 0 {
+            let sheet = sheet_of(&table);
+            let read = if number == 0 { table } else { Table::ZERO };
+            assert_eq!(library::read(&sheet), (number, read), "{what}");
+            let (normal, degraded) = (table.normal, table.degraded);
+            let listed = table.rows();
+            let verdict = library::judge_rows(normal, degraded, table.loading, &listed, &order);
+            assert_eq!(verdict.number, number, "{what}");
+            if number != 0 {
+                assert_eq!(library::program(&sheet), write_line(&[number, 0]), "{what}");
+            }
+        }
+        if number == 0 {
+            continue;
+        }
+        assert_eq!(library::plan(&table), refused(number), "{what}");
+        assert_eq!(library::judge(&table, &NO_ORDER).number, number, "{what}");
+        assert_eq!(library::finishes(&table, &order), (number, [0; 64]));
+        assert_eq!(library::fresh(&table, &order), (number, Record::ZERO));
+        assert_eq!(library::write(&table, &mut []), (number, 0), "{what}");
+        assert_eq!(library::report(&table, &order, &mut []), (number, 0));
+        for sought in BOTH {
+            assert_eq!(library::least(&table, sought), Least::refused(number));
+        }
+        let record = Record::holding(&table, &order, &State::FRESH);
+        let slot = library::one_slot(&record, 1);
+        assert_eq!((slot.number, slot.row, slot.record), (9, 0, record));
+        assert_eq!(library::coming(&record), (9, 0), "{what}");
+        assert_eq!(library::forward(&record, &[]).number, 9, "{what}");
+    }
+}
+
+#[test]
+fn the_interface_has_number_4() {
     // SAFETY: the call takes nothing.
-    assert_eq!(unsafe { raw::jb_version() }, 3);
+    assert_eq!(unsafe { raw::jb_version() }, 4);
 }
 
 #[test]

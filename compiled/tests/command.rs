@@ -1,20 +1,22 @@
 //! The command's figures (`--plain`) against the model, on samples and random
 //! sheets, and its rows files against a reading of them by their description.
 //! The program is the one that JASMINEBRACE_COMMAND names, or
-//! tools/jasminebrace.
+//! tools/jasminebrace. Tables come with promised parts and without.
 
 mod common;
 
 use common::{any_order, large_table, refused_sheet, small_table, spoil_table, supplies, Tally};
 use compiled::sheets::{easy, hard, random_order};
+use model::before::Before;
 use model::calls::{one_slot_on_paper, LAST_CLOCK};
+use model::cases::{promising_row, row};
 use model::order::{check_order, Order};
 use model::place::place_of_fault;
 use model::plain;
 use model::program::planning_program;
 use model::random::Random;
 use model::report::LONGEST_REPORT;
-use model::run::{kept_deadline, State};
+use model::run::{has_promised, kept_deadline, State};
 use model::sheet::{
     read_field, read_sheet, sheet_of, write_field, write_line, write_sheet, FIELD, FIRST_LINE,
     ROW_LINE,
@@ -104,8 +106,8 @@ fn with_loading(mut sheet: Vec<u8>, loading: u32) -> Vec<u8> {
     sheet
 }
 
-/// The sheet as it would have been written before there was K.
-fn before_loading(mut sheet: Vec<u8>) -> Vec<u8> {
+/// The sheet without K, as nobody ever wrote one: its rows have promised parts.
+fn without_loading(mut sheet: Vec<u8>) -> Vec<u8> {
     sheet.drain(LOADING);
     sheet
 }
@@ -116,8 +118,9 @@ fn long_loading(random: &mut Random) -> u32 {
 }
 
 /// A sheet that is accepted, and others that are refused: by a check on tables,
-/// for something damaged, for K, and for K's field, which it lacks.
-fn sheets(random: &mut Random) -> [Vec<u8>; 5] {
+/// for something damaged, for K, and for fields that it lacks, of K, of promised parts
+/// or of both.
+fn sheets(random: &mut Random) -> [Vec<u8>; 6] {
     let table = small_table(random);
     let sheet = sheet_of(&table);
     let other = damaged(random, sheet.clone());
@@ -125,7 +128,10 @@ fn sheets(random: &mut Random) -> [Vec<u8>; 5] {
     let loading = long_loading(random);
     [
         with_loading(sheet.clone(), loading),
-        before_loading(sheet.clone()),
+        random
+            .one_of(&[Before::Loading, Before::Promises])
+            .old_sheet(&sheet),
+        without_loading(sheet.clone()),
         refused,
         other,
         sheet,
@@ -165,7 +171,7 @@ fn plan_is_what_the_program_writes() {
         let sheet = sheet_of(&large_table(&mut random));
         compare(&sheet, plain::program(&sheet));
     }
-    tally.assert_common(&[0, 1, 2, 3, 4, 5, 7, 11], 40);
+    tally.assert_common(&[0, 1, 2, 3, 4, 5, 7, 11, 12], 40);
 }
 
 /// What a refusal is in plain form, and the status.
@@ -205,12 +211,15 @@ fn judged(table: &Table, order: &Order) -> ((Vec<u8>, i32), (Vec<u8>, i32)) {
 
 fn finish_lines(table: &Table, order: &Order) -> Vec<u8> {
     let (_, finishes) = plain::finishes(table, order);
+    let (_, slacks) = plain::slacks(table, order);
+    let (_, moments) = plain::promised_moments(table, order);
     let mut lines = write_line(&[0, table.n]);
     for row in 1..=table.n {
         let index = row as usize - 1;
         let (finish, deadline) = (finishes[index], table.deadline[index]);
-        let [before, after] = slack_fields(i64::from(deadline) - i64::from(finish));
-        lines.extend(write_line(&[row, finish, deadline, before, after]));
+        let [before, after] = slack_fields(slacks[index]);
+        let moment = moments[index];
+        lines.extend(write_line(&[row, finish, deadline, before, after, moment]));
     }
     lines
 }
@@ -333,7 +342,7 @@ fn reports_of_refused_sheets() {
             tally.saw(if status == 1 { 7 } else { number });
         }
     }
-    tally.assert_common(&[0, 1, 2, 3, 4, 5, 7, 11], 20);
+    tally.assert_common(&[0, 1, 2, 3, 4, 5, 7, 11, 12], 20);
 }
 
 /// What `speeds --plain` writes for one speed: 0, the speed and the row count,
@@ -342,11 +351,10 @@ fn least_lines(table: &Table, sought: Sought, least: &Least) -> Vec<u8> {
     if least.number != 0 {
         return write_line(&[least.number, 0, 0]);
     }
-    let (_, finishes) = plain::finishes(&sought.put(table, least.speed), &least.order);
+    let (_, slacks) = plain::slacks(&sought.put(table, least.speed), &least.order);
     let mut lines = write_line(&[0, least.speed, table.n]);
     for (place, &row) in (1..=table.n).zip(&least.order) {
-        let index = row as usize - 1;
-        let slack = table.deadline[index] - finishes[index];
+        let slack = slacks[row as usize - 1] as u32;
         lines.extend(write_line(&[place, u32::from(row), slack]));
     }
     lines
@@ -422,7 +430,7 @@ fn least_speeds() {
         compare(&sheet_of(&large_table(&mut random)));
     }
     tally.assert_common(&[[0, 0], [0, 7], [7, 0], [7, 7]], 10);
-    tally.assert_common(&[1, 2, 3, 4, 5, 11].map(|number| [number; 2]), 10);
+    tally.assert_common(&[1, 2, 3, 4, 5, 11, 12].map(|number| [number; 2]), 10);
 }
 
 /// What `speeds --slacks --plain` writes of an accepted sheet under an order: its
@@ -483,14 +491,14 @@ const DROPPED_FOR_DEADLINE: u32 = 4;
 /// The same of a row that did not run in the slot: such a line is about no slot.
 const DROPPED_NOT_RUN: u32 = 5;
 
-/// A line for each slot of the run on paper: slot, row, got, work, how it closed,
-/// and 1 if the row loaded in it. After it, one for each other row that the clock
-/// dropped when the slot ended.
-fn run_on_paper(table: &Table, order: &Order, supplies: &[u32]) -> Vec<[u32; 6]> {
+/// A line for each slot of the run on paper: slot, row, got, work, how it closed, 1 if
+/// the row loaded in it, and the clock after it if the row got its promised part by it,
+/// else 0. After it, one for each other row that the clock dropped when the slot ended.
+fn run_on_paper(table: &Table, order: &Order, supplies: &[u32]) -> Vec<[u32; 7]> {
     let mut state = State::FRESH;
     let mut lines = Vec::new();
     for (slot, &supply) in supplies.iter().enumerate() {
-        let used = state.used;
+        let before = state;
         let (number, row) = one_slot_on_paper(table, order, &mut state, supply);
         assert_eq!(number, 0, "these runs are short");
         let (got, work, loads) = match row {
@@ -498,9 +506,11 @@ fn run_on_paper(table: &Table, order: &Order, supplies: &[u32]) -> Vec<[u32; 6]>
             _ => (
                 state.got[row as usize - 1],
                 table.row(row).work,
-                used[row as usize - 1] < table.loading,
+                before.used[row as usize - 1] < table.loading,
             ),
         };
+        let got_part =
+            row != 0 && !has_promised(table, &before, row) && has_promised(table, &state, row);
         lines.push([
             slot as u32,
             u32::from(row),
@@ -508,12 +518,14 @@ fn run_on_paper(table: &Table, order: &Order, supplies: &[u32]) -> Vec<[u32; 6]>
             work,
             closing(table, &state, row),
             u32::from(loads),
+            if got_part { state.clock } else { 0 },
         ]);
         for other in (1..=table.n as u8).filter(|&other| other != row) {
             let index = other as usize - 1;
             if state.closing[index] == state.clock {
                 let (got, work) = (state.got[index], table.row(other).work);
-                lines.push([slot as u32, u32::from(other), got, work, DROPPED_NOT_RUN, 0]);
+                let closed = DROPPED_NOT_RUN;
+                lines.push([slot as u32, u32::from(other), got, work, closed, 0, 0]);
             }
         }
     }
@@ -538,24 +550,26 @@ fn closing(table: &Table, state: &State, row: u8) -> u32 {
 }
 
 /// Slots put together while the same row, or none, runs and has not closed:
-/// first slot, slots, row, how it closed, loading slots. After them the rows that
-/// were dropped meanwhile without running: at their deadlines, with no slots.
-fn stretches(slots: &[[u32; 6]]) -> Vec<[u32; 5]> {
-    let mut put_together: Vec<[u32; 5]> = Vec::new();
+/// first slot, slots, row, how it closed, loading slots, the clock at which the row got
+/// its promised part. After them the rows that were dropped meanwhile without running: at
+/// their deadlines, with no slots.
+fn stretches(slots: &[[u32; 7]]) -> Vec<[u32; 6]> {
+    let mut put_together: Vec<[u32; 6]> = Vec::new();
     let mut last = 0; // the stretch in the making; what follows it was dropped meanwhile
-    for &[slot, row, _, _, closed, loads] in slots {
+    for &[slot, row, _, _, closed, loads, part_at] in slots {
         match put_together.get_mut(last) {
             Some(_) if closed == DROPPED_NOT_RUN => {
-                put_together.push([slot + 1, 0, row, closed, 0]);
+                put_together.push([slot + 1, 0, row, closed, 0, 0]);
             }
             Some(stretch) if stretch[2] == row && stretch[3] == 0 => {
                 stretch[1] += 1;
                 stretch[3] = closed;
                 stretch[4] += loads;
+                stretch[5] += part_at;
             }
             _ => {
                 last = put_together.len();
-                put_together.push([slot, 1, row, closed, loads]);
+                put_together.push([slot, 1, row, closed, loads, part_at]);
             }
         }
     }
@@ -593,6 +607,7 @@ fn runs_by_slots_and_by_stretches() {
     let mut closings = Tally::new("command run, how rows closed");
     let mut lengths = Tally::new("command run, lengths of stretches by powers of two");
     let mut loadings = Tally::new("command run, stretches with no, some and only loading slots");
+    let mut parts = Tally::new("command run, stretches in which a row got its promised part");
     for round in 0..400 {
         let table = if round % 3 == 0 {
             large_table(&mut random)
@@ -621,9 +636,10 @@ fn runs_by_slots_and_by_stretches() {
         let together = stretches(&paper);
         let by_stretches = command(&arguments, &sheet);
         assert_eq!(by_stretches, (lines_of(table.n, &together), 0), "{table:?}");
-        for [_, length, _, closed, loading] in together {
+        for [_, length, _, closed, loading, part_at] in together {
             closings.saw(closed);
             if closed != DROPPED_NOT_RUN {
+                parts.saw((part_at != 0, closed));
                 lengths.saw(length.ilog2());
                 loadings.saw((loading != 0, loading == length));
             }
@@ -633,6 +649,7 @@ fn runs_by_slots_and_by_stretches() {
     closings.assert_common(&[DROPPED_FOR_DEADLINE], 50);
     lengths.assert_common(&[0, 1, 2, 3, 4, 5, 6, 7, 8, 9, 10], 10);
     loadings.assert_common(&[(false, false), (true, false), (true, true)], 100);
+    parts.assert_common(&[(true, 1), (true, 2), (false, 0), (false, 2)], 20);
 }
 
 /// How many of these there are, in words.
@@ -640,34 +657,66 @@ fn slots_of(count: u32) -> String {
     format!("{count} slot{}", if count == 1 { "" } else { "s" })
 }
 
-/// How a row closed at a clock, in words.
-fn closing_words(table: &Table, row: u32, clock: u32, closed: u32) -> String {
-    match closed {
+/// The promised part of a row, in words.
+fn part_of(table: &Table, row: u32) -> String {
+    let promised = table.row(row as u8).promised;
+    let units = if promised == 1 { "unit" } else { "units" };
+    format!(", promised {promised} work {units}")
+}
+
+/// Whether a row that was dropped has its promised part, in words; it has got so much.
+fn part_of_dropped(table: &Table, row: u32, got: u32) -> String {
+    match table.row(row as u8).promised {
         0 => String::new(),
-        DROPPED => format!(", dropped at clock {clock}, its slots used up"),
-        DROPPED_FOR_DEADLINE => format!(", dropped at clock {clock}, its deadline"),
+        promised if got < promised => part_of(table, row) + " not got",
+        _ => part_of(table, row) + " got",
+    }
+}
+
+/// How a row closed at a clock, in words, with so much work got; before that the clock at
+/// which it got its promised part in these slots, unless that is 0.
+fn closing_words(table: &Table, row: u32, [clock, closed, got, part_at]: [u32; 4]) -> String {
+    let part = match part_at {
+        0 => String::new(),
+        _ => format!("{} got at clock {part_at}", part_of(table, row)),
+    };
+    let dropped = |why: &str| {
+        let part = match part_at {
+            0 => part_of_dropped(table, row, got),
+            _ => String::new(),
+        };
+        format!(", dropped at clock {clock}, {why}{part}")
+    };
+    let closing = match closed {
+        0 => String::new(),
+        DROPPED => dropped("its slots used up"),
+        DROPPED_FOR_DEADLINE => dropped("its deadline"),
         1 => format!(", done at clock {clock}"),
         _ => {
             let late = clock - table.row(row as u8).deadline;
             format!(", done at clock {clock}, late by {}", slots_of(late))
         }
-    }
+    };
+    part + &closing
 }
 
 /// The words for a row that the clock dropped while another one ran in this slot.
-fn dropped_words(&[slot, row, got, work, ..]: &[u32; 6]) -> String {
-    let clock = slot + 1;
-    format!("at clock {clock}: row {row}, got {got} of {work} work units, dropped at its deadline")
+fn dropped_words(table: &Table, &[slot, row, got, work, ..]: &[u32; 7]) -> String {
+    let (clock, part) = (slot + 1, part_of_dropped(table, row, got));
+    format!(
+        "at clock {clock}: row {row}, got {got} of {work} work units, \
+         dropped at its deadline{part}"
+    )
 }
 
 /// The words for each slot of a run on paper.
-fn slot_words(table: &Table, slots: &[[u32; 6]], supplies: &[u32]) -> Vec<String> {
+fn slot_words(table: &Table, slots: &[[u32; 7]], supplies: &[u32]) -> Vec<String> {
     let mut loaded = [0; ROWS];
-    let words = |line: &[u32; 6]| {
-        let &[slot, row, got, work, closed, loads] = line;
+    let words = |line: &[u32; 7]| {
+        let &[slot, row, got, work, closed, loads, part_at] = line;
         let supply = supplies[slot as usize];
         if closed == DROPPED_NOT_RUN {
-            return dropped_words(line);
+            return dropped_words(table, line);
         }
         if row == 0 {
             return format!("slot {slot}: idle, supply {supply} work units");
@@ -678,7 +727,7 @@ fn slot_words(table: &Table, slots: &[[u32; 6]], supplies: &[u32]) -> Vec<String
             0 => String::new(),
             _ => format!(", loading slot {so_far} of {}", table.loading),
         };
-        let closing = closing_words(table, row, slot + 1, closed);
+        let closing = closing_words(table, row, [slot + 1, closed, got, part_at]);
         format!(
             "slot {slot}: row {row}{loading}, supply {supply} work units, \
              got {got} of {work} work units{closing}"
@@ -688,12 +737,12 @@ fn slot_words(table: &Table, slots: &[[u32; 6]], supplies: &[u32]) -> Vec<String
 }
 
 /// The words for each stretch of a run on paper, which is made of these slots.
-fn stretch_words(table: &Table, paper: &[[u32; 6]], stretches: &[[u32; 5]]) -> Vec<String> {
-    let words = |&[first, length, row, closed, loading]: &[u32; 5]| {
+fn stretch_words(table: &Table, paper: &[[u32; 7]], stretches: &[[u32; 6]]) -> Vec<String> {
+    let words = |&[first, length, row, closed, loading, part_at]: &[u32; 6]| {
         if closed == DROPPED_NOT_RUN {
-            let dropped = |line: &&[u32; 6]| line[1] == row && line[4] == DROPPED_NOT_RUN;
+            let dropped = |line: &&[u32; 7]| line[1] == row && line[4] == DROPPED_NOT_RUN;
             let line = paper.iter().find(dropped).expect("dropped once");
-            return dropped_words(line);
+            return dropped_words(table, line);
         }
         let slots = slots_of(length);
         let loading = match loading {
@@ -703,7 +752,9 @@ fn stretch_words(table: &Table, paper: &[[u32; 6]], stretches: &[[u32; 5]]) -> V
         match row {
             0 => format!("from slot {first}, {slots}: idle"),
             _ => {
-                let closing = closing_words(table, row, first + length, closed);
+                let is_last = |line: &&[u32; 7]| line[0] + 1 == first + length && line[1] == row;
+                let got = paper.iter().find(is_last).expect("its last slot")[2];
+                let closing = closing_words(table, row, [first + length, closed, got, part_at]);
                 format!("from slot {first}, {slots}{loading}: row {row}{closing}")
             }
         }
@@ -744,7 +795,7 @@ fn runs_in_words() {
         let together = stretches(&paper);
         let expected = stretch_words(&table, &paper, &together);
         assert_eq!(said_between(&arguments), expected);
-        for [_, row, _, _, closed, loads] in paper {
+        for [_, row, _, _, closed, loads, _] in paper {
             closings.saw(closed);
             if closed != DROPPED_NOT_RUN {
                 tally.saw((row != 0, loads));
@@ -823,67 +874,145 @@ fn explanations() {
             tally.saw(number);
         }
     }
-    tally.assert_common(&[0, 1, 2, 3, 4, 5, 7, 11], 50);
+    tally.assert_common(&[0, 1, 2, 3, 4, 5, 7, 11, 12], 50);
 }
 
-/// What is said of a sheet from before K: its place, the field that it lacks, and
-/// that a field of 0 before the first line end brings it up.
-const BEFORE_LOADING: &str = "hint: the field of K (loading, in slots) is missing; \
+/// What is said of a sheet whose first line lacks K's field, while its rows have those of
+/// promised parts: that a field of 0 before the first line end brings it up.
+const WITHOUT_LOADING: &str = "hint: the field of K (loading, in slots) is missing; \
     a sheet from before K is brought up by a field '       0' before its first line end: \
     sed '1s/$/       0/' SHEET";
 
-/// A sheet from before K is refused with 2, and one from before K with this field
-/// is that of the table without loading.
+/// The same of a sheet from before promised parts.
+const WITHOUT_PROMISED: &str = "hint: the field of the promised part (in work units) is \
+    missing; a sheet from before promised parts is brought up by a field '       0' before the \
+    line end of each row: sed '2,$s/$/       0/' SHEET";
+
+/// The same of a sheet from before both.
+const WITHOUT_BOTH: &str = "hint: the fields of K (loading, in slots) and of promised parts \
+    (in work units) are missing; a sheet from before both is brought up by a field '       0' \
+    before each line end: sed 's/$/       0/' SHEET";
+
+/// The sheet with a field of 0 before each line end from this line on, from 0.
+fn brought_up(sheet: &[u8], from: usize, lines: usize) -> Vec<u8> {
+    let is_end = |&byte: &u8| byte == b'\n';
+    let mut changed = Vec::new();
+    for (index, line) in sheet.split_inclusive(is_end).enumerate() {
+        let (before, end) = line.split_at(line.len() - 1);
+        let field: &[u8] = if (from..from + lines).contains(&index) {
+            b"       0"
+        } else {
+            b""
+        };
+        changed.extend([before, field, end].concat());
+    }
+    changed
+}
+
+/// A sheet from before K or before promised parts is refused, with 2 or with 1, and with
+/// the fields that are named it is that of the table without loading or promises.
 #[test]
-fn sheets_from_before_loading() {
+fn sheets_from_before() {
     let mut random = Random::seeded(714);
     for _ in 0..100 {
-        let table = a_table(&mut random).with_loading(0);
-        let before = before_loading(sheet_of(&table));
-        assert_eq!(read_sheet(&before).0, 2);
-        let plain = command(&["explain", "--plain", "-"], &before);
-        assert_eq!(plain, (write_line(&[2, 0, 4, 25, 1]), 2));
-        let (said, status) = command(&["explain", "-"], &before);
-        assert_eq!(
-            (text(&said).lines().last(), status),
-            (Some(BEFORE_LOADING), 2)
-        );
-        let (_, errors, status) = command_with_errors(&["plan", "-"], &before);
-        assert_eq!((errors.lines().last(), status), (Some(BEFORE_LOADING), 2));
-        let mut brought_up = before.clone();
-        let end = before.iter().position(|&byte| byte == b'\n');
-        let end = end.expect("a line end");
-        brought_up.splice(end..end, *b"       0");
-        assert_eq!(brought_up, sheet_of(&table));
+        let table = a_table(&mut random).without_promises();
+        let unloaded = sheet_of(&table.with_loading(0));
+        let whole = sheet_of(&table);
+        let lines = 1 + table.n as usize;
+        for (before, sheet, place, hint, [from, count]) in [
+            (
+                Before::Loading.old_sheet(&unloaded),
+                &unloaded,
+                [2, 0, 4, 25, 1],
+                WITHOUT_BOTH,
+                [0, lines],
+            ),
+            (
+                without_loading(unloaded.clone()),
+                &unloaded,
+                [2, 0, 4, 25, 1],
+                WITHOUT_LOADING,
+                [0, 1],
+            ),
+            (
+                Before::Promises.old_sheet(&whole),
+                &whole,
+                [1, 1, 5, 66, 2],
+                WITHOUT_PROMISED,
+                [1, lines - 1],
+            ),
+        ] {
+            assert_eq!(read_sheet(&before).0, place[0]);
+            let plain = command(&["explain", "--plain", "-"], &before);
+            assert_eq!(plain, (write_line(&place), 2));
+            let (said, status) = command(&["explain", "-"], &before);
+            assert_eq!((text(&said).lines().last(), status), (Some(hint), 2));
+            let (_, errors, status) = command_with_errors(&["plan", "-"], &before);
+            assert_eq!((errors.lines().last(), status), (Some(hint), 2));
+            assert_eq!(brought_up(&before, from, count), *sheet);
+        }
     }
 }
 
-/// That K's field is missing is said of no sheet but one whose first line ends
-/// where the field belongs.
+/// The first of these fields of a sheet are well formed, from this byte on, and a line
+/// end stands after them.
+fn ends_after(sheet: &[u8], from: usize, count: usize) -> bool {
+    let fields = sheet.get(from..).unwrap_or(&[]).chunks(FIELD).take(count);
+    let good = fields.filter(|field| {
+        let field: Option<&[u8; FIELD]> = (*field).try_into().ok();
+        field.and_then(read_field).is_some()
+    });
+    good.count() == count && sheet.get(from + count * FIELD) == Some(&b'\n')
+}
+
+/// That fields are missing is said of no sheet but one whose lines end where these fields
+/// belong, its first line and its first row's.
 #[test]
-fn other_sheets_are_not_from_before_loading() {
+fn other_sheets_are_not_from_before() {
     let mut random = Random::seeded(715);
-    let mut tally = Tally::new("command explain, said to be from before K");
+    let mut tally = Tally::new("command explain, said to lack a field, by number");
     for _ in 0..300 {
         let mut tried = sheets(&mut random).to_vec();
-        let before = before_loading(sheet_of(&small_table(&mut random)));
-        tried.push(before[..random.between(20, 40) as usize].to_vec());
-        tried.push(damaged(&mut random, before));
+        let sheet = sheet_of(&small_table(&mut random));
+        for before in [
+            Before::Loading.old_sheet(&sheet),
+            Before::Promises.old_sheet(&sheet),
+            without_loading(sheet),
+        ] {
+            let length = random.between(20, before.len() as u32 - 1);
+            tried.push(before[..length as usize].to_vec());
+            tried.push(damaged(&mut random, before));
+        }
         for sheet in tried {
             let (said, _) = command(&["explain", "-"], &sheet);
-            let hinted = text(&said).lines().any(|line| line == BEFORE_LOADING);
-            let fields = sheet.chunks(FIELD).take(3);
-            let three = fields.filter(|field| {
-                let field: Option<&[u8; FIELD]> = (*field).try_into().ok();
-                field.and_then(read_field).is_some()
-            });
-            let expected = three.count() == 3 && sheet.get(LOADING.start) == Some(&b'\n');
+            let hints = [WITHOUT_LOADING, WITHOUT_PROMISED, WITHOUT_BOTH];
+            let is_said = |hint: &&str| text(&said).lines().any(|line| line == *hint);
+            let hinted = hints.into_iter().find(is_said);
+            let expected = if ends_after(&sheet, 0, 3) {
+                let no_parts = ends_after(&sheet, 3 * FIELD + 1, 4);
+                Some(if no_parts {
+                    WITHOUT_BOTH
+                } else {
+                    WITHOUT_LOADING
+                })
+            } else {
+                let no_parts = ends_after(&sheet, 0, 4) && ends_after(&sheet, FIRST_LINE, 4);
+                no_parts.then_some(WITHOUT_PROMISED)
+            };
             assert_eq!(hinted, expected, "{}", text_or_bytes(&sheet));
             tally.saw((hinted, read_sheet(&sheet).0));
         }
     }
-    let kinds = [(true, 1), (true, 2), (false, 1), (false, 2), (false, 11)];
-    tally.assert_common(&kinds, 40);
+    let of_loading = [1, 2].map(|number| (Some(WITHOUT_LOADING), number));
+    tally.assert_common(&of_loading, 20);
+    tally.assert_common(&[(Some(WITHOUT_BOTH), 2)], 100);
+    let others = [
+        (None, 1),
+        (None, 2),
+        (None, 11),
+        (Some(WITHOUT_PROMISED), 1),
+    ];
+    tally.assert_common(&others, 40);
 }
 
 fn text_or_bytes(sheet: &[u8]) -> String {
@@ -954,9 +1083,10 @@ impl Written {
     /// that several would.
     fn random(random: &mut Random) -> Written {
         let mut table = a_table(random);
-        match random.between(0, 7) {
+        match random.between(0, 8) {
             0 => spoil_table(random, &mut table, 4),
             1..=2 => spoil_table(random, &mut table, 5),
+            3 => spoil_table(random, &mut table, 12),
             _ => {}
         }
         if random.once_in(6) {
@@ -1012,7 +1142,7 @@ impl Written {
     /// beside the figure that limits it; the other figures are right.
     fn with_figure(&self, (line, column): Place, figure: u32) -> Table {
         let mut first = [1, 1, 0];
-        let mut cells = [0, 1, LATEST_DEADLINE, 0];
+        let mut cells = [0, 1, LATEST_DEADLINE, 0, 0];
         if line == 2 {
             first[0] = self.normal;
             first[column - 1] = figure;
@@ -1021,19 +1151,13 @@ impl Written {
             match column {
                 1 => cells[2] = row.deadline,
                 3 if row.release < LATEST_DEADLINE => cells[0] = row.release,
+                5 => (cells[1], cells[3]) = (row.work, row.level),
                 _ => {}
             }
             cells[column - 1] = figure;
         }
-        let [release, work, deadline, level] = cells;
-        let row = Row {
-            release,
-            work,
-            deadline,
-            level,
-        };
         let [normal, degraded, loading] = first;
-        Table::of(normal, degraded, loading, &[row])
+        Table::of(normal, degraded, loading, &[promising_row(cells)])
     }
 
     /// What is said to be allowed in a place is what the check accepts there: the
@@ -1065,6 +1189,7 @@ impl With for Row {
             work: change(self.work),
             deadline: change(self.deadline),
             level: change(self.level),
+            promised: change(self.promised),
         }
     }
 }
@@ -1083,7 +1208,7 @@ fn sheets_of_words() {
             written.degraded.to_string(),
             written.loading.to_string(),
         ];
-        words.extend(written.rows.iter().map(row_word));
+        words.extend(written.rows.iter().map(|row| row_word(&mut random, row)));
         let mut expected = written.sheet_and_status();
         let left_out = random.once_in(8);
         if left_out {
@@ -1111,20 +1236,24 @@ fn sheets_of_words() {
     tally.assert_common(&[(0, false), (2, false), (3, false), (3, true)], 40);
 }
 
-fn row_word(row: &Row) -> String {
-    format!(
-        "{},{},{},{}",
-        row.release, row.work, row.deadline, row.level
-    )
+/// The figures of a row; a promised part of 0 may be left out.
+fn row_word(random: &mut Random, row: &Row) -> String {
+    let (release, work, deadline, level) = (row.release, row.work, row.deadline, row.level);
+    let word = format!("{release},{work},{deadline},{level}");
+    match row.promised {
+        0 if random.once_in(2) => word,
+        promised => format!("{word},{promised}"),
+    }
 }
 
-/// The word of a row with one figure replaced, or with a comma more or less.
+/// The word of a row with one figure replaced, or with a comma more, or too few.
 fn spoiled_word(random: &mut Random, word: &str, bad: &str) -> String {
     let mut figures: Vec<&str> = word.split(',').collect();
+    let last = figures.len() as u32 - 1;
     match random.between(0, 9) {
         0 => figures.push(""),
-        1 => _ = figures.pop(),
-        _ => figures[random.between(0, 3) as usize] = bad,
+        1 => figures.truncate(3),
+        _ => figures[random.between(0, last) as usize] = bad,
     }
     figures.join(",")
 }
@@ -1134,12 +1263,15 @@ const TABLE_HEADINGS: [&str; 3] = [
     "degraded speed G (work units per slot)",
     "loading K (slots)",
 ];
-const ROW_HEADINGS: [&str; 4] = [
+const ROW_HEADINGS: [&str; 5] = [
     "release (slots)",
     "work (work units)",
     "deadline (slots)",
     "level (HI or LO)",
+    "promised (work units)",
 ];
+
+const PARTS: &str = ROW_HEADINGS[4];
 
 /// The cells of a rows file, line by line; a level that is none as its figure.
 fn cells_of(written: &Written) -> Vec<Vec<String>> {
@@ -1159,6 +1291,7 @@ fn cells_of(written: &Written) -> Vec<Vec<String>> {
             1 => "HI".to_string(),
             other => other.to_string(),
         });
+        cells.push(row.promised.to_string());
         lines.push(cells);
     }
     lines
@@ -1169,7 +1302,7 @@ fn rows_text(written: &Written) -> Vec<u8> {
     let mut text = String::new();
     for (index, cells) in cells_of(written).iter().enumerate() {
         text += &cells.join(",");
-        text += if index < 2 { ",\n" } else { "\n" };
+        text += if index < 2 { ",,\n" } else { "\n" };
     }
     text.into_bytes()
 }
@@ -1205,8 +1338,8 @@ fn rows_files_from_before_loading() {
     for _ in 0..100 {
         let table = a_table(&mut random).with_loading(0);
         let rows = text(&rows_text(&Written::of(&table))).to_string();
-        let before = rows.replacen("loading K (slots),\n", ",\n", 1);
-        let before = before.replacen(",0,\n", ",,\n", 1);
+        let before = rows.replacen("loading K (slots),,\n", ",,\n", 1);
+        let before = before.replacen(",0,,\n", ",,,\n", 1);
         let (sheet, errors, status) = command_with_errors(&["sheet", "-"], before.as_bytes());
         assert_eq!((sheet, status), (Vec::new(), 3));
         let place = (1, TABLE_HEADINGS.len());
@@ -1224,6 +1357,28 @@ fn rows_files_from_before_loading() {
             command(&["sheet", "-"], rows.as_bytes()),
             (sheet_of(&table), 0)
         );
+    }
+}
+
+/// A rows file from before promised parts lacks their column, and promises none.
+#[test]
+fn rows_files_from_before_promised_parts() {
+    let mut random = Random::seeded(717);
+    for _ in 0..100 {
+        let table = a_table(&mut random).without_promises();
+        let mut lines = cells_of(&Written::of(&table));
+        for line in &mut lines {
+            line.truncate(4);
+            line.resize(line.len() + random.between(0, 2) as usize, String::new());
+        }
+        let lines: Vec<String> = lines.iter().map(|cells| cells.join(",")).collect();
+        let before = lines.join("\n");
+        let made = command(&["sheet", "-"], before.as_bytes());
+        assert_eq!(made, (sheet_of(&table), 0), "{before}");
+        // A figure below the heading that is missing has no place.
+        let stray = before + ",1";
+        let (sheet, errors, status) = command_with_errors(&["sheet", "-"], stray.as_bytes());
+        assert_eq!((sheet, status), (Vec::new(), 3), "{errors}");
     }
 }
 
@@ -1247,7 +1402,7 @@ fn rows_of_refused_sheets() {
             tally.saw(number);
         }
     }
-    tally.assert_common(&[0, 1, 2, 3, 4, 5, 11], 20);
+    tally.assert_common(&[0, 1, 2, 3, 4, 5, 11, 12], 20);
 }
 
 /// A cell as a spreadsheet program or a hand may write it.
@@ -1277,6 +1432,11 @@ fn spelled(random: &mut Random, cell: &str) -> String {
 /// case, empty cells and lines at the end, line ends of three kinds, or of one.
 fn spelled_rows(random: &mut Random, written: &Written) -> Vec<u8> {
     let mut lines = cells_of(written);
+    let promises = written.rows.iter().any(|row| row.promised > 0);
+    if !promises && random.once_in(4) {
+        // As before there were promised parts.
+        lines.iter_mut().for_each(|line| line.truncate(4));
+    }
     for line in &mut lines {
         let empty = random.one_of(&[0, 0, 1, 2, 5]);
         line.resize(line.len() + empty, String::new());
@@ -1338,7 +1498,7 @@ fn spellings_of_rows() {
         }
         tally.saw(number);
     }
-    tally.assert_common(&[0, 3, 4, 5, 11], 40);
+    tally.assert_common(&[0, 3, 4, 5, 11, 12], 30);
 }
 
 /// A line and a column of a rows file, from 1; 0 for the line, or the file, as a
@@ -1406,7 +1566,7 @@ fn damaged_rows() {
         tally.saw(status);
     }
     tally.assert_common(&[0, 2, 3], 200);
-    places.assert_common(&[0, 1, 2, 3, 4, 5], 20);
+    places.assert_common(&[0, 1, 2, 3, 4, 5, 6], 20);
 }
 
 fn damage_rows(random: &mut Random, text: &mut Vec<u8>) {
@@ -1458,7 +1618,7 @@ fn read_rows(text: &[u8]) -> Result<Written, Place> {
         loading: 0,
         rows: Vec::new(),
     };
-    let (mut filled, mut empty) = (0, None);
+    let (mut filled, mut empty, mut has_parts) = (0, None, true);
     for (index, line) in lines_of_text(text).into_iter().enumerate() {
         let number = index + 1;
         let at = |column| (number, column);
@@ -1468,7 +1628,10 @@ fn read_rows(text: &[u8]) -> Result<Written, Place> {
         } else if let Some(empty) = empty {
             return Err((empty, 0));
         } else {
-            take_line(&mut written, number, &cells).map_err(at)?;
+            if number == 3 {
+                has_parts = has_part_column(&cells);
+            }
+            take_line(&mut written, number, &cells, has_parts).map_err(at)?;
             filled = number;
         }
     }
@@ -1481,22 +1644,30 @@ fn read_rows(text: &[u8]) -> Result<Written, Place> {
 
 /// Takes a filled line for what its number makes it, or gives the column at
 /// fault.
-fn take_line(written: &mut Written, number: usize, cells: &[Vec<u8>]) -> Result<(), usize> {
+fn take_line(
+    written: &mut Written,
+    number: usize,
+    cells: &[Vec<u8>],
+    has_parts: bool,
+) -> Result<(), usize> {
+    let columns = if has_parts { 5 } else { 4 };
     match number {
         1 => take_headings(cells, &TABLE_HEADINGS)?,
         2 => [written.normal, written.degraded, written.loading] = take_figures(cells)?,
-        3 => take_headings(cells, &ROW_HEADINGS)?,
-        _ => {
-            let [release, work, deadline, level] = take_figures(cells)?;
-            written.rows.push(Row {
-                release,
-                work,
-                deadline,
-                level,
-            });
-        }
+        3 => take_headings(cells, &ROW_HEADINGS[..columns])?,
+        _ if has_parts => written.rows.push(promising_row(take_figures(cells)?)),
+        _ => written.rows.push(row(take_figures(cells)?)),
     }
     Ok(())
+}
+
+/// The headings of the rows have one of promised parts, in whatever column, or something
+/// else in its column. Of the cells after that column the first filled one is looked at.
+fn has_part_column(headings: &[Vec<u8>]) -> bool {
+    let is_heading = |column| cell_at(headings, column).eq_ignore_ascii_case(PARTS.as_bytes());
+    !cell_at(headings, 5).is_empty()
+        || (1..=4).any(is_heading)
+        || filled_after(headings, 5).is_some_and(is_heading)
 }
 
 /// The lines of a text, whatever ends them.
@@ -1606,7 +1777,8 @@ fn take_headings(cells: &[Vec<u8>], headings: &[&str]) -> Result<(), usize> {
 }
 
 /// Figures are looked at from the left. A cell too many counts before a cell at
-/// fault that is empty or has digits alone, and after one with other text.
+/// fault that is empty, has digits alone or a level in the place of a promised part, and
+/// after one with other text.
 fn take_figures<const COLUMNS: usize>(cells: &[Vec<u8>]) -> Result<[u32; COLUMNS], usize> {
     let mut figures = [0; COLUMNS];
     for column in 1..=COLUMNS {
@@ -1616,7 +1788,9 @@ fn take_figures<const COLUMNS: usize>(cells: &[Vec<u8>]) -> Result<[u32; COLUMNS
             _ => figure_of_cell(cell),
         };
         let Some(figure) = read else {
-            let has_text = !cell.iter().all(u8::is_ascii_digit);
+            let moved_level =
+                column == 5 && [&b"HI"[..], b"LO"].contains(&&cell.to_ascii_uppercase()[..]);
+            let has_text = !moved_level && !cell.iter().all(u8::is_ascii_digit);
             let beyond = filled_after(cells, COLUMNS);
             return Err(if has_text {
                 column

@@ -1,5 +1,6 @@
 //! Forward of the library against the model's, in one call and in parts, over deadlines
-//! too. Every loading time from 0 to 16 slots comes up.
+//! too. Every loading time from 0 to 16 slots comes up, and tables with promises and
+//! without.
 
 mod common;
 
@@ -7,11 +8,11 @@ use common::records::{
     any_record, fresh_record, reached_record, sound_record, sound_record_at, unsound_record,
     with_sound_figures, CLAUSES,
 };
-use common::{supplies, Loadings, Tally};
+use common::{large_table, small_table, supplies, Loadings, Promises, Tally};
 use compiled::library;
 use compiled::sheets::{easy, easy_loading, hard, random_order};
 use model::calls::{play_on_paper, Answer, Call, LAST_CLOCK};
-use model::cases::row;
+use model::cases::{promising_row, row};
 use model::order::order_of;
 use model::plain;
 use model::random::Random;
@@ -66,17 +67,74 @@ fn whole_runs() {
     let mut random = Random::seeded(507);
     let mut closed = Tally::new("forward, whole runs, all rows closed");
     let mut loadings = Loadings::new("forward, whole runs, by K");
+    let mut promises = Promises::new("forward, whole runs, with promises");
     for _ in 0..20_000 {
         let record = fresh_record(&mut random);
         let (n, loading) = (record.table.n, record.table.loading);
         let count = 40 + n * (3 + loading);
         let answer = compare(&record, &supplies(&mut random, count));
         loadings.saw(answer.number, &record.table);
+        promises.saw(answer.number, &record.table);
         let closing = &answer.record.closing[..n as usize];
         closed.saw(closing.iter().all(|&slot| slot != 0));
     }
-    closed.assert_common(&[true], 10_000);
+    closed.assert_common(&[true], 8_000);
     loadings.assert_every(400);
+    promises.assert_both(5_000);
+}
+
+/// A course in which every slot before this clock supplies at least G, often just that,
+/// and later ones anything.
+fn at_least_degraded(random: &mut Random, table: &Table, until: u32, slots: u32) -> Vec<u32> {
+    let later = supplies(random, slots - until);
+    let above = [0, 0, 0, 1, 5];
+    let before = (0..until).map(|_| table.degraded + random.one_of(&above));
+    before.chain(later).collect()
+}
+
+/// Demand 3's clause over runs of the library: under the order that it plans a LO row has
+/// got its promised part from its deadline on, if every slot up to there supplies at
+/// least G, whatever comes later (rule 9.18).
+#[test]
+fn planned_rows_keep_their_promises() {
+    let mut random = Random::seeded(511);
+    let mut tally = Tally::new("forward, promises, just at the deadline or before");
+    let mut loadings = Loadings::new("forward, promises, by K");
+    for round in 0..40_000 {
+        let table = if round % 16 == 0 {
+            large_table(&mut random)
+        } else {
+            small_table(&mut random)
+        };
+        let promising = (0..table.n as usize).filter(|&index| table.promised[index] > 0);
+        let promising: Vec<usize> = promising.collect();
+        let planned = library::plan(&table);
+        if planned.number != 0 || promising.is_empty() {
+            continue;
+        }
+        let index = random.one_of(&promising);
+        let (deadline, promised) = (table.deadline[index], table.promised[index]);
+        if deadline > 5_000 {
+            continue;
+        }
+        let slots = deadline + random.between(0, 5);
+        let course = at_least_degraded(&mut random, &table, deadline, slots);
+        let (_, fresh) = library::fresh(&table, &planned.order);
+        let got_after = |slots: u32| {
+            let worked = library::forward(&fresh, &course[..slots as usize]);
+            worked.record.got[index]
+        };
+        assert!(
+            got_after(deadline) >= promised,
+            "row {} {table:?}",
+            index + 1
+        );
+        assert!(got_after(slots) >= promised, "row {} {table:?}", index + 1);
+        tally.saw(got_after(deadline - 1) >= promised);
+        loadings.saw(0, &table);
+    }
+    tally.assert_common(&[false, true], 200);
+    loadings.assert_every(40);
 }
 
 #[test]
@@ -222,7 +280,7 @@ fn splitting_at_deadlines() {
 /// A HI row of the most work and 63 previews below it, with these deadlines in slots.
 fn previews_below(deadlines: impl Fn(u32) -> u32) -> Record {
     let high = row([0, 1_000_000, 1_000_000, HI]);
-    let preview = |index| row([0, 2, deadlines(index), LO]);
+    let preview = |index| promising_row([0, 2, deadlines(index), LO, index % 3]);
     let mut rows = vec![high];
     rows.extend((1..64).map(preview));
     let places: Vec<u8> = (1..=64).collect();

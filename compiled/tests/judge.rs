@@ -1,12 +1,12 @@
 //! The judge and the worst finishes of the library against the model's, and on
 //! large tables against the plain ones. Every loading time from 0 to 16 slots
-//! comes up.
+//! comes up, and tables with promises and without.
 
 mod common;
 
 use common::{
-    any_order, for_each_small_table, large_table, small_table, spoil_table, Loadings, Tally,
-    TABLE_CHECKS,
+    any_order, for_each_small_table, large_table, small_table, spoil_table, Loadings, Promises,
+    Tally, TABLE_CHECKS,
 };
 use compiled::library;
 use compiled::sheets::{largest, random_order};
@@ -15,7 +15,7 @@ use model::judge::{judge, judge_table, Verdict};
 use model::order::{check_order, check_table_and_order, order_of, Order};
 use model::plain;
 use model::plan::worst_finish;
-use model::random::Random;
+use model::random::{spoil_promise, Random};
 use model::table::{Row, Table, MOST_LOADING, ROWS};
 
 /// What the judge said, for the tallies.
@@ -100,17 +100,20 @@ fn random_large_tables() {
     let mut random = Random::seeded(302);
     let mut tally = Tally::new("judge, random tables of up to 64 rows");
     let mut loadings = Loadings::new("judge, random tables of up to 64 rows, by K");
+    let mut promises = Promises::new("judge, random tables of up to 64 rows, with promises");
     for _ in 0..50_000 {
         let table = large_table(&mut random);
         let order = any_order(&mut random, table.n, 8);
         compare_with_plain(&table, &order, &mut tally);
         loadings.saw(check_order(table.n, &order), &table);
+        promises.saw(check_order(table.n, &order), &table);
         let planned = library::plan(&table);
         if planned.number == 0 {
             compare_with_plain(&table, &planned.order, &mut tally);
         }
     }
     loadings.assert_every(1_000);
+    promises.assert_both(10_000);
     let common = [Said::Yes, Said::No, Said::Refused(6)];
     tally.assert_common(&common, 5_000);
 }
@@ -122,13 +125,13 @@ fn refused_tables_and_orders() {
     for round in 0..50_000 {
         let mut table = small_table(&mut random);
         let order = any_order(&mut random, table.n, 2);
-        if let Some(&number) = TABLE_CHECKS.get(round % 5) {
+        if let Some(&number) = TABLE_CHECKS.get(round % 6) {
             spoil_table(&mut random, &mut table, number);
         }
         compare_with_model(&table, &order, &mut tally);
     }
-    let refusals = [3, 4, 11, 5, 6].map(Said::Refused);
-    tally.assert_common(&refusals, 4_000);
+    let refusals = [3, 4, 11, 5, 12, 6].map(Said::Refused);
+    tally.assert_common(&refusals, 3_000);
 }
 
 /// Two rows or more of the same least slack: the lower row is named, wherever
@@ -144,10 +147,8 @@ fn ties() {
         let order = random_order(&mut random, table.n);
         compare_with_model(&table, &order, &mut tally);
         let verdict = library::judge(&table, &order);
-        let (_, finishes) = library::finishes(&table, &order);
-        let shares = |&index: &usize| {
-            i64::from(table.deadline[index]) - i64::from(finishes[index]) == verdict.slack
-        };
+        let (_, slacks) = plain::slacks(&table, &order);
+        let shares = |&index: &usize| slacks[index] == verdict.slack;
         let sharing: Vec<usize> = (0..table.n as usize).filter(shares).collect();
         assert_eq!(sharing[0] + 1, verdict.row as usize);
         ties.saw(sharing.len());
@@ -217,8 +218,10 @@ fn lists_of_rows() {
     for round in 0..20_000 {
         let mut table = small_table(&mut random);
         let order = any_order(&mut random, table.n, 4);
-        if round % 10 == 0 {
-            spoil_table(&mut random, &mut table, 11);
+        match round % 10 {
+            0 => spoil_table(&mut random, &mut table, 11),
+            1 => spoil_promise(&mut random, &mut table),
+            _ => {}
         }
         let figures = [table.normal, table.degraded, table.loading];
         let number = compare(figures, &table.rows(), &order);
@@ -230,6 +233,11 @@ fn lists_of_rows() {
         work: 1 + index % 5,
         deadline: 200 + index % 50,
         level: index % 2,
+        promised: if index.is_multiple_of(4) {
+            1 + index % 5
+        } else {
+            0
+        },
     };
     let rows: Vec<Row> = (0..1_000).map(row).collect();
     for n in (0..=66).chain([100, 1_000]) {
@@ -241,5 +249,5 @@ fn lists_of_rows() {
     tally.assert_common(&[Said::Yes, Said::No, Said::Refused(6)], 1_000);
     tally.assert_common(&[Said::Refused(3)], 8);
     tally.assert_common(&[Said::Refused(4)], 60);
-    tally.assert_common(&[Said::Refused(11)], 1_000);
+    tally.assert_common(&[11, 12].map(Said::Refused), 1_000);
 }

@@ -5,28 +5,37 @@ mod common;
 
 use common::periods::{joined, tied, ties, Joint, ABOUT_THE_END, IN_ONE_PERIOD};
 use common::planning::{compare_all, compare_plain};
-use common::{Loadings, Tally};
-use compiled::sheets::{easy_loading, hard_loading, one_period, staggered};
+use common::{Loadings, Promises, Tally};
+use compiled::sheets::{
+    easy_loading, hard_loading, late_promises, one_period, promising, staggered,
+};
 use model::random::Random;
 use model::table::{Table, MOST_LOADING};
 
 /// Compares 20,000 small and as many large tables that `make` makes of so many rows, and
-/// shows that 0 and 7 are both common, with every loading time.
+/// shows that 0 and 7 are both common, with every loading time, with promises and
+/// without.
 fn compare_tables(of: &'static str, seed: u64, mut make: impl FnMut(&mut Random, u32) -> Table) {
     let mut random = Random::seeded(seed);
     let mut answers = Tally::new(of);
     let mut by_answer = [Loadings::new(of), Loadings::new(of)];
+    let mut promises = [Promises::new(of), Promises::new(of)];
     for round in 0..20_000 {
         let small = make(&mut random, 1 + round % 8);
         let number = compare_all(&small, &mut answers);
         by_answer[usize::from(number == 7)].saw(number, &small);
+        promises[usize::from(number == 7)].saw(number, &small);
         let large = make(&mut random, 1 + round % 64);
         let (number, _) = compare_plain(&large, &mut answers);
         by_answer[usize::from(number == 7)].saw(number, &large);
+        promises[usize::from(number == 7)].saw(number, &large);
     }
     answers.assert_common(&[0, 7], 10_000);
     for loadings in &by_answer {
         loadings.assert_every(250);
+    }
+    for promises in &promises {
+        promises.assert_both(3_000);
     }
 }
 
@@ -114,8 +123,10 @@ fn sheets(n: u32, loading: u32) -> Vec<Table> {
         one_period(n, loading),
         staggered(n, loading),
     ];
+    tables.push(promising(&easy_loading(n, loading)));
     if n.is_multiple_of(4) {
-        tables.push(hard_loading(n, loading));
+        let hard = hard_loading(n, loading);
+        tables.extend([hard, promising(&hard), late_promises(n, loading)]);
     }
     tables
 }
@@ -134,7 +145,10 @@ fn trials_of_the_sheets() {
             (64, 1_552, 1_088, 643),
         ] {
             assert_eq!(trials(easy_loading(n, loading)), n);
+            assert_eq!(trials(promising(&easy_loading(n, loading))), n);
             assert_eq!(trials(hard_loading(n, loading)), hard);
+            assert_eq!(trials(promising(&hard_loading(n, loading))), hard);
+            assert_eq!(trials(late_promises(n, loading)), hard);
             assert_eq!(trials(one_period(n, loading)), one);
             assert_eq!(trials(staggered(n, loading)), others);
         }

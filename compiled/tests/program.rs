@@ -1,14 +1,14 @@
 //! What the planning program writes, byte for byte, for sheets of every loading
-//! time.
+//! time, with promises and without.
 
 mod common;
 
 use common::sheets::{damaged, long, small_sheets};
-use common::{large_table, small_table, Loadings, Tally};
+use common::{large_table, small_table, Loadings, Promises, Tally};
 use compiled::library;
 use compiled::sheets::{easy, easy_loading, hard, hard_loading};
-use model::before::without_loading_field;
-use model::cases::{p1, P1_TEXT};
+use model::before::Before;
+use model::cases::{either_place, p1, P1_TEXT};
 use model::plain;
 use model::program::{planning_program, KEPT};
 use model::random::Random;
@@ -48,25 +48,31 @@ fn small_sheets_against_the_model() {
             compare_with_model(&input, &mut tally);
         }
     }
-    tally.assert_common(&[0, 1, 2, 3, 4, 5, 7, 11], 500);
+    tally.assert_common(&[0, 1, 2, 3, 4, 5, 7, 11, 12], 500);
 }
 
-/// Sheets as they are, and without the field of K, which is answered 2.
+/// Sheets as they are, without the field of K, which is answered 2, and without those of
+/// r, which is answered 1.
 #[test]
 fn every_loading_time() {
     let mut random = Random::seeded(604);
     let mut tally = Tally::new("program, small sheets that are whole");
     let mut loadings = Loadings::new("program, small sheets that are whole, by K");
+    let mut promises = Promises::new("program, small sheets that are whole, with promises");
     for _ in 0..8_000 {
         let table = small_table(&mut random);
         let sheet = sheet_of(&table);
         let number = compare_with_model(&sheet, &mut tally);
         loadings.saw(number, &table);
-        let old = without_loading_field(&sheet);
-        assert_eq!(compare_with_model(&old, &mut tally), 2);
+        promises.saw(number, &table);
+        for (before, number) in [(Before::Loading, 2), (Before::Promises, 1)] {
+            let old = before.old_sheet(&sheet);
+            assert_eq!(compare_with_model(&old, &mut tally), number);
+        }
     }
     tally.assert_common(&[0, 7], 1_500);
     loadings.assert_every(150);
+    promises.assert_both(2_000);
 }
 
 /// What the planning program itself writes for this standard input.
@@ -114,7 +120,7 @@ fn the_program_itself_against_the_model() {
             assert_eq!(plan(&sheet), plain::program(&sheet));
         }
     }
-    tally.assert_common(&[0, 1, 2, 3, 4, 5, 7, 11], 250);
+    tally.assert_common(&[0, 1, 2, 3, 4, 5, 7, 11, 12], 250);
 }
 
 /// A pipe hands over what is there, so that one read may bring only a part.
@@ -122,7 +128,7 @@ fn the_program_itself_against_the_model() {
 fn the_program_itself_on_input_in_pieces() {
     for sheet in [sheet_of(&p1()), sheet_of(&hard(64))] {
         let text = planning_program(&sheet);
-        for cut in [1, 25, 32, 33, 34, 66, sheet.len() - 1] {
+        for cut in [1, 25, 32, 33, 34, 66, 74, sheet.len() - 1] {
             let (first, rest) = sheet.split_at(cut);
             assert_eq!(plan_pieces(&[first, rest]), text, "cut at {cut}");
             assert_eq!(
@@ -155,12 +161,12 @@ fn large_sheets() {
     tally.assert_common(&[0, 1, 2, 7], 1_000);
 }
 
-/// The longest sheet has 2,145 bytes, and the program itself keeps one byte
+/// The longest sheet has 2,657 bytes, and the program itself keeps one byte
 /// more, whichever that is: by it alone it tells the sheet from a longer input.
 #[test]
 fn the_program_itself_around_the_bytes_that_are_kept() {
     let mut tally = Tally::new("the planning program itself, around the bytes kept");
-    assert_eq!(KEPT, 2_146);
+    assert_eq!(KEPT, 2_658);
     for sheet in [sheet_of(&easy(64)), sheet_of(&hard(64))] {
         assert_eq!(sheet.len(), KEPT - 1);
         for extra in 0..=3 {
@@ -177,7 +183,7 @@ fn the_program_itself_around_the_bytes_that_are_kept() {
     tally.assert_common(&[1], 30);
 }
 
-/// The longest sheet has 2,145 bytes; one byte more is kept, and what follows
+/// The longest sheet has 2,657 bytes; one byte more is kept, and what follows
 /// makes no difference.
 #[test]
 fn around_the_bytes_that_are_kept() {
@@ -199,4 +205,19 @@ fn around_the_bytes_that_are_kept() {
 fn the_text_of_p1() {
     assert_eq!(library::program(&sheet_of(&p1())), P1_TEXT.as_bytes());
     assert_eq!(library::program(b""), b"       1       0\n");
+}
+
+/// The third column has the slack, of which the promise has its part (rule 12.5).
+#[test]
+fn the_text_of_tables_with_promises() {
+    let text = |promised| library::program(&sheet_of(&either_place(promised)));
+    let lines = |slack| {
+        let places = ["       1       2       4\n", "       2       1"];
+        format!("       0       2\n{}{}{slack:>8}\n", places[0], places[1])
+    };
+    assert_eq!(text(0), lines(1).as_bytes());
+    assert_eq!(text(1), lines(0).as_bytes());
+    let above = "       0       2\n       1       1       2\n       2       2       2\n";
+    assert_eq!(text(2), above.as_bytes());
+    assert_eq!(text(3), b"      12       0\n");
 }

@@ -1,6 +1,6 @@
 //! Fresh records, the coming slot and one slot of the library against the
 //! model's run records, at every clock and about deadlines. Every loading time from 0
-//! to 16 slots comes up.
+//! to 16 slots comes up, and tables with promises and without.
 
 mod common;
 
@@ -9,16 +9,17 @@ use common::records::{
     unsound_record, with_sound_figures, CLAUSES,
 };
 use common::{
-    any_order, large_table, small_table, spoil_table, supply, Loadings, Tally, TABLE_CHECKS,
+    any_order, large_table, small_table, spoil_table, supply, Loadings, Promises, Tally,
+    TABLE_CHECKS,
 };
 use compiled::library;
 use model::calls::LAST_CLOCK;
-use model::cases::{row, table};
+use model::cases::{promising_table, row};
 use model::order::order_of;
 use model::plain;
 use model::random::Random;
 use model::record::{Record, Unsound};
-use model::table::{allowance, Table, HI, LATEST_DEADLINE, LO, MOST_LOADING};
+use model::table::{allowance, need, promised_need, Table, HI, LATEST_DEADLINE, LO, MOST_LOADING};
 
 /// Compares the coming slot and one slot with this supply; gives the number.
 fn compare(record: &Record, supply: u32) -> u32 {
@@ -81,14 +82,17 @@ fn records_that_runs_reach() {
     let mut random = Random::seeded(402);
     let mut tally = Tally::new("one slot, reached records");
     let mut loadings = Loadings::new("one slot, reached records, by K");
+    let mut promises = Promises::new("one slot, reached records, with promises");
     for _ in 0..50_000 {
         let record = reached_record(&mut random);
         let number = compare(&record, supply(&mut random));
         tally.saw(number);
         loadings.saw(number, &record.table);
+        promises.saw(number, &record.table);
     }
     tally.assert_common(&[0], 50_000);
     loadings.assert_every(1_000);
+    promises.assert_both(10_000);
 }
 
 #[test]
@@ -119,19 +123,24 @@ fn every_clause_of_check_9_alone() {
 }
 
 /// One LO row with about its allowance used, and with the least and the most that
-/// can be used, open and closed, at speeds and works up to their limits: check 9
-/// and the step ask the same question with every loading time (rules 1.9, 8.7). It is
+/// can be used, open and closed, at speeds, works and promises up to their limits: check
+/// 9 and the step ask the same question with every loading time (rules 1.9, 8.7). It is
 /// open one slot before the latest deadline, and closed at another clock than that.
 #[test]
 fn allowances_used_up_and_not() {
     let mut random = Random::seeded(409);
     let mut tally = Tally::new("one slot, about the allowance");
     let mut loadings = Loadings::new("one slot, about the allowance, by K");
-    for normal in [1, 2, 3, 7, 999, 1_000] {
-        for work in [1, 2, normal, normal + 1, 999_999, 1_000_000] {
+    let mut longer = Tally::new("one slot, the allowance is by the promise");
+    for normal in [1u32, 2, 3, 7, 999, 1_000] {
+        for work in [1u32, 2, normal, normal + 1, 999_999, 1_000_000] {
             for loading in 0..=MOST_LOADING {
                 let deadline = LATEST_DEADLINE;
-                let one = table(normal, 1, &[[0, work, deadline, LO]]).with_loading(loading);
+                let promised = random.one_of(&[0, 1, work / 2, work.div_ceil(normal) + 1, work]);
+                let figures = [0, work, deadline, LO, promised.min(work)];
+                let degraded = random.one_of(&[1, normal.div_ceil(2), normal]);
+                let one = promising_table(normal, degraded, &[figures]).with_loading(loading);
+                longer.saw(promised_need(&one, 1) > need(&one, 1, normal));
                 let (_, fresh) = Record::fresh(&one, &order_of(&[1]));
                 let allowed = allowance(&one, 1);
                 for (clock, closing) in [(deadline - 1, 0), (LAST_CLOCK - 1, LAST_CLOCK - 1)] {
@@ -161,17 +170,22 @@ fn allowances_used_up_and_not() {
     }
     tally.assert_common(&[0, 9], 4_000);
     loadings.assert_every(200);
+    longer.assert_common(&[false, true], 100);
 }
 
 /// Tables of one row, LO and HI, of all work and deadlines that are asked about here:
-/// the least deadline, the latest, and one by which the row can have loaded.
+/// the least deadline, the latest, and one by which the row can have loaded. A LO row
+/// promises nothing, or all of its work.
 fn tables_about_deadlines() -> Vec<Table> {
     let mut tables = Vec::new();
     for level in [LO, HI] {
         for deadline in [1, 2, 30, LATEST_DEADLINE - 1, LATEST_DEADLINE] {
             for work in [1, 2, 5] {
-                let one = table(2, 1, &[[0, work, deadline, level]]);
-                tables.extend([0, 1, 16].map(|loading| one.with_loading(loading)));
+                let promises = if level == LO { &[0, work][..] } else { &[0] };
+                for &promised in promises {
+                    let one = promising_table(2, 1, &[[0, work, deadline, level, promised]]);
+                    tables.extend([0, 1, 16].map(|loading| one.with_loading(loading)));
+                }
             }
         }
     }
@@ -345,7 +359,7 @@ fn records_next_to_sound_ones() {
         let mut record = sound_record(&mut random);
         let most = (record.table.n + 1).min(64);
         let index = random.between(0, most - 1) as usize;
-        let figure = match random.between(0, 10) {
+        let figure = match random.between(0, 12) {
             0 => &mut record.got[index],
             1 => &mut record.used[index],
             2 => &mut record.closing[index],
@@ -356,6 +370,8 @@ fn records_next_to_sound_ones() {
             7 => &mut record.table.release[index],
             8 => &mut record.table.loading,
             9 => &mut record.table.deadline[index],
+            10 => &mut record.table.promised[index],
+            11 => &mut record.table.degraded,
             _ => &mut record.table.n,
         };
         *figure = match random.between(0, 3) {
@@ -432,7 +448,7 @@ fn fresh_records() {
             small_table(&mut random)
         };
         let order = any_order(&mut random, table.n, 3);
-        if let Some(&number) = TABLE_CHECKS.get(round % 6) {
+        if let Some(&number) = TABLE_CHECKS.get(round % 7) {
             spoil_table(&mut random, &mut table, number);
         }
         let expected = Record::fresh(&table, &order);
@@ -441,6 +457,6 @@ fn fresh_records() {
         tally.saw(expected.0);
         loadings.saw(expected.0, &table);
     }
-    tally.assert_common(&[0, 3, 4, 11, 5, 6], 5_000);
+    tally.assert_common(&[0, 3, 4, 11, 5, 12, 6], 4_000);
     loadings.assert_every(200);
 }

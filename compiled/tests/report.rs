@@ -2,7 +2,8 @@
 //! byte, and on tables for which the model takes too long against the plain one.
 //! Each report is also read column by column and held against the rules and
 //! against the library's worst finishes and judge (section 16 of the rules).
-//! Every loading time from 0 to 16 slots comes up.
+//! Every loading time from 0 to 16 slots comes up, and tables with promises and
+//! without.
 
 mod common;
 
@@ -10,14 +11,15 @@ use common::records::any_record;
 use common::sheets::text;
 use common::{
     any_order, for_each_length_of_figures, for_each_small_table, for_each_word_changed,
-    large_table, no_order_of, rubbish, small_table, spoil_by_several, Loadings, Tally, MODEL_LARGE,
-    TABLE_CHECKS,
+    large_table, no_order_of, rubbish, small_table, spoil_by_several, Loadings, Promises, Tally,
+    MODEL_LARGE, TABLE_CHECKS,
 };
 use compiled::library;
 use compiled::sheets::{
-    easy, easy_loading, hard, hard_loading, largest, longest_windows, random_order, tight,
+    easy, easy_loading, hard, hard_loading, largest, late_promises, longest_windows, random_order,
+    tight, without_slack,
 };
-use model::cases::{p1, p2, p3, p4, reports, row, table};
+use model::cases::{p1, p2, p3, p4, promising_table, reports, row, table};
 use model::order::{order_of, Order, NO_ORDER};
 use model::plain;
 use model::random::{table_in, Random, Ranges};
@@ -138,9 +140,11 @@ fn number_in(columns: &[u8]) -> i64 {
 
 /// Each line has its place, the row that stands there, a need at N that is just
 /// enough for the row's work after it has loaded, and the finish that the library
-/// tells elsewhere (rules 16.2 and 16.10).
+/// tells elsewhere (rules 16.2 and 16.10). The slack is what the finish leaves, or less
+/// if the row promises a part.
 fn assert_rows(table: &Table, order: &Order, lines: &Lines) {
     let (_, finishes) = library::finishes(table, order);
+    let (_, slacks) = plain::slacks(table, order);
     assert_eq!(lines.places.len(), table.n as usize);
     for (index, &[place, row, need, finish, slack]) in lines.places.iter().enumerate() {
         assert_eq!(place, index as i64 + 1);
@@ -151,7 +155,9 @@ fn assert_rows(table: &Table, order: &Order, lines: &Lines) {
         assert!(work <= at_work * normal, "row {row} of {table:?}");
         assert!(work > (at_work - 1) * normal, "row {row} of {table:?}");
         assert_eq!(finish, i64::from(finishes[row as usize - 1]));
-        assert_eq!(slack, i64::from(job.deadline) - finish);
+        let of_finish = i64::from(job.deadline) - finish;
+        assert_eq!(slack, slacks[row as usize - 1], "row {row} of {table:?}");
+        assert!(slack == of_finish || slack < of_finish && job.promised > 0);
     }
 }
 
@@ -263,9 +269,13 @@ fn tables_of_up_to_64_rows_that_the_model_works() {
         }
     }
     for n in [4, 16, 64] {
-        for table in [easy(n), hard(n), easy_loading(n, 16), hard_loading(n, 2)] {
+        let loading = [easy_loading(n, 16), hard_loading(n, 2)];
+        for table in [easy(n), hard(n), late_promises(n, 1)]
+            .iter()
+            .chain(&loading)
+        {
             let order = random_order(&mut random, n);
-            compare_with_model(&table, &order, &before, &mut tally);
+            compare_with_model(table, &order, &before, &mut tally);
         }
     }
     tally.assert_common(&[0], 230);
@@ -279,17 +289,20 @@ fn random_large_tables() {
     let mut tally = Tally::new("report, random tables of up to 64 rows");
     let mut late = Tally::new("report, random tables of up to 64 rows, by rows late");
     let mut loadings = Loadings::new("report, random tables of up to 64 rows, by K");
+    let mut promises = Promises::new("report, random tables of up to 64 rows, with promises");
     for _ in 0..20_000 {
         let table = large_table(&mut random);
         let order = any_order(&mut random, table.n, 8);
         let before = rubbish(length_of(table.n) + 64);
         let number = compare_with_plain(&table, &order, &before, &mut tally);
         loadings.saw(number, &table);
+        promises.saw(number, &table);
         if number == 0 {
             late.saw(Lines::read(&written(&table, &order)).late());
         }
     }
     loadings.assert_every(400);
+    promises.assert_both(5_000);
     let table = longest_windows();
     for _ in 0..100 {
         let order = random_order(&mut random, 64);
@@ -326,7 +339,7 @@ fn deadlines_far_before_the_finishes() {
     }
     tally.assert_common(&[0], 10_000);
     widths.assert_common(&[4, 5, 6, 7, 8], 10_000);
-    widths.assert_common(&[2, 3, 9], 200);
+    widths.assert_common(&[2, 3, 9], 100);
 }
 
 /// The order that the planner makes has a last line with 0 rows late, and where
@@ -486,11 +499,11 @@ fn widest_figures_by_hand() {
 fn figures_of_every_length() {
     let mut tally = Tally::new("report, figures of every length");
     let mut lengths = Tally::new("report, columns that a slack takes");
-    let mut compare_one = |figures: [u32; 4], loading| {
-        let one = table(1, 1, &[figures]).with_loading(loading);
+    let mut compare_one = |figures: [u32; 5], loading| {
+        let one = promising_table(1, 1, &[figures]).with_loading(loading);
         let before = rubbish(length_of(1));
         if compare_with_plain(&one, &rising(1), &before, &mut tally) == 0 {
-            let [release, work, deadline, _] = figures.map(i64::from);
+            let [release, work, deadline, ..] = figures.map(i64::from);
             let lines = Lines::read(&written(&one, &rising(1)));
             let need = i64::from(loading) + work;
             let finish = release + need;
@@ -510,8 +523,8 @@ fn figures_of_every_length() {
     lengths.assert_common(&[1, 2, 3, 4, 5, 6, 7], 20);
 }
 
-/// A slack of 0 is not late and one of -1 is, at every place and level: the
-/// deadlines are the finishes, or one row's is a slot before its finish.
+/// A slack of 0 is not late and one of -1 is, at every place and level, for the finish
+/// and for a promise: no deadline leaves a slot to spare, or one row's is a slot before.
 #[test]
 fn late_by_one_slot() {
     let mut random = Random::seeded(808);
@@ -519,15 +532,13 @@ fn late_by_one_slot() {
     let mut moved = Tally::new("report, late by one slot, by the row's level");
     for round in 0..2_000 {
         let n = 1 + round % 64;
-        let mut table = tight(&mut random, n, MODEL_LARGE);
         let order = random_order(&mut random, n);
-        let (_, finishes) = library::finishes(&table, &order);
-        table.deadline = finishes;
+        let mut table = without_slack(&tight(&mut random, n, MODEL_LARGE), &order);
         let before = rubbish(length_of(n));
         compare_with_plain(&table, &order, &before, &mut tally);
         assert_eq!(Lines::read(&written(&table, &order)).late(), 0);
         let index = random.between(0, n - 1) as usize;
-        if table.release[index] + 1 < finishes[index] {
+        if table.release[index] + 1 < table.deadline[index] {
             table.deadline[index] -= 1;
             compare_with_plain(&table, &order, &before, &mut tally);
             assert_eq!(Lines::read(&written(&table, &order)).late(), 1);
@@ -557,7 +568,7 @@ fn over_an_older_report() {
 }
 
 /// One refusal and several at once, in the table, the order and the room: the
-/// first in the sequence 3, 4, 11, 5, 6, 10 is given (rule 11.7).
+/// first in the sequence 3, 4, 11, 5, 12, 6, 10 is given (rule 11.7).
 #[test]
 fn damaged_tables_and_orders() {
     let mut random = Random::seeded(810);
@@ -590,10 +601,11 @@ fn damaged_tables_and_orders() {
     }
     tally.assert_common(&[0, 3, 4, 6, 10], 5_000);
     tally.assert_common(&[5, 11], 2_000);
+    tally.assert_common(&[12], 1_000);
     for number in TABLE_CHECKS {
         for wrong_order in [true, false] {
             let both = [(number, wrong_order, true), (number, wrong_order, false)];
-            by_fault.assert_common(&both, 500);
+            by_fault.assert_common(&both, 200);
         }
     }
     by_fault.assert_common(&[(6, true, true), (6, true, false)], 5_000);
@@ -603,7 +615,8 @@ fn damaged_tables_and_orders() {
 fn checks_come_in_their_order() {
     let mut tally = Tally::new("report, checks one after another");
     let twice = order_of(&[1, 1]);
-    let mut wrong = table(0, 1, &[[0, 1, 1, LO], [4, 1, 4, LO]]).with_loading(u32::MAX);
+    let rows = [[0, 1, 1, LO, 2], [4, 1, 4, LO, 0]];
+    let mut wrong = promising_table(0, 1, &rows).with_loading(u32::MAX);
     for room in [0, length_of(2) - 1, length_of(2), LONGEST] {
         let mut number = |table: &Table, order: &Order| {
             compare_with_model(table, order, &rubbish(room), &mut tally)
@@ -625,6 +638,8 @@ fn checks_come_in_their_order() {
         loads.level[63] = 1;
         assert_eq!(number(&loads, &twice), 5);
         loads.level[63] = 0;
+        assert_eq!(number(&loads, &twice), 12);
+        loads.promised[0] = 1;
         for order in [twice, NO_ORDER, order_of(&[2]), order_of(&[1, 2, 3])] {
             assert_eq!(number(&loads, &order), 6);
         }
@@ -650,7 +665,7 @@ fn every_word_changed() {
     }
     tally.assert_common(&[0, 5, 10], 1_000);
     tally.assert_common(&[3, 4], 50);
-    tally.assert_common(&[11], 40);
+    tally.assert_common(&[11, 12], 40);
 }
 
 /// Each byte of an order changed to each value.

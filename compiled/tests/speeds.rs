@@ -1,7 +1,8 @@
 //! The least workable speeds of the library, of tables and of sheets, against the
 //! model's scan over every speed; on tables for which that takes too long against
 //! the plain scan, or the plain search by halves, which are compared with it here
-//! as well. Every loading time from 0 to 16 slots comes up.
+//! as well. Every loading time from 0 to 16 slots comes up, and tables with promises
+//! and without.
 
 mod common;
 
@@ -10,11 +11,11 @@ use common::sheets::{
 };
 use common::{
     for_each_small_table, for_each_word_changed, large_table, small_table, spoil_by_several,
-    spoil_table, Loadings, Tally, LARGE, TABLE_CHECKS,
+    spoil_table, Loadings, Promises, Tally, LARGE, TABLE_CHECKS,
 };
-use compiled::sheets::{easy_at, hard_at, tightened};
+use compiled::sheets::{easy_at, hard_at, promising, tightened};
 use compiled::{library, raw};
-use model::cases::{cooler, least_speeds, p1};
+use model::cases::{cooler, least_speeds, p1, promising_cooler};
 use model::order::NO_ORDER;
 use model::plain::{least_by_halves, least_by_scan};
 use model::random::{table_of_rows_in, Random};
@@ -96,7 +97,7 @@ fn cases_worked_out_by_hand() {
         compare_with_sheet(&case.table, case.sought, &case.answer, &mut tally);
     }
     tally.assert_common(&for_both(&[At::First, At::Last, At::Between]), 1);
-    tally.assert_common(&for_both(&[3, 4, 11, 5, 7].map(At::Refused)), 1);
+    tally.assert_common(&for_both(&[3, 4, 11, 5, 12, 7].map(At::Refused)), 1);
 }
 
 /// G has up to three speeds to be tried in these tables, N up to 1,000: there the
@@ -156,8 +157,9 @@ fn random_small_tables() {
 }
 
 /// A table of n rows with the longest range for the speed sought: N is 1,000, or G
-/// is 1. Every row takes whole slots at this speed, and just fits or just does not;
-/// the table's own figure for the speed sought is any.
+/// is 1. Every row takes whole slots at this speed, and just fits or just does not; LO
+/// rows promise nothing or one slot's work at G. The table's own figure for the speed
+/// sought is any.
 fn fitting_at(random: &mut Random, n: u32, sought: Sought, speed: u32) -> Table {
     let mut table = table_of_rows_in(random, n, LARGE);
     (table.normal, table.degraded) = (MOST_SPEED, 1);
@@ -165,6 +167,10 @@ fn fitting_at(random: &mut Random, n: u32, sought: Sought, speed: u32) -> Table 
     for work in &mut table.work[..n as usize] {
         *work = random.between(1, 6) * speed;
     }
+    table = match random.between(0, 1) {
+        0 => table.without_promises(),
+        _ => promising(&table),
+    };
     let fitting = tightened(random, &table);
     assert_eq!(check_table(&fitting), 0, "{fitting:?}");
     let own = random.between(1, MOST_SPEED);
@@ -227,16 +233,19 @@ fn random_large_tables() {
     let mut random = Random::seeded(503);
     let mut tally = Tally::new("least speeds, random tables of up to 64 rows");
     let mut loadings = Loadings::new("least speeds, random large tables, by K");
+    let mut promises = Promises::new("least speeds, random large tables, with promises");
     for round in 0..1_500 {
         let table = large_table(&mut random);
         for sought in BOTH {
             let expected = by_plain(&table, sought, round % 50 == 0);
             compare(&table, sought, &expected, &mut tally);
             loadings.saw(expected.number, &table);
+            promises.saw(expected.number, &table);
         }
     }
     tally.assert_common(&for_both(&[At::Between, At::Refused(7)]), 100);
     loadings.assert_every(40);
+    promises.assert_both(500);
 }
 
 /// At the least speed the planner makes the order answered, and the judge says yes
@@ -280,7 +289,9 @@ fn every_speed_below_and_above_the_least() {
 fn the_stated_figure_does_not_matter() {
     let mut random = Random::seeded(505);
     let mut tally = Tally::new("least speeds, every own figure");
+    let promising = [promising_cooler(18, 108), promising_cooler(19, 171)];
     let mut tables = vec![cooler(18), cooler(19), p1(), p1().with_loading(1)];
+    tables.extend(promising);
     tables.extend((0..40).map(|_| small_table(&mut random)));
     for table in tables {
         for sought in BOTH {
@@ -307,7 +318,7 @@ fn refused_tables() {
         if round % 2 == 0 {
             spoil_by_several(&mut random, &mut table);
         } else {
-            spoil_table(&mut random, &mut table, TABLE_CHECKS[round / 2 % 4]);
+            spoil_table(&mut random, &mut table, TABLE_CHECKS[round / 2 % 5]);
         }
         let number = check_table(&table);
         if number != 0 {
@@ -326,7 +337,7 @@ fn refused_tables() {
 fn any_words() {
     let mut random = Random::seeded(507);
     let mut tally = Tally::new("least speeds, any words");
-    for table in [p1(), cooler(19).with_loading(1)] {
+    for table in [p1(), promising_cooler(19, 9).with_loading(1)] {
         for_each_word_changed(&table, |changed| {
             for sought in BOTH {
                 let expected = least_by_halves(changed, sought);
@@ -346,7 +357,7 @@ fn any_words() {
             compare(&table, sought, &expected, &mut tally);
         }
     }
-    let numbers = [3, 4, 11, 5, 7].map(At::Refused);
+    let numbers = [3, 4, 11, 5, 12, 7].map(At::Refused);
     tally.assert_common(&for_both(&numbers), 10);
     tally.assert_common(&for_both(&[At::First, At::Between]), 10);
 }
@@ -384,7 +395,7 @@ fn sheets_of_every_length_and_at_limits() {
         }
     }
     tally.assert_common(&for_both(&[At::Between]), 5);
-    tally.assert_common(&for_both(&[1, 2, 3, 4, 11, 5, 7].map(At::Refused)), 5);
+    tally.assert_common(&for_both(&[1, 2, 3, 4, 11, 5, 12, 7].map(At::Refused)), 4);
 }
 
 #[test]
@@ -407,7 +418,7 @@ fn damaged_sheets() {
             }
         }
     }
-    let numbers = [1, 2, 3, 4, 11, 5, 7].map(At::Refused);
-    tally.assert_common(&for_both(&numbers), 500);
+    let numbers = [1, 2, 3, 4, 11, 5, 12, 7].map(At::Refused);
+    tally.assert_common(&for_both(&numbers), 300);
     tally.assert_common(&for_both(&[At::Between]), 500);
 }

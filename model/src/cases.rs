@@ -6,21 +6,35 @@ use crate::plan::Plan;
 use crate::speeds::{Least, Sought, BOTH};
 use crate::table::{Row, Table};
 
-/// A row from its figures: a (slots), c (work units), d (slots), level.
+/// A row from its figures: a (slots), c (work units), d (slots), level. It promises
+/// nothing.
 pub fn row(figures: [u32; 4]) -> Row {
     let [release, work, deadline, level] = figures;
+    promising_row([release, work, deadline, level, 0])
+}
+
+/// A row from those figures and its promised part r (work units).
+pub fn promising_row(figures: [u32; 5]) -> Row {
+    let [release, work, deadline, level, promised] = figures;
     Row {
         release,
         work,
         deadline,
         level,
+        promised,
     }
 }
 
 /// A table from N, G (work units per slot) and its rows' figures, with a loading
-/// time of 0 slots.
+/// time of 0 slots and without promises.
 pub fn table(normal: u32, degraded: u32, rows: &[[u32; 4]]) -> Table {
     let rows: Vec<Row> = rows.iter().map(|&figures| row(figures)).collect();
+    Table::of(normal, degraded, 0, &rows)
+}
+
+/// The same with a promised part in each row's figures.
+pub fn promising_table(normal: u32, degraded: u32, rows: &[[u32; 5]]) -> Table {
+    let rows: Vec<Row> = rows.iter().map(|&figures| promising_row(figures)).collect();
     Table::of(normal, degraded, 0, &rows)
 }
 
@@ -259,10 +273,12 @@ pub fn serving() -> Table {
     table(2, 1, &[[0, 2, 2, 1], [0, 3, 3, 0], [0, 1, 4, 1]])
 }
 
-/// P7 and P8, the runs of rule 13.13 after them, and then some of our own.
+/// P7 and P8, the runs of rule 13.13 after them, and then some of our own, at last those
+/// of rows with a promise.
 pub fn late_runs() -> Vec<LateRun> {
     let mut runs = late_runs_of_the_rule();
     runs.extend(more_late_runs());
+    runs.extend(late_promise_runs());
     runs
 }
 
@@ -440,6 +456,390 @@ fn more_late_runs() -> Vec<LateRun> {
     ]
 }
 
+/// A table with a promise, or one to compare it with, under an order, worked out by
+/// hand. Clocks and slacks are in slots and stand by row.
+pub struct PromiseCase {
+    pub what: &'static str,
+    pub table: Table,
+    pub order: Order,
+    /// Worst finishes.
+    pub finishes: Vec<u32>,
+    /// Promised moments, 0 for a row that promises nothing.
+    pub moments: Vec<u32>,
+    pub slacks: Vec<i64>,
+    /// What the planner answers.
+    pub plan: Plan,
+}
+
+/// Such a case in one line; each row has worst finish, promised moment and slack.
+fn promise(
+    what: &'static str,
+    table: Table,
+    order: &[u8],
+    rows: &[(u32, u32, i64)],
+    plan: Plan,
+) -> PromiseCase {
+    PromiseCase {
+        what,
+        table,
+        order: order_of(order),
+        finishes: rows.iter().map(|row| row.0).collect(),
+        moments: rows.iter().map(|row| row.1).collect(),
+        slacks: rows.iter().map(|row| row.2).collect(),
+        plan,
+    }
+}
+
+/// A LO row of 4 work units with this deadline (slots) and promised part (work units),
+/// alone. N is 2 and G is 1.
+pub fn promising_preview(deadline: u32, promised: u32) -> Table {
+    promising_table(2, 1, &[[0, 4, deadline, 0, promised]])
+}
+
+/// Row 1 is LO, has time for its whole work at G alone, and is late below row 2, which
+/// is HI. It promises so many of its 2 work units: with 2 its allowance is 2 slots, and
+/// row 2 is late below it.
+pub fn above_a_hi_row(promised: u32) -> Table {
+    promising_table(2, 1, &[[0, 2, 2, 0, promised], [0, 3, 4, 1, 0]])
+}
+
+/// Row 1 is LO and in time below row 2, which is HI, but gets no more than 1 of its 2
+/// work units there by its deadline at G. So it stands above row 2 if it promises 2.
+pub fn either_place(promised: u32) -> Table {
+    promising_table(2, 1, &[[0, 2, 4, 0, promised], [0, 3, 7, 1, 0]])
+}
+
+/// Two LO rows of 2 work units. Row 1 promises so many of them, and if that makes its
+/// allowance 2 slots, row 2 below it has its own 2 work units a slot later at G.
+pub fn above_a_promise(promised: u32) -> Table {
+    promising_table(2, 1, &[[0, 2, 2, 0, promised], [0, 2, 3, 0, 2]])
+}
+
+/// `cooler` with a promised part, in work units, of its LO row.
+pub fn promising_cooler(degraded: u32, promised: u32) -> Table {
+    let mut table = cooler(degraded);
+    table.promised[1] = promised;
+    table
+}
+
+/// Promises alone (rules 3.7 and 3.9): the promised part and its moment against
+/// the deadline, with and without loading.
+fn promises_of_one_row() -> Vec<PromiseCase> {
+    let (yes, no) = (ordered(&[1]), no_order(1));
+    let alone = |what, table, row, plan| promise(what, table, &[1], &[row], plan);
+    vec![
+        alone(
+            "in time at N, and its promise fails",
+            promising_preview(2, 3),
+            (2, 3, -1),
+            no,
+        ),
+        alone(
+            "no part promised",
+            promising_preview(2, 0),
+            (2, 0, 0),
+            yes,
+        ),
+        alone("both slacks are 0", promising_preview(2, 2), (2, 2, 0), yes),
+        alone("both slacks are 1", promising_preview(3, 2), (2, 2, 1), yes),
+        alone(
+            "the finish has the lesser slack",
+            promising_preview(3, 1),
+            (2, 1, 1),
+            yes,
+        ),
+        alone(
+            "kept at its deadline, and not a slot before",
+            promising_preview(3, 3),
+            (2, 3, 0),
+            yes,
+        ),
+        alone("r = c, kept", promising_preview(4, 4), (2, 4, 0), yes),
+        alone(
+            "r = c, a slot short",
+            promising_preview(3, 4),
+            (2, 4, -1),
+            no,
+        ),
+        alone(
+            "K 1: loading counts in the promise too",
+            promising_preview(4, 3).with_loading(1),
+            (3, 4, 0),
+            yes,
+        ),
+        alone(
+            "K 1, a slot short",
+            promising_preview(3, 3).with_loading(1),
+            (3, 4, -1),
+            no,
+        ),
+    ]
+}
+
+/// Promises beside other rows: what they take from a HI row and from another promise.
+fn promises_of_several_rows() -> Vec<PromiseCase> {
+    let none = no_order(0b11);
+    vec![
+        promise(
+            "r = 0 above a HI row",
+            above_a_hi_row(0),
+            &[1, 2],
+            &[(1, 0, 1), (4, 0, 0)],
+            ordered(&[1, 2]),
+        ),
+        promise(
+            "a promise within the need at N takes no slot more",
+            above_a_hi_row(1),
+            &[1, 2],
+            &[(1, 1, 1), (4, 0, 0)],
+            ordered(&[1, 2]),
+        ),
+        promise(
+            "a longer allowance, and the HI row below is late",
+            above_a_hi_row(2),
+            &[1, 2],
+            &[(1, 2, 0), (5, 0, -1)],
+            none,
+        ),
+        promise(
+            "the other order of it",
+            above_a_hi_row(2),
+            &[2, 1],
+            &[(3, 5, -3), (3, 0, 1)],
+            none,
+        ),
+        promise(
+            "K 1: the longer allowance has the loading too",
+            promising_table(2, 1, &[[0, 2, 3, 0, 2], [0, 3, 6, 1, 0]]).with_loading(1),
+            &[1, 2],
+            &[(2, 3, 0), (7, 0, -1)],
+            none,
+        ),
+        promise(
+            "r = 0 lets the LO row stand below",
+            either_place(0),
+            &[2, 1],
+            &[(3, 0, 1), (3, 0, 4)],
+            ordered(&[2, 1]),
+        ),
+        promise(
+            "so does r = 1, with no slot to spare",
+            either_place(1),
+            &[2, 1],
+            &[(3, 4, 0), (3, 0, 4)],
+            ordered(&[2, 1]),
+        ),
+        promise(
+            "r = c makes it stand above",
+            either_place(2),
+            &[1, 2],
+            &[(1, 2, 2), (5, 0, 2)],
+            ordered(&[1, 2]),
+        ),
+        promise(
+            "below the HI row r = c fails",
+            either_place(2),
+            &[2, 1],
+            &[(3, 5, -1), (3, 0, 4)],
+            ordered(&[1, 2]),
+        ),
+        promise(
+            "a promise below a LO row",
+            above_a_promise(1),
+            &[1, 2],
+            &[(1, 1, 1), (2, 3, 0)],
+            ordered(&[1, 2]),
+        ),
+        promise(
+            "a promise below a LO row with a longer allowance",
+            above_a_promise(2),
+            &[1, 2],
+            &[(1, 2, 0), (2, 4, -1)],
+            none,
+        ),
+        promise(
+            "kept in time, though the row is dropped too late at G",
+            promise_at_deadline(),
+            &[1, 2],
+            &[(2, 0, 1), (5, 5, 0)],
+            ordered(&[1, 2]),
+        ),
+        promise(
+            "the largest promise at G 19 of the cooler's table",
+            promising_cooler(19, 171),
+            &[2, 1],
+            &[(20, 0, 0), (9, 9, 9)],
+            ordered(&[2, 1]),
+        ),
+        promise(
+            "a work unit more takes a slot more",
+            promising_cooler(19, 172),
+            &[2, 1],
+            &[(21, 0, -1), (9, 10, 8)],
+            none,
+        ),
+    ]
+}
+
+/// Tables with promises and their planner's answers.
+pub fn promises() -> Vec<PromiseCase> {
+    let mut cases = promises_of_one_row();
+    cases.extend(promises_of_several_rows());
+    cases
+}
+
+/// Runs in which a LO row has a longer allowance by its promise (rule 1.9). No LO row
+/// is late in them, so that both rules of a slot make them.
+pub fn promise_runs() -> Vec<HandRun> {
+    let run = hand_run;
+    let preview = |promised| promising_preview(20, promised);
+    vec![
+        run(
+            "dropped with its allowance of 2 slots, r is 2",
+            preview(2),
+            &[1],
+            vec![1; 4],
+            &[1, 1, 0, 0],
+            &[[2, 2, 2]],
+        ),
+        run(
+            "dropped with its allowance of 3 slots, r is 3",
+            preview(3),
+            &[1],
+            vec![1; 4],
+            &[1, 1, 1, 0],
+            &[[3, 3, 3]],
+        ),
+        run(
+            "it is the slots that count, and not what they bring",
+            preview(3),
+            &[1],
+            vec![0, 0, 0, 9],
+            &[1, 1, 1, 0],
+            &[[0, 3, 3]],
+        ),
+        run(
+            "it goes on past its promised part",
+            preview(3),
+            &[1],
+            vec![0, 3, 1],
+            &[1, 1, 1],
+            &[[4, 3, 3]],
+        ),
+        run(
+            "r = c, and so it is done at G",
+            preview(4),
+            &[1],
+            vec![1; 5],
+            &[1, 1, 1, 1, 0],
+            &[[4, 4, 4]],
+        ),
+        run(
+            "K 2: dropped with its allowance of 2 + 3 slots",
+            preview(3).with_loading(2),
+            &[1],
+            vec![1; 6],
+            &[1, 1, 1, 1, 1, 0],
+            &[[3, 5, 5]],
+        ),
+        run(
+            "a longer allowance keeps a HI row waiting",
+            above_a_hi_row(2),
+            &[1, 2],
+            vec![1; 5],
+            &[1, 1, 2, 2, 2],
+            &[[2, 2, 2], [3, 3, 5]],
+        ),
+    ]
+}
+
+/// Row 1 is HI, row 2 is LO and promises 3 of its 8 work units. The planner's order is
+/// 1, 2, and neither slack of row 2 has a slot to spare.
+pub fn promise_at_deadline() -> Table {
+    promising_table(2, 1, &[[0, 2, 3, 1, 0], [0, 8, 5, 0, 3]])
+}
+
+/// Runs of it: every slot before clock 5 supplies at least G, and row 2 has got 3 work
+/// units at clock 5, whatever comes later (rule 9.18).
+fn late_promise_runs() -> Vec<LateRun> {
+    let run = |what, supplies, got| {
+        let rows = &[1, 1, 2, 2, 2, 0, 0];
+        let ends = &[[2, 2, 2], [got, 3, 5]];
+        hand_run(what, promise_at_deadline(), &[1, 2], supplies, rows, ends)
+    };
+    let planned = &[1, 1, 2, 2, 2, 2, 0];
+    vec![
+        by_running_rule(
+            run(
+                "dropped for its deadline with its promised part, by its last slot",
+                vec![1; 7],
+                3,
+            ),
+            planned,
+            &[[2, 2, 2], [4, 4, 6]],
+        ),
+        by_running_rule(
+            run(
+                "its promised part stays when no slot supplies any more",
+                vec![1, 1, 1, 1, 1, 0, 0],
+                3,
+            ),
+            planned,
+            &[[2, 2, 2], [3, 4, 6]],
+        ),
+        by_running_rule(
+            run(
+                "a slot below G, and a work unit is missing",
+                vec![1, 1, 1, 0, 1, 9, 9],
+                2,
+            ),
+            planned,
+            &[[2, 2, 2], [8, 4, 6]],
+        ),
+    ]
+}
+
+/// Tables with a promise, and the number that the checks on tables give them (rules 5.4,
+/// 5.9 and 11.3).
+pub fn checked_promises() -> Vec<(&'static str, Table, u32)> {
+    let of = |rows: &[[u32; 5]]| promising_table(2, 1, rows);
+    let after_the_last = |promised| {
+        let mut table = of(&[[0, 4, 2, 0, 4]]);
+        table.promised[63] = promised;
+        table
+    };
+    let outside = [4, 1, 4, 0, 0];
+    vec![
+        ("r = c", of(&[[0, 4, 2, 0, 4]]), 0),
+        ("r above c", of(&[[0, 4, 2, 0, 5]]), 12),
+        ("r far above c", of(&[[0, 4, 2, 0, 99_999_999]]), 12),
+        ("HI with r = 0", of(&[[0, 4, 2, 1, 0]]), 0),
+        ("HI with a promise", of(&[[0, 4, 2, 1, 1]]), 12),
+        ("HI with r = c", of(&[[0, 4, 2, 1, 4]]), 12),
+        ("in row 2", of(&[[0, 4, 2, 0, 4], [0, 4, 2, 0, 5]]), 12),
+        (
+            "12 before 5 in a later row",
+            of(&[[0, 4, 2, 0, 5], outside]),
+            5,
+        ),
+        (
+            "12 after 5 in an earlier row",
+            of(&[outside, [0, 4, 2, 0, 5]]),
+            5,
+        ),
+        ("12 and 5 in one row", of(&[[0, 4, 2, 2, 5]]), 5),
+        ("no work, and a promise", of(&[[0, 0, 2, 0, 1]]), 5),
+        ("a promise after the last row", after_the_last(1), 5),
+        ("none there", after_the_last(0), 0),
+        (
+            "11 comes first",
+            of(&[[0, 4, 2, 0, 5]]).with_loading(17),
+            11,
+        ),
+        ("so does 4", promising_table(2, 3, &[[0, 4, 2, 1, 1]]), 4),
+    ]
+}
+
 /// A least workable speed, worked out by hand.
 pub struct LeastCase {
     pub what: &'static str,
@@ -567,10 +967,50 @@ pub fn least_speeds() -> Vec<LeastCase> {
     ];
     let mut cases = sought_in(Sought::Degraded, &degraded);
     cases.extend(sought_in(Sought::Normal, &normal));
+    cases.extend(least_speeds_with_promises());
     cases.extend(
         BOTH.into_iter()
             .flat_map(|sought| sought_in(sought, &refused)),
     );
+    cases
+}
+
+/// Least workable speeds of tables with promises, most of them of the cooler's.
+fn least_speeds_with_promises() -> Vec<LeastCase> {
+    let (at, none) = (least_of, Least::refused(7));
+    let cooler = promising_cooler;
+    let degraded = [
+        (
+            "r 171 fits into 9 slots at G 19",
+            cooler(1, 171),
+            at(19, &[2, 1]),
+        ),
+        ("r 172 needs G 20", cooler(1, 172), at(20, &[2, 1])),
+        ("r = c needs G 20", cooler(19, 180), at(20, &[2, 1])),
+        ("a preview with r = 0", promising_preview(2, 0), at(1, &[1])),
+        (
+            "a preview with a promise",
+            promising_preview(2, 3),
+            at(2, &[1]),
+        ),
+        ("r above c", cooler(1, 181), Least::refused(12)),
+    ];
+    let normal = [
+        ("r 171 with G 19", cooler(19, 171), at(20, &[2, 1])),
+        ("r 172 with G 19", cooler(19, 172), none),
+        ("r 108 with G 18", cooler(18, 108), at(23, &[1, 2])),
+        (
+            "r 109 takes the other order",
+            cooler(18, 109),
+            at(23, &[2, 1]),
+        ),
+        ("r 144 with G 18", cooler(18, 144), at(23, &[2, 1])),
+        ("r 145 with G 18", cooler(18, 145), none),
+        ("no N keeps a promise at G", promising_preview(2, 3), none),
+        ("r above c", cooler(19, 181), Least::refused(12)),
+    ];
+    let mut cases = sought_in(Sought::Degraded, &degraded);
+    cases.extend(sought_in(Sought::Normal, &normal));
     cases
 }
 
@@ -587,8 +1027,8 @@ pub const P1_TEXT: &str = concat!(
 /// rules). P1 is reported under the planner's order and from its last row up,
 /// P3 under both of its orders. Then come single rows: the most slack that there
 /// is, the last slack that is not late, and the first that is. Then tables that
-/// load: one for 1 slot and for 2, P1 for 16.
-pub fn reports() -> [(Table, Order, &'static str); 10] {
+/// load: one for 1 slot and for 2, P1 for 16. At last tables with promises.
+pub fn reports() -> [(Table, Order, &'static str); 12] {
     let alone = order_of(&[1]);
     [
         (
@@ -682,6 +1122,23 @@ pub fn reports() -> [(Table, Order, &'static str); 10] {
                 "         3         3        19        67       -48\n",
                 "         4         4        17        75       -70\n",
                 "        75         4\n",
+            ),
+        ),
+        (
+            promising_preview(2, 3),
+            alone,
+            concat!(
+                "         1         1         2         2        -1\n",
+                "         2         1\n",
+            ),
+        ),
+        (
+            above_a_hi_row(2),
+            order_of(&[2, 1]),
+            concat!(
+                "         1         2         2         3         1\n",
+                "         2         1         1         3        -3\n",
+                "         3         1\n",
             ),
         ),
     ]

@@ -9,17 +9,17 @@
 //! compiled library compare them with the other modules, and none of those uses them.
 //!
 //! Units: clocks, releases, deadlines, loading times, needs, finishes, slacks and
-//! closing slots are in slots; work is in work units; speeds and supplies are in
-//! work units per slot. Rows and places count from 1; row 0 means "no row".
+//! closing slots are in slots; work and promised parts are in work units; speeds and
+//! supplies are in work units per slot. Rows and places count from 1; row 0 means "no row".
 //!
 //! | module     | states                                                       |
 //! |------------|--------------------------------------------------------------|
-//! | `table`    | rows, tables, need, allowance, checks 3, 4, 11 and 5         |
+//! | `table`    | rows, tables, need, allowance, checks 3, 4, 11, 5 and 12     |
 //! | `order`    | orders by value, check 6, every arrangement of some rows     |
 //! | `run`      | the state of a run, the step by either rule, kept deadlines  |
 //! | `calls`    | the two run calls on paper, with number 8                    |
 //! | `record`   | the run record, check 9, one slot and forward on a record    |
-//! | `plan`     | worst finish, slack, the planner's choice                    |
+//! | `plan`     | worst finish, promised moment, slack, the planner's choice   |
 //! | `judge`    | the judge of orders                                          |
 //! | `speeds`   | the least workable speeds, by a scan over all of the range   |
 //! | `sheet`    | the sheet's fields, its reader and its writer                |
@@ -27,7 +27,7 @@
 //! | `report`   | the report: its figures, lines and totals                    |
 //! | `program`  | the planning program from input bytes to output bytes        |
 //! | `cases`    | cases worked out by hand, P1 to P4 among them                |
-//! | `before`   | answers from before tables had a loading time                |
+//! | `before`   | answers from before tables had loading times and promises    |
 //! | `random`   | a fixed-seed generator of numbers and tables for tests       |
 //! | `plain`    | the same answers by sweeps, for large tables and measures    |
 //! | `planners` | planning with a sweep for each trial, and for each place     |

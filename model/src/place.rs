@@ -3,10 +3,13 @@
 //! `table` speak of.
 
 use crate::sheet::{read_field, read_sheet, FIELD, FIRST_LINE, LINE_END, ROW_LINE};
-use crate::table::{row_is_within_limits, speeds_are_within_limits, Row};
+use crate::table::{promise_is_within_limit, row_is_within_limits, speeds_are_within_limits, Row};
 
-/// Fields in every line, the first one too (rules 6.5 and 6.6).
-const FIELDS: u32 = 4;
+/// Fields in the first line (rule 6.5).
+const FIRST_FIELDS: u32 = 4;
+
+/// Fields in the line of a row (rule 6.6).
+const ROW_FIELDS: u32 = 5;
 
 /// A place in a sheet. Row 0 is the first line; fields count from 1, and a line
 /// end counts as the field after the last; bytes count from 1.
@@ -17,7 +20,7 @@ pub struct Place {
     pub byte: u32,
 }
 
-/// The place that a sheet is refused for with 2, 3, 4, 5 or 11; none for 0 and
+/// The place that a sheet is refused for with 2, 3, 4, 5, 11 or 12; none for 0 and
 /// for 1, which speaks of the whole sheet.
 pub fn place_of_fault(sheet: &[u8]) -> Option<Place> {
     match read_sheet(sheet).0 {
@@ -30,6 +33,10 @@ pub fn place_of_fault(sheet: &[u8]) -> Option<Place> {
         }
         5 => outside_limits(sheet),
         11 => Some(whole_field(0, 4)),
+        12 => {
+            let index = first_row(sheet, |row| !promise_is_within_limit(row))?;
+            Some(whole_field(index as u32 + 1, ROW_FIELDS))
+        }
         _ => None,
     }
 }
@@ -49,7 +56,8 @@ fn malformed(sheet: &[u8]) -> Option<Place> {
     let mut at = 0;
     let mut row = 0;
     while at < sheet.len() {
-        for field in 1..=FIELDS {
+        let fields = if row == 0 { FIRST_FIELDS } else { ROW_FIELDS };
+        for field in 1..=fields {
             let bytes: &[u8; FIELD] = sheet[at..at + FIELD].try_into().expect("a field");
             if read_field(bytes).is_none() {
                 let byte = (at + goes_wrong(bytes)) as u32 + 1;
@@ -61,7 +69,7 @@ fn malformed(sheet: &[u8]) -> Option<Place> {
             let byte = at as u32 + 1;
             return Some(Place {
                 row,
-                field: FIELDS + 1,
+                field: fields + 1,
                 byte,
             });
         }
@@ -96,19 +104,19 @@ fn goes_wrong(bytes: &[u8; FIELD]) -> usize {
 /// whatever the others are; the release if there is none, since its limit is
 /// the deadline of its row.
 fn outside_limits(sheet: &[u8]) -> Option<Place> {
-    let rows: Vec<Row> = sheet[FIRST_LINE..].chunks(ROW_LINE).map(row_of).collect();
-    let index = rows.iter().position(|row| !row_is_within_limits(row))?;
+    let index = first_row(sheet, |row| !row_is_within_limits(row))?;
     let Row {
         work,
         deadline,
         level,
         ..
-    } = rows[index];
+    } = row_of(&sheet[FIRST_LINE + index * ROW_LINE..]);
     let good = Row {
         release: 0,
         work: 1,
         deadline: 1,
         level: 0,
+        promised: 0,
     };
     let alone = [
         (2, Row { work, ..good }),
@@ -118,6 +126,12 @@ fn outside_limits(sheet: &[u8]) -> Option<Place> {
     let at_fault = alone.iter().find(|(_, row)| !row_is_within_limits(row));
     let field = at_fault.map_or(1, |(field, _)| *field);
     Some(whole_field(index as u32 + 1, field))
+}
+
+/// Where the first row stands of which this is so, from 0 on.
+fn first_row(sheet: &[u8], is_so: impl Fn(&Row) -> bool) -> Option<usize> {
+    let mut rows = sheet[FIRST_LINE..].chunks(ROW_LINE).map(row_of);
+    rows.position(|row| is_so(&row))
 }
 
 fn figure(bytes: &[u8]) -> u32 {
@@ -131,5 +145,6 @@ fn row_of(line: &[u8]) -> Row {
         work: figure(&line[8..16]),
         deadline: figure(&line[16..24]),
         level: figure(&line[24..32]),
+        promised: figure(&line[32..40]),
     }
 }

@@ -15,7 +15,7 @@ use crate::record::Record;
 use crate::report::{figure, LAST_LINE, PLACE_LINE};
 use crate::sheet::{read_sheet, write_field, write_line, FIRST_LINE, LINE_END, ROW_LINE};
 use crate::speeds::{Least, Sought};
-use crate::table::{check_table, need, Table, HI, ROWS};
+use crate::table::{check_table, need, promised_need, Table, HI, ROWS};
 
 /// The planner: of the two, the one that is faster on hard sheets.
 pub use crate::planners::each_place::{plan, plan_and_trials};
@@ -91,10 +91,52 @@ fn is_order(n: usize, order: &Order) -> bool {
 
 /// The worst finish of every row, in slots.
 pub fn finishes(table: &Table, order: &Order) -> (u32, [u32; ROWS]) {
-    let mut finishes = [0; ROWS];
+    let (number, ends) = ends(table, order);
+    (number, ends.finishes)
+}
+
+/// The slack of every row, in slots.
+pub fn slacks(table: &Table, order: &Order) -> (u32, [i64; ROWS]) {
+    let (number, ends) = ends(table, order);
+    let mut slacks = [0; ROWS];
+    if number == 0 {
+        for (index, slack) in slacks.iter_mut().enumerate().take(table.n as usize) {
+            *slack = ends.slack(table, index);
+        }
+    }
+    (number, slacks)
+}
+
+/// The promised moment of every row, in slots, 0 for one that promises nothing.
+pub fn promised_moments(table: &Table, order: &Order) -> (u32, [u32; ROWS]) {
+    let (number, ends) = ends(table, order);
+    (number, ends.moments)
+}
+
+/// When the rows of a table are through in their worst runs.
+struct Ends {
+    /// Worst finishes, in slots.
+    finishes: [u32; ROWS],
+    /// Promised moments, in slots, 0 for a row that promises nothing.
+    moments: [u32; ROWS],
+}
+
+impl Ends {
+    /// Of the row at this index, in slots.
+    fn slack(&self, table: &Table, index: usize) -> i64 {
+        let last = self.finishes[index].max(self.moments[index]);
+        i64::from(table.deadline[index]) - i64::from(last)
+    }
+}
+
+fn ends(table: &Table, order: &Order) -> (u32, Ends) {
+    let mut ends = Ends {
+        finishes: [0; ROWS],
+        moments: [0; ROWS],
+    };
     let refusal = check(table, order);
     if refusal != 0 {
-        return (refusal, finishes);
+        return (refusal, ends);
     }
     let places = &order[..table.n as usize];
     let mut turns = [0; ROWS];
@@ -106,15 +148,19 @@ pub fn finishes(table: &Table, order: &Order) -> (u32, [u32; ROWS]) {
     for (place, &row) in places.iter().enumerate().rev() {
         let index = row as usize - 1;
         let speed = sweep_speed(table.level[index]);
-        finishes[index] = left.finish(place, speed, u32::MAX);
+        ends.finishes[index] = left.finish(place, speed, u32::MAX);
+        if table.promised[index] > 0 {
+            let part = promised_need(table, row);
+            ends.moments[index] = left.promised_moment(place, part, 0, u32::MAX);
+        }
         left.take(place);
     }
-    (0, finishes)
+    (0, ends)
 }
 
 /// The judge.
 pub fn judge(table: &Table, order: &Order) -> Verdict {
-    let (number, finishes) = finishes(table, order);
+    let (number, ends) = ends(table, order);
     let mut verdict = Verdict {
         number,
         yes: false,
@@ -124,8 +170,8 @@ pub fn judge(table: &Table, order: &Order) -> Verdict {
     if number != 0 {
         return verdict;
     }
-    for (index, &finish) in finishes.iter().enumerate().take(table.n as usize) {
-        let slack = i64::from(table.deadline[index]) - i64::from(finish);
+    for index in 0..table.n as usize {
+        let slack = ends.slack(table, index);
         if verdict.row == 0 || slack < verdict.slack {
             verdict.row = index as u8 + 1;
             verdict.slack = slack;
@@ -136,10 +182,13 @@ pub fn judge(table: &Table, order: &Order) -> Verdict {
 }
 
 /// What closes a row: its work got, or a LO row's allowance used up. That is so
-/// once its slots after loading would have brought all of its work at N.
+/// once its slots after loading would have brought all of its work at N and its
+/// promised part at G.
 fn is_over(table: &Table, index: usize, got: u32, used: u32) -> bool {
     let at_work = u64::from(used.saturating_sub(table.loading));
-    let used_up = || at_work * u64::from(table.normal) >= u64::from(table.work[index]);
+    let bring = |speed: u32, work: u32| at_work * u64::from(speed) >= u64::from(work);
+    let used_up =
+        || bring(table.normal, table.work[index]) && bring(table.degraded, table.promised[index]);
     got >= table.work[index] || table.level[index] != HI && used_up()
 }
 
@@ -280,7 +329,8 @@ pub fn write_back(table: &Table, lent: &mut [u8]) -> (u32, u32) {
     for (index, line) in rows.chunks_exact_mut(ROW_LINE).enumerate() {
         let (release, work) = (table.release[index], table.work[index]);
         let (deadline, level) = (table.deadline[index], table.level[index]);
-        put_line(line, &[release, work, deadline, level], write_field);
+        let figures = [release, work, deadline, level, table.promised[index]];
+        put_line(line, &figures, write_field);
     }
     (0, length as u32)
 }
@@ -301,7 +351,7 @@ fn put_line<Number: Copy, const WIDTH: usize>(
 /// The report: number and length of its lines in bytes. It allocates nothing,
 /// and takes both totals over the lines while it writes them.
 pub fn report(table: &Table, order: &Order, lent: &mut [u8]) -> (u32, u32) {
-    let (refusal, finishes) = finishes(table, order);
+    let (refusal, ends) = ends(table, order);
     if refusal != 0 {
         return (refusal, 0);
     }
@@ -316,8 +366,8 @@ pub fn report(table: &Table, order: &Order, lent: &mut [u8]) -> (u32, u32) {
         let row = order[place];
         let index = row as usize - 1;
         let need = i64::from(need(table, row, table.normal));
-        let finish = i64::from(finishes[index]);
-        let slack = i64::from(table.deadline[index]) - finish;
+        let finish = i64::from(ends.finishes[index]);
+        let slack = ends.slack(table, index);
         needs += need;
         late += i64::from(slack < 0);
         let numbers = [place as i64 + 1, i64::from(row), need, finish, slack];
@@ -340,11 +390,10 @@ pub fn program(input: &[u8]) -> Vec<u8> {
         return write_line(&[made.number, made.left.count_ones()]);
     }
     let mut text = write_line(&[0, table.n]);
-    let (_, finishes) = finishes(&table, &made.order);
+    let (_, slacks) = slacks(&table, &made.order);
     for place in 1..=table.n {
         let row = made.order[place as usize - 1];
-        let index = row as usize - 1;
-        let slack = table.deadline[index] - finishes[index];
+        let slack = slacks[row as usize - 1] as u32;
         text.extend(write_line(&[place, u32::from(row), slack]));
     }
     text

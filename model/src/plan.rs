@@ -1,4 +1,4 @@
-//! Worst finish, slack and the planner's choice.
+//! Worst finish, promised moment, slack and the planner's choice.
 
 use crate::order::{order_of, Order, NO_ORDER};
 use crate::run::{step, State};
@@ -27,9 +27,29 @@ pub fn worst_finish(table: &Table, order: &Order, row: u8) -> u32 {
     state.closing[index]
 }
 
-/// Deadline minus worst finish, in slots (rule 3.7).
+/// The first clock, in slots, at which a LO row has got its promised part in the run
+/// that supplies exactly G (rule 3.9). The run is worked slot by slot. The row is
+/// not dropped before, since its allowance is no less than its need of that part.
+pub fn promised_moment(table: &Table, order: &Order, row: u8) -> u32 {
+    let index = row as usize - 1;
+    let mut state = State::FRESH;
+    while state.got[index] < table.promised[index] {
+        step(table, order, &mut state, table.degraded);
+    }
+    state.clock
+}
+
+/// Deadline minus worst finish, in slots; for a LO row with a promise the lesser of
+/// that and deadline minus promised moment (rule 3.7).
 pub fn slack(table: &Table, order: &Order, row: u8) -> i64 {
-    i64::from(table.row(row).deadline) - i64::from(worst_finish(table, order, row))
+    let job = table.row(row);
+    let before_deadline = |clock: u32| i64::from(job.deadline) - i64::from(clock);
+    let of_finish = before_deadline(worst_finish(table, order, row));
+    if job.level == LO && job.promised > 0 {
+        of_finish.min(before_deadline(promised_moment(table, order, row)))
+    } else {
+        of_finish
+    }
 }
 
 /// The rows of `left` as they are tried at one place: first those at LO, then
@@ -76,15 +96,15 @@ pub fn trial_order(left: &[u8], placed: &[u8], row: u8) -> Order {
     order_of(&places)
 }
 
-/// A trial: does the row finish in time, below every other row left (rule 4.4)?
-/// `left` holds the rows left with the row itself, `placed` the rows that have
+/// A trial: is the row's slack not below zero, below every other row left (rule
+/// 4.4)? `left` holds the rows left with the row itself, `placed` the rows that have
 /// their places, highest first.
 pub fn passes_lowest(table: &Table, left: &[u8], placed: &[u8], row: u8) -> bool {
     slack(table, &trial_order(left, placed, row), row) >= 0
 }
 
 /// The planner's answer: 0 with an order (rule 10.0), 7 with the rows left and
-/// an order of zeros (rule 10.7), 3, 4, 11 or 5 with all zero.
+/// an order of zeros (rule 10.7), 3, 4, 11, 5 or 12 with all zero.
 #[derive(Clone, Copy, Debug, PartialEq, Eq)]
 pub struct Plan {
     pub number: u32,

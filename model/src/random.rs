@@ -1,6 +1,6 @@
 //! A small generator with fixed seeds, so that every test run is the same.
 
-use crate::table::{Row, Table, MOST_LOADING};
+use crate::table::{Row, Table, HI, LO, MOST_LOADING};
 
 /// The splitmix64 generator.
 pub struct Random {
@@ -66,7 +66,7 @@ pub struct Ranges {
 }
 
 /// An accepted table: 1 to `rows` rows, every figure from its range, a loading
-/// time from 0 to 16 slots.
+/// time from 0 to 16 slots; about half of such tables have promises.
 pub fn table_in(random: &mut Random, ranges: Ranges) -> Table {
     let n = random.between(1, ranges.rows);
     table_of_rows_in(random, n, ranges)
@@ -84,6 +84,39 @@ pub fn loading(random: &mut Random) -> u32 {
         0
     } else {
         random.between(1, MOST_LOADING)
+    }
+}
+
+/// A promised part, in work units, for a row of so much work at this level: none,
+/// all of the work, or some of it.
+pub fn promise(random: &mut Random, work: u32, level: u32) -> u32 {
+    if level == HI {
+        return 0;
+    }
+    let part = random.between(1, work);
+    random.one_of(&[0, work, part])
+}
+
+/// The accepted table with other promises, none or random ones.
+pub fn with_promises(random: &mut Random, table: &Table) -> Table {
+    let mut promising = table.without_promises();
+    if random.once_in(2) {
+        for index in 0..table.n as usize {
+            promising.promised[index] = promise(random, table.work[index], table.level[index]);
+        }
+    }
+    promising
+}
+
+/// Changes an accepted table so that check 12 refuses it: a row promises more than its
+/// work, or is HI and promises a part.
+pub fn spoil_promise(random: &mut Random, table: &mut Table) {
+    let index = random.between(0, table.n - 1) as usize;
+    let work = table.work[index];
+    if random.once_in(2) {
+        table.promised[index] = random.one_of(&[work + 1, 1_000_001, u32::MAX]);
+    } else {
+        (table.level[index], table.promised[index]) = (HI, random.between(1, work));
     }
 }
 
@@ -105,9 +138,10 @@ pub fn loading_table_in(random: &mut Random, n: u32, loading: u32, ranges: Range
             release,
             work: random.between(1, ranges.need * normal),
             deadline: release + window,
-            level: random.between(0, 1),
+            level: random.one_of(&[LO, HI]),
+            promised: 0,
         }
     };
     let rows: Vec<Row> = (0..n).map(|_| row(random)).collect();
-    Table::of(normal, degraded, loading, &rows)
+    with_promises(random, &Table::of(normal, degraded, loading, &rows))
 }

@@ -116,8 +116,8 @@ fn brought(table: &Table, used_before: u32, supply: u32) -> u32 {
 pub fn is_finished(table: &Table, row: u8, got: u32, used: u32) -> bool {
     let job = table.row(row);
     let done = got == job.work;
-    let allowance_used_up = job.level == LO && used >= allowance(table, row);
-    done || allowance_used_up
+    let allowance_used_up = || job.level == LO && used >= allowance(table, row);
+    done || allowance_used_up()
 }
 
 /// The state after one step by the planning rule for each supply, first to last,
@@ -133,6 +133,11 @@ pub fn run_by(rule: Rule, table: &Table, order: &Order, supplies: &[u32]) -> Sta
         rule(table, order, &mut state, supply);
     }
     state
+}
+
+/// The row has got at least its promised part (rule 3.8).
+pub fn has_promised(table: &Table, state: &State, row: u8) -> bool {
+    state.got[row as usize - 1] >= table.row(row).promised
 }
 
 /// The row is done, and was closed no later than its deadline (rule 3.1).

@@ -10,8 +10,8 @@ pub const FIELD: usize = 8;
 /// Bytes in the first line: n, N, G, K and the line end (rule 6.5).
 pub const FIRST_LINE: usize = 33;
 
-/// Bytes in the line of a row: a, c, d, level and the line end (rule 6.6).
-pub const ROW_LINE: usize = 33;
+/// Bytes in the line of a row: a, c, d, level, r and the line end (rule 6.6).
+pub const ROW_LINE: usize = 41;
 
 /// Bytes in the longest sheet, which has 64 rows (rules 6.7 and 15.8).
 pub const LONGEST_SHEET: usize = FIRST_LINE + ROWS * ROW_LINE;
@@ -75,15 +75,16 @@ fn read_or_refuse(bytes: &[u8]) -> Result<Table, u32> {
     }
     let mut rows = Vec::new();
     for line in row_lines.chunks(ROW_LINE) {
-        let [release, work, deadline, level] = read_line(line).ok_or(2u32)?;
+        let [release, work, deadline, level, promised] = read_line(line).ok_or(2u32)?;
         rows.push(Row {
             release,
             work,
             deadline,
             level,
+            promised,
         });
     }
-    // The count has passed 3, so what is left of these checks is 4, 11, then 5.
+    // The count has passed 3, so what is left of these checks is 4, 11, 5, then 12.
     let table = Table::of(normal, degraded, loading, &rows);
     match check_table(&table) {
         0 => Ok(table),
@@ -137,6 +138,7 @@ pub fn write_sheet(n: u32, normal: u32, degraded: u32, loading: u32, rows: &[Row
             row.work,
             row.deadline,
             row.level,
+            row.promised,
         ]));
     }
     sheet

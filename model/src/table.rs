@@ -1,4 +1,4 @@
-//! Rows, tables, need and allowance, and the checks on tables (3, 4, 11 and 5;
+//! Rows, tables, need and allowance, and the checks on tables (3, 4, 11, 5 and 12;
 //! sections 1 and 5 of the rules).
 
 /// Entries in every column of a table: the most rows it can hold (rule 5.1).
@@ -33,6 +33,9 @@ pub struct Row {
     pub deadline: u32,
     /// Level: 0 is LO, 1 is HI.
     pub level: u32,
+    /// Promised part r, in work units: what a LO job gets by its deadline even at
+    /// G; 0 promises nothing (rule 1.11).
+    pub promised: u32,
 }
 
 /// A table of n rows with its two speeds and its loading time. The column entry
@@ -57,6 +60,8 @@ pub struct Table {
     pub deadline: [u32; ROWS],
     /// Level of each row, 0 for LO and 1 for HI.
     pub level: [u32; ROWS],
+    /// Promised part of each row, in work units.
+    pub promised: [u32; ROWS],
 }
 
 impl Table {
@@ -70,6 +75,7 @@ impl Table {
         work: [0; ROWS],
         deadline: [0; ROWS],
         level: [0; ROWS],
+        promised: [0; ROWS],
     };
 
     /// The table with these speeds, this loading time and at most 64 rows, zeros
@@ -88,6 +94,7 @@ impl Table {
             table.work[index] = row.work;
             table.deadline[index] = row.deadline;
             table.level[index] = row.level;
+            table.promised[index] = row.promised;
         }
         table
     }
@@ -95,6 +102,14 @@ impl Table {
     /// The same table with a loading time of K slots.
     pub fn with_loading(self, loading: u32) -> Table {
         Table { loading, ..self }
+    }
+
+    /// The same table without a promise.
+    pub fn without_promises(self) -> Table {
+        Table {
+            promised: [0; ROWS],
+            ..self
+        }
     }
 
     /// Row number `row`, from 1 on (rule 1.3).
@@ -113,20 +128,32 @@ impl Table {
             work: self.work[index],
             deadline: self.deadline[index],
             level: self.level[index],
+            promised: self.promised[index],
         }
     }
 }
 
-/// The need of a row at a speed, in slots: those in which it loads, and those
-/// that its work takes, rounded up (rule 1.8). The speed is at least 1 work unit
-/// per slot.
-pub fn need(table: &Table, row: u8, speed: u32) -> u32 {
-    table.loading + table.row(row).work.div_ceil(speed)
+/// The need of so much work (work units) at a speed, in slots: those in which a row
+/// loads, and those that the work takes, rounded up (rule 1.8). The speed is at
+/// least 1 work unit per slot.
+pub fn need_of(table: &Table, work: u32, speed: u32) -> u32 {
+    table.loading + work.div_ceil(speed)
 }
 
-/// The allowance of a LO row in slots: its need at N (rule 1.9).
+/// The need of a row's work at a speed, in slots (rule 1.8).
+pub fn need(table: &Table, row: u8, speed: u32) -> u32 {
+    need_of(table, table.row(row).work, speed)
+}
+
+/// The need of a row's promised part at G, in slots (rule 1.11).
+pub fn promised_need(table: &Table, row: u8) -> u32 {
+    need_of(table, table.row(row).promised, table.degraded)
+}
+
+/// The allowance of a LO row in slots: its need at N, or that of its promised part
+/// at G if it is larger (rule 1.9).
 pub fn allowance(table: &Table, row: u8) -> u32 {
-    need(table, row, table.normal)
+    need(table, row, table.normal).max(promised_need(table, row))
 }
 
 /// Check 3 refuses any other count (rule 5.1).
@@ -154,11 +181,19 @@ pub fn row_is_within_limits(row: &Row) -> bool {
 
 /// A row all zero, as every row after row n has to be (rule 5.4).
 pub fn row_is_zero(row: &Row) -> bool {
-    row.release == 0 && row.work == 0 && row.deadline == 0 && row.level == 0
+    let times = row.release == 0 && row.deadline == 0;
+    times && row.work == 0 && row.level == 0 && row.promised == 0
 }
 
-/// Checks 3, 4, 11 and 5 in this order on a table with any values: 0 if it is
-/// accepted (rule 5.5), else the number of the first refusal (rule 11.3).
+/// In work units; check 12 refuses any other promise: one of more than the work, and
+/// one of a HI row (rule 5.9).
+pub fn promise_is_within_limit(row: &Row) -> bool {
+    row.promised <= row.work && (row.level == LO || row.promised == 0)
+}
+
+/// Checks 3, 4, 11, 5 and 12 in this order on a table with any values: 0 if it is
+/// accepted (rule 5.5), else the number of the first refusal (rule 11.3). All rows
+/// and those after row n have passed 5 before any is asked for its promise.
 pub fn check_table(table: &Table) -> u32 {
     if !count_is_within_limit(table.n) {
         return 3;
@@ -178,6 +213,11 @@ pub fn check_table(table: &Table) -> u32 {
         };
         if !fine {
             return 5;
+        }
+    }
+    for index in 0..table.n as usize {
+        if !promise_is_within_limit(&table.row_at(index)) {
+            return 12;
         }
     }
     0

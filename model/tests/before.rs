@@ -1,11 +1,12 @@
 //! A loading time of 0 slots changes no answer: the model and the plain planner
 //! answer as they did before tables had one, and one slot and forward do where there
-//! is no late preview to drop. Sheets of that time lack the field of K.
+//! is no late preview to drop. Nor does a table without a promise: all calls answer as
+//! they did before rows had one (rule 20.2). Sheets of these times lack fields.
 
 mod common;
 
 use common::table_without_loading;
-use model::before::{answers, with_loading_field, without_loading_field, Calls, STORED};
+use model::before::{answers, Before, Calls};
 use model::cases::{p1, p2, p3, p4};
 use model::judge::judge_table;
 use model::plain;
@@ -14,7 +15,8 @@ use model::program::planning_program;
 use model::random::Random;
 use model::record::{Forward, OneSlot, Record};
 use model::report::report;
-use model::sheet::{read_sheet, sheet_of, write_back};
+use model::sheet::{read_sheet, sheet_of, write_back, write_line};
+use model::speeds::least;
 use model::table::Table;
 
 #[test]
@@ -28,8 +30,15 @@ fn the_model_answers_as_before() {
         one_slot: |record, supply| record.one_slot(supply),
         forward: |record, supplies| record.forward(supplies),
         program: planning_program,
+        least,
     };
-    assert_eq!(answers(&of_model), STORED);
+    assert_as_before(&of_model);
+}
+
+fn assert_as_before(calls: &Calls) {
+    for before in [Before::Loading, Before::Promises] {
+        assert_eq!(answers(calls, before), before.stored(), "{before:?}");
+    }
 }
 
 #[test]
@@ -43,8 +52,9 @@ fn the_plain_planner_answers_as_before() {
         one_slot: plain_slot,
         forward: plain_forward,
         program: plain::program,
+        least: plain::least_by_halves,
     };
-    assert_eq!(answers(&of_plain), STORED);
+    assert_as_before(&of_plain);
 }
 
 fn plain_slot(record: &Record, supply: u32) -> OneSlot {
@@ -67,26 +77,31 @@ fn plain_forward(record: &Record, supplies: &[u32]) -> Forward {
     }
 }
 
-/// A sheet without the field of K is refused with 2, and read with a field of 0
-/// slots put in.
-fn assert_old_sheet(table: &Table) {
-    let sheet = sheet_of(table);
-    let old = without_loading_field(&sheet);
-    assert_eq!(old.len() + 8, sheet.len());
-    assert_eq!(read_sheet(&old), (2, Table::ZERO), "{table:?}");
-    assert_eq!(planning_program(&old), b"       2       0\n");
-    assert_eq!(with_loading_field(&old), sheet);
+/// A sheet without a field of K is refused with 2, one without fields of r with 1
+/// (rule 20.6), and both are read with fields of 0 put in.
+fn assert_old_sheets(table: &Table) {
+    let (sheet, n) = (sheet_of(table), table.n as usize);
+    for (before, length, number) in [
+        (Before::Loading, 25 + 33 * n, 2),
+        (Before::Promises, 33 + 33 * n, 1),
+    ] {
+        let old = before.old_sheet(&sheet);
+        assert_eq!(old.len(), length);
+        assert_eq!(read_sheet(&old), (number, Table::ZERO), "{table:?}");
+        assert_eq!(planning_program(&old), write_line(&[number, 0]));
+        assert_eq!(before.new_sheet(&old), sheet);
+    }
     assert_eq!(read_sheet(&sheet), (0, *table));
 }
 
 #[test]
-fn sheets_without_the_field_are_refused_with_2() {
+fn sheets_without_a_field_are_refused() {
     let mut random = Random::seeded(902);
     for _ in 0..5_000 {
-        assert_old_sheet(&table_without_loading(&mut random));
+        assert_old_sheets(&table_without_loading(&mut random).without_promises());
     }
     for table in [p1(), p2(), p3(), p4()] {
-        assert_old_sheet(&table);
+        assert_old_sheets(&table);
     }
     // P1's stands here as bytes.
     let old = concat!(
@@ -96,5 +111,5 @@ fn sheets_without_the_field_are_refused_with_2() {
         "       5      11      19       1\n",
         "       0       5       5       0\n",
     );
-    assert_eq!(without_loading_field(&sheet_of(&p1())), old.as_bytes());
+    assert_eq!(Before::Loading.old_sheet(&sheet_of(&p1())), old.as_bytes());
 }

@@ -8,12 +8,13 @@ use common::{p3_at, refused_verdict, RULES};
 use model::calls::LAST_CLOCK;
 use model::cases::{
     at_loading, at_loading_planned, late_runs, loading_runs, no_order, ordered, p1, p2, p3, p4,
-    row, serving, table, HandRun, P1_TEXT,
+    promise_at_deadline, promise_runs, promises, row, serving, table, HandRun, P1_TEXT,
 };
 use model::judge::{judge, judge_table, Verdict};
 use model::order::{order_of, orders, Order, NO_ORDER};
 use model::plain;
-use model::plan::{passes_lowest, plan, slack, worst_finish, Plan};
+use model::plan::{passes_lowest, plan, promised_moment, slack, worst_finish, Plan};
+use model::planners::each_trial;
 use model::program::planning_program;
 use model::record::Record;
 use model::run::{run_by, running_step, step, Rule, State};
@@ -146,6 +147,61 @@ fn runs_that_load() {
         assert_eq!(rows_and_ends(step, &case), expected, "{}", case.what);
         assert_worked(&case);
     }
+}
+
+/// Runs in which a LO row has its allowance by its promise (rule 1.9), by either rule of
+/// a slot.
+#[test]
+fn runs_with_promises() {
+    for case in promise_runs() {
+        let expected = (case.rows.clone(), case.ends.clone());
+        assert_eq!(rows_and_ends(step, &case), expected, "{}", case.what);
+        assert_worked(&case);
+    }
+}
+
+/// Worst finishes, promised moments, slacks, verdict and planner's answer (rules 3.6 to
+/// 3.9 and 4.4), and the verdict over every course of speed (rule 3.4).
+#[test]
+fn tables_with_promises() {
+    for case in promises() {
+        let (what, table, order) = (case.what, &case.table, &case.order);
+        let rows = 1..=table.n as u8;
+        let finishes: Vec<u32> = rows
+            .clone()
+            .map(|row| worst_finish(table, order, row))
+            .collect();
+        let moments: Vec<u32> = rows
+            .clone()
+            .map(|row| promised_moment(table, order, row))
+            .collect();
+        let slacks: Vec<i64> = rows.map(|row| slack(table, order, row)).collect();
+        assert_eq!(finishes, case.finishes, "{what}");
+        assert_eq!(moments, case.moments, "{what}");
+        assert_eq!(slacks, case.slacks, "{what}");
+        assert_eq!(plan(table), case.plan, "{what}");
+        assert_eq!(plain::plan(table), case.plan, "{what}");
+        assert_eq!(each_trial::plan(table), case.plan, "{what}");
+        let verdict = judge_table(table, order);
+        let least = *slacks.iter().min().unwrap();
+        assert_eq!((verdict.yes, verdict.slack), (least >= 0, least), "{what}");
+        assert_eq!(plain::judge(table, order), verdict, "{what}");
+        if table.work[0] < 10 {
+            let by_courses = correct_by_every_course(step, table, order);
+            assert_eq!(by_courses, verdict.yes, "{what}");
+        }
+    }
+}
+
+/// Its runs are among the late ones.
+#[test]
+fn a_promise_kept_at_its_deadline_alone() {
+    let table = promise_at_deadline();
+    let order = order_of(&[1, 2]);
+    assert_eq!(plan(&table), ordered(&[1, 2]));
+    assert_eq!([1, 2].map(|row| slack(&table, &order, row)), [1, 0]);
+    let got_at = |clock: usize| run_by(running_step, &table, &order, &vec![1; clock]).got[1];
+    assert_eq!([4, 5, 6].map(got_at), [2, 3, 3]);
 }
 
 /// Runs in which a preview is late or about to be, by the running rule, and what the

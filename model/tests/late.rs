@@ -319,9 +319,9 @@ fn one_run_while_the_speed_is_normal() {
     loadings.assert_all(50);
 }
 
-/// The table with every row HI.
+/// The table with every row HI, and so without promises.
 fn all_high(table: &Table) -> Table {
-    let mut high = *table;
+    let mut high = table.without_promises();
     high.level[..table.n as usize].fill(HI);
     high
 }

@@ -5,15 +5,17 @@
 mod common;
 
 use common::{p3_at, refused_verdict, rubbish, TOO_LONG};
-use model::cases::{p1, p3, table};
+use model::cases::{checked_promises, p1, p3, promising_table, table};
 use model::judge::{judge, judge_table};
-use model::order::{check_order, order_of, NO_ORDER};
+use model::order::{check_order, order_of, Order, NO_ORDER};
 use model::plain;
 use model::plan::{plan, Plan};
 use model::program::planning_program;
 use model::record::{Record, Unsound};
 use model::report::{report, LONGEST_REPORT};
+use model::run::State;
 use model::sheet::{read_sheet, sheet_of, write_back, write_sheet};
+use model::speeds::{least, Least, BOTH};
 use model::table::{check_table, Table, MOST_LOADING};
 
 #[test]
@@ -67,6 +69,35 @@ fn cut_sheet(table: &Table) -> Vec<u8> {
     write_sheet(table.n, normal, degraded, loading, &table.rows())
 }
 
+/// Every call that takes a table refuses this one with this number: with zeros, with
+/// lent bytes as they were (rules 10.5, 10.11 and 10.12), and within 9 for a record
+/// (rule 8.4).
+fn assert_refused(table: &Table, order: &Order, number: u32) {
+    let refused = Plan {
+        number,
+        order: NO_ORDER,
+        left: 0,
+    };
+    assert_eq!(check_table(table), number, "{table:?}");
+    assert_eq!((plan(table), plain::plan(table)), (refused, refused));
+    assert_eq!(judge_table(table, order), refused_verdict(number));
+    assert_eq!(plain::judge(table, order), refused_verdict(number));
+    assert_eq!(plain::finishes(table, order), (number, [0; 64]));
+    assert_eq!(plain::slacks(table, order), (number, [0; 64]));
+    assert_eq!(Record::fresh(table, order), (number, Record::ZERO));
+    assert_eq!(refused_writing(table, 3_000), (number, 0));
+    let mut lent = rubbish(LONGEST_REPORT);
+    assert_eq!(report(table, order, &mut lent), (number, 0));
+    assert_eq!(lent, rubbish(LONGEST_REPORT));
+    for sought in BOTH {
+        assert_eq!(least(table, sought), Least::refused(number));
+    }
+    let record = Record::holding(table, order, &State::FRESH);
+    assert_eq!(record.reasons(), [Unsound::TableOrOrder(number)]);
+    assert_eq!(record.one_slot(1).number, 9);
+    assert_eq!(record.forward(&[]).number, 9);
+}
+
 /// The reader's number for such a sheet; a refusal comes with a table of zeros.
 fn read_sheet_number(table: &Table) -> u32 {
     let (number, read) = read_sheet(&cut_sheet(table));
@@ -74,36 +105,54 @@ fn read_sheet_number(table: &Table) -> u32 {
     number
 }
 
-/// Every call that takes a table answers 11 as it answers 5: with zeros, and with
-/// lent bytes as they were (rule 10.11).
+/// It is answered as 5 is (rule 10.11).
 #[test]
 fn number_11_loading_of_17_slots() {
     let order = order_of(&[1, 2, 3, 4]);
-    let refused = Plan {
-        number: 11,
-        order: NO_ORDER,
-        left: 0,
-    };
     for loading in TOO_LONG {
         let long = p1().with_loading(loading);
-        assert_eq!(check_table(&long), 11, "K {loading}");
+        assert_refused(&long, &order, 11);
         assert_eq!(read_sheet_number(&long), 11);
         assert_eq!(planning_program(&cut_sheet(&long)), b"      11       0\n");
-        assert_eq!((plan(&long), plain::plan(&long)), (refused, refused));
-        assert_eq!(judge_table(&long, &order), refused_verdict(11));
         let listed = judge(5, 2, loading, &long.rows(), &order);
         assert_eq!(listed, refused_verdict(11));
-        assert_eq!(plain::finishes(&long, &order), (11, [0; 64]));
-        assert_eq!(Record::fresh(&long, &order), (11, Record::ZERO));
-        assert_eq!(refused_writing(&long, 3_000), (11, 0));
-        let mut lent = rubbish(LONGEST_REPORT);
-        assert_eq!(report(&long, &order, &mut lent), (11, 0));
-        assert_eq!(lent, rubbish(LONGEST_REPORT));
     }
     for loading in 0..=MOST_LOADING {
         let fine = p1().with_loading(loading);
         assert_eq!(check_table(&fine), 0, "K {loading}");
         assert_eq!(read_sheet(&sheet_of(&fine)), (0, fine));
+    }
+}
+
+/// A promise of more than the work, and one of a HI row; after 5 in all rows, and
+/// before 6 (rules 5.9, 10.12 and 11.3).
+#[test]
+fn number_12_promises_above_the_work_and_of_hi_rows() {
+    for (what, table, number) in checked_promises() {
+        let rows: Vec<u8> = (1..=table.n as u8).collect();
+        for order in [order_of(&rows), NO_ORDER] {
+            let refusal = if number == 0 && order == NO_ORDER {
+                6
+            } else {
+                number
+            };
+            assert_eq!(judge_table(&table, &order).number, refusal, "{what}");
+            if number != 0 {
+                assert_refused(&table, &order, number);
+            }
+        }
+        if table.promised[63] == 0 {
+            let (normal, degraded) = (table.normal, table.degraded);
+            let listed = judge(
+                normal,
+                degraded,
+                table.loading,
+                &table.rows(),
+                &order_of(&rows),
+            );
+            assert_eq!(listed.number, number, "{what}");
+            assert_eq!(read_sheet_number(&table), number, "{what}");
+        }
     }
 }
 
@@ -133,13 +182,14 @@ fn number_5_release_at_the_deadline() {
 #[test]
 fn number_5_figures_after_the_last_row() {
     for index in [4, 63] {
-        for column in 0..4 {
+        for column in 0..5 {
             let mut behind = p1();
             match column {
                 0 => behind.release[index] = 1,
                 1 => behind.work[index] = 1,
                 2 => behind.deadline[index] = 1,
-                _ => behind.level[index] = 1,
+                3 => behind.level[index] = 1,
+                _ => behind.promised[index] = 1,
             }
             assert_eq!(check_table(&behind), 5, "column {column}, index {index}");
         }
@@ -207,25 +257,25 @@ fn refused_writing(table: &Table, room: usize) -> (u32, u32) {
 
 #[test]
 fn number_10_a_byte_less_than_the_sheet() {
-    for room in [0, 1, 33, 157, 164] {
+    for room in [0, 1, 33, 189, 196] {
         assert_eq!(refused_writing(&p1(), room), (10, 0), "{room} bytes");
     }
-    let mut lent = [165; 166];
-    assert_eq!(write_back(&p1(), &mut lent[..165]), (0, 165));
-    assert_eq!((&lent[..165], lent[165]), (&sheet_of(&p1())[..], 165));
-    assert_eq!(write_back(&p1(), &mut lent), (0, 165));
-    assert_eq!((&lent[..165], lent[165]), (&sheet_of(&p1())[..], 165));
+    let mut lent = [165; 198];
+    assert_eq!(write_back(&p1(), &mut lent[..197]), (0, 197));
+    assert_eq!((&lent[..197], lent[197]), (&sheet_of(&p1())[..], 165));
+    assert_eq!(write_back(&p1(), &mut lent), (0, 197));
+    assert_eq!((&lent[..197], lent[197]), (&sheet_of(&p1())[..], 165));
 }
 
-/// 3, 4, 11 and 5 come before 10, however few the lent bytes (rule 11.6).
+/// 3, 4, 11, 5 and 12 come before 10, however few the lent bytes (rule 11.6).
 #[test]
 fn checks_of_the_writer_come_in_their_order() {
     let mut wrong = Table {
         n: 0,
         normal: 0,
-        ..table(1, 1, &[[4, 1, 4, 0]]).with_loading(17)
+        ..promising_table(1, 1, &[[4, 1, 4, 0, 2]]).with_loading(17)
     };
-    for room in [0, 65, 66, 3_000] {
+    for room in [0, 73, 74, 3_000] {
         for n in [0, 65, u32::MAX] {
             wrong.n = n;
             assert_eq!(refused_writing(&wrong, room), (3, 0), "n {n}");
@@ -243,10 +293,12 @@ fn checks_of_the_writer_come_in_their_order() {
         let mut behind = loads;
         behind.level[63] = 1;
         assert_eq!(refused_writing(&behind, room), (5, 0));
-        if room < 66 {
+        assert_eq!(refused_writing(&loads, room), (12, 0));
+        loads.promised[0] = 1;
+        if room < 74 {
             assert_eq!(refused_writing(&loads, room), (10, 0));
         } else {
-            assert_eq!(write_back(&loads, &mut vec![165; room]), (0, 66));
+            assert_eq!(write_back(&loads, &mut vec![165; room]), (0, 74));
         }
     }
 }
@@ -256,7 +308,7 @@ fn checks_on_a_table_come_in_their_order() {
     let wrong = Table {
         n: 65,
         normal: 0,
-        ..table(1, 1, &[[4, 1, 4, 0]]).with_loading(u32::MAX)
+        ..promising_table(1, 1, &[[4, 1, 4, 0, 2]]).with_loading(u32::MAX)
     };
     let order = order_of(&[1, 1]);
     assert_eq!(judge_table(&wrong, &order).number, 3);
@@ -270,6 +322,8 @@ fn checks_on_a_table_come_in_their_order() {
     let mut limited = paced.with_loading(16);
     assert_eq!(judge_table(&limited, &order).number, 5);
     limited.deadline[0] = 5;
+    assert_eq!(judge_table(&limited, &order).number, 12);
+    limited.promised[0] = 1;
     assert_eq!(judge_table(&limited, &order).number, 6);
     assert_eq!(judge_table(&limited, &order_of(&[1])).number, 0);
 }

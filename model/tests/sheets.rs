@@ -5,7 +5,7 @@
 mod common;
 
 use common::{rubbish, Loadings};
-use model::cases::{p1, p2, row, table};
+use model::cases::{p1, p2, promising_row, promising_table, row, table};
 use model::program::{planning_program, KEPT};
 use model::random::{table_in, Random, Ranges};
 use model::sheet::{
@@ -95,7 +95,7 @@ fn sheets_are_read_back_whole() {
     for _ in 0..1_000 {
         let table = table_in(&mut random, WIDE);
         let sheet = sheet_of(&table);
-        assert_eq!(sheet.len(), 33 + 33 * table.n as usize);
+        assert_eq!(sheet.len(), 33 + 41 * table.n as usize);
         assert_eq!(read_sheet(&sheet), (0, table));
         loadings.saw(&table);
     }
@@ -115,6 +115,7 @@ fn number(sheet: &[u8]) -> u32 {
 fn sheet_checks_come_in_their_order() {
     let good = row([0, 1, 1, 0]);
     let bad = row([4, 1, 4, 2]);
+    let promising = promising_row([0, 1, 1, 0, 2]);
     let spoil = |mut sheet: Vec<u8>, place: usize| {
         sheet[place] = b'x';
         sheet
@@ -145,7 +146,7 @@ fn sheet_checks_come_in_their_order() {
         1
     );
     // The rows' fields and line ends come before the speeds.
-    for place in [33 + 7, 33 + 15, 33 + 23, 33 + 31, 33 + 32, 33 + 33 + 32] {
+    for place in [40, 48, 56, 64, 72, 73, 74 + 39, 74 + 40] {
         let sheet = write_sheet(2, 0, 0, 17, &[bad, bad]);
         assert_eq!(number(&spoil(sheet, place)), 2, "byte {place}");
     }
@@ -157,8 +158,14 @@ fn sheet_checks_come_in_their_order() {
     for loading in 0..=MOST_LOADING {
         let rows_with = |last| write_sheet(2, 1, 1, loading, &[good, last]);
         assert_eq!(number(&rows_with(bad)), 5);
+        assert_eq!(number(&rows_with(promising)), 12);
         assert_eq!(number(&rows_with(good)), 0);
     }
+    // The limits of all rows come before their promises.
+    for rows in [[promising, bad], [bad, promising]] {
+        assert_eq!(number(&write_sheet(2, 1, 1, 0, &rows)), 5);
+    }
+    assert_eq!(number(&write_sheet(1, 1, 1, 17, &[promising])), 11);
     // Well formed but outside the limits is 5 and not 2.
     assert_eq!(number(&sheet_of(&table(1, 1, &[[0, 1, 1, 2]]))), 5);
     assert_eq!(number(&sheet_of(&table(1, 1, &[[0, 99_999_999, 1, 0]]))), 5);
@@ -181,7 +188,7 @@ fn every_other_length_is_refused_with_1() {
 #[test]
 fn every_other_line_end_is_refused_with_2() {
     let sheet = sheet_of(&p2().with_loading(16));
-    for place in [32, 65, 98, 131, 164] {
+    for place in [32, 73, 114, 155, 196] {
         assert_eq!(sheet[place], b'\n');
         for byte in (0..=255).filter(|&byte| byte != b'\n') {
             let mut damaged = sheet.clone();
@@ -225,7 +232,7 @@ fn bytes_after_those_kept_change_no_answer() {
 /// Writes an accepted table into just enough bytes, and reads it again (rules
 /// 15.2 and 15.6).
 fn written(table: &Table) -> Vec<u8> {
-    let mut lent = rubbish(33 + 33 * table.n as usize);
+    let mut lent = rubbish(33 + 41 * table.n as usize);
     assert_eq!(write_back(table, &mut lent), (0, lent.len() as u32));
     assert_eq!(read_sheet(&lent), (0, *table));
     lent
@@ -255,14 +262,15 @@ fn a_number_is_written_as_formatting_gives_it() {
 #[test]
 fn figures_of_every_length_come_back() {
     let figures = figures_of_every_length();
+    let with_each = |&level: &u32| figures.iter().map(move |promised| (level, promised));
     let mut accepted = 0;
     for &release in &figures {
         for &work in &figures {
             for &deadline in &figures {
-                for level in [0, 1] {
+                for (level, &promised) in [0, 1].iter().flat_map(with_each) {
                     let loading = accepted % (MOST_LOADING + 1);
-                    let figures = [release, work, deadline, level];
-                    let one = table(10, 9, &[figures]).with_loading(loading);
+                    let figures = [release, work, deadline, level, promised];
+                    let one = promising_table(10, 9, &[figures]).with_loading(loading);
                     if check_table(&one) == 0 {
                         let sheet = sheet_of(&one);
                         assert_eq!(written(&one), sheet);
@@ -272,8 +280,10 @@ fn figures_of_every_length_come_back() {
             }
         }
     }
-    // A release below the deadline, a work above 0, two levels.
-    assert_eq!(accepted, 14 * 13 / 2 * 13 * 2);
+    // A release below the deadline, a work above 0; for a HI row a promise of 0, for a LO
+    // row one up to its work, which is the k-th figure, k from 2 to 14.
+    let promises = 13 + (2..=14).sum::<u32>();
+    assert_eq!(accepted, 14 * 13 / 2 * promises);
     for normal in 1..=1_000 {
         for degraded in [1, 9, 10, 99, 100, 999, normal] {
             let paced = table(normal, degraded.min(normal), &[[0, 1, 1, 0]]);
@@ -294,12 +304,16 @@ fn figures_of_every_length_come_back() {
 fn the_sheet_of_p1() {
     let sheet = concat!(
         "       4       5       2       0\n",
-        "       0      20      10       1\n",
-        "       5      15      10       0\n",
-        "       5      11      19       1\n",
-        "       0       5       5       0\n",
+        "       0      20      10       1       0\n",
+        "       5      15      10       0       0\n",
+        "       5      11      19       1       0\n",
+        "       0       5       5       0       0\n",
     );
     assert_eq!(written(&p1()), sheet.as_bytes());
+    let mut promising = p1();
+    promising.promised[1] = 9;
+    let sheet = sheet.replace("10       0       0", "10       0       9");
+    assert_eq!(written(&promising), sheet.as_bytes());
 }
 
 /// Every accepted sheet among many damaged ones is the sheet of its table (rule
@@ -348,5 +362,5 @@ fn lent_bytes_of_every_length() {
         }
     }
     assert_eq!(sheet_of(&longest).len(), LONGEST_SHEET);
-    assert_eq!(LONGEST_SHEET, 2_145);
+    assert_eq!(LONGEST_SHEET, 2_657);
 }

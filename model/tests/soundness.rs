@@ -196,6 +196,9 @@ fn check_9_refuses_each_clause_alone() {
     }
     refused_for(Unsound::TableOrOrder(5), |r| r.table.level[1] = 2);
     refused_for(Unsound::TableOrOrder(5), |r| r.table.release[3] = 1);
+    refused_for(Unsound::TableOrOrder(5), |r| r.table.promised[3] = 1);
+    refused_for(Unsound::TableOrOrder(12), |r| r.table.promised[0] = 5);
+    refused_for(Unsound::TableOrOrder(12), |r| r.table.promised[1] = 1);
     refused_for(Unsound::TableOrOrder(6), |r| r.order[0] = 2);
     refused_for(Unsound::TableOrOrder(6), |r| r.order[3] = 1);
     // Row 3 was dropped at its deadline, so that only the clock is wrong.
@@ -218,6 +221,11 @@ fn check_9_refuses_each_clause_alone() {
     });
     refused_for(Unsound::OpenThoughFinished, |r| r.used[2] += 1);
     refused_for(Unsound::OpenThoughFinished, |r| r.used[2] += 2);
+    // With a promise of 4 work units at G of 1 row 3 may use K + 4 slots.
+    refused_for(Unsound::OpenThoughFinished, |r| {
+        r.table.promised[2] = 4;
+        r.used[2] = r.table.loading + 4;
+    });
     // Open, LO, and the clock has reached the deadline.
     refused_for(Unsound::OpenThoughLate, |r| r.clock = 40);
     refused_for(Unsound::OpenThoughLate, |r| r.clock = 41);
@@ -230,6 +238,7 @@ fn check_9_refuses_each_clause_alone() {
     refused_for(Unsound::ClosedWithoutReason, |r| r.closing[2] = 9);
     refused_for(Unsound::ClosedWithoutReason, |r| r.used[0] -= 1);
     refused_for(Unsound::ClosedWithoutReason, |r| r.used[0] = 1);
+    refused_for(Unsound::ClosedWithoutReason, |r| r.table.promised[0] = 3);
     // Closed before or after the deadline with work missing and allowance left, and
     // a HI row closed at its deadline.
     for closing in [1, 39, 41, 50] {
@@ -265,6 +274,11 @@ fn check_9_lets_the_limits_themselves_through() {
     accepted(|r| r.used[1] = 30);
     accepted(|r| r.used[2] = 0);
     accepted(|r| r.closing[0] = 30);
+    accepted(|r| r.table.promised[0] = 2);
+    accepted(|r| {
+        r.table.promised[2] = 4;
+        r.used[2] = r.table.loading + 3;
+    });
     accepted(|r| r.got[0] = 4);
     accepted(|r| r.used[0] = 30);
     accepted(|r| (r.got[1], r.closing[1]) = (9, 30));

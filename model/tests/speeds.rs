@@ -285,20 +285,22 @@ fn a_search_by_halves_makes_few_plannings() {
 #[test]
 fn refusals_are_those_of_the_planner_and_of_the_reader() {
     let mut random = Random::seeded(66);
-    let mut numbers = [0; 12];
+    let mut numbers = [0; 13];
     let figures = [0, 1, 2, 17, 65, 1_000, 1_001, 1_000_001];
     for _ in 0..4_000 {
         let mut spoiled = table_in(&mut random, SMALL);
         for _ in 0..random.between(1, 2) {
             let figure = random.one_of(&figures);
-            match random.between(0, 6) {
+            match random.between(0, 8) {
                 0 => spoiled.n = figure,
                 1 => spoiled.normal = figure,
                 2 => spoiled.degraded = figure,
                 3 => spoiled.loading = figure,
                 4 => spoiled.work[0] = figure,
                 5 => spoiled.deadline[0] = figure,
-                _ => spoiled.level[63] = figure,
+                6 => spoiled.level[63] = figure,
+                7 => spoiled.promised[0] = figure,
+                _ => spoiled.promised[63] = figure,
             }
         }
         let refusal = check_table(&spoiled);
@@ -312,7 +314,9 @@ fn refusals_are_those_of_the_planner_and_of_the_reader() {
         }
         numbers[refusal as usize] += 1;
     }
-    assert!([3, 4, 5, 11].iter().all(|&number| numbers[number] > 100));
+    assert!([3, 4, 5, 11, 12]
+        .iter()
+        .all(|&number| numbers[number] > 100));
     let rows = cooler(19).rows();
     let sheets = [
         (Vec::new(), 1),

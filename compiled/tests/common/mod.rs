@@ -11,7 +11,7 @@ use compiled::raw;
 use compiled::sheets::{random_order, tight};
 use model::cases::row;
 use model::order::{check_order, Order, NO_ORDER};
-use model::random::{table_in, Random, Ranges};
+use model::random::{spoil_promise, table_in, with_promises, Random, Ranges};
 use model::sheet::write_sheet;
 use model::table::{Row, Table, MOST_LOADING, ROWS};
 use std::collections::BTreeMap;
@@ -80,6 +80,28 @@ impl Loadings {
     }
 }
 
+/// Counts tables by whether a row promises a part, where nothing was refused, so that a
+/// test can show that it looked at both.
+pub struct Promises(Tally<bool>);
+
+impl Promises {
+    pub fn new(of: &'static str) -> Promises {
+        Promises(Tally::new(of))
+    }
+
+    /// Counts a table if the call's number, 0 or 7, rests on it.
+    pub fn saw(&mut self, number: u32, table: &Table) {
+        if number == 0 || number == 7 {
+            self.0.saw(table.promised != [0; ROWS]);
+        }
+    }
+
+    /// Fails unless tables with promises and without came up `least` times each.
+    pub fn assert_both(&self, least: u64) {
+        self.0.assert_common(&[true, false], least);
+    }
+}
+
 /// Bytes that neither a sheet nor a report has, each other than its neighbours.
 pub fn rubbish(length: usize) -> Vec<u8> {
     (0..length).map(|index| 128 | index as u8).collect()
@@ -89,15 +111,18 @@ pub fn rubbish(length: usize) -> Vec<u8> {
 pub const SMALL_TABLES: u64 = 2 * 239_940;
 
 /// Calls `with` on every table of one to three rows whose figures come from a
-/// small grid, some with an order and some with none: each without loading, and
-/// then with one of the other loading times, which take turns.
+/// small grid, some with an order and some with none: each without loading and
+/// promises, and then with one of the other loading times, which take turns, and with
+/// random promises or none.
 pub fn for_each_small_table(mut with: impl FnMut(&Table)) {
     let grid = grid_rows();
+    let mut random = Random::seeded(99);
     let mut loading = 0;
     let mut with_and_without = |table: Table| {
         with(&table);
         loading = 1 + loading % MOST_LOADING;
-        with(&with_time_to_load(&table, loading));
+        let loads = with_time_to_load(&table, loading);
+        with(&with_promises(&mut random, &loads));
     };
     for [normal, degraded] in [[1, 1], [2, 1], [2, 2], [3, 1], [3, 2]] {
         for &first in &grid {
@@ -136,16 +161,20 @@ fn grid_rows() -> Vec<Row> {
     rows
 }
 
-/// Calls `with` on the four figures of a row at both levels, where release, work
-/// and deadline are every one of 0, 1, 9, 10, 99, 100 and so on up to 1,000,000.
-pub fn for_each_length_of_figures(mut with: impl FnMut([u32; 4])) {
+/// Calls `with` on the five figures of a row at both levels, where release, work
+/// and deadline are every one of 0, 1, 9, 10, 99, 100 and so on up to 1,000,000. The
+/// promised part is 0, and then each of these in turn.
+pub fn for_each_length_of_figures(mut with: impl FnMut([u32; 5])) {
     let powers = (0..=6).map(|digits| 10u32.pow(digits));
     let figures: Vec<u32> = powers.flat_map(|power| [power - 1, power]).collect();
+    let mut promises = figures.iter().cycle();
     for &release in &figures {
         for &work in &figures {
             for &deadline in &figures {
                 for level in [0, 1] {
-                    with([release, work, deadline, level]);
+                    with([release, work, deadline, level, 0]);
+                    let promised = *promises.next().expect("there are always more");
+                    with([release, work, deadline, level, promised]);
                 }
             }
         }
@@ -263,7 +292,7 @@ pub fn any_order(random: &mut Random, n: u32, out_of: u32) -> Order {
 }
 
 /// The numbers of the checks on tables, in their order (rule 11.3).
-pub const TABLE_CHECKS: [u32; 4] = [3, 4, 11, 5];
+pub const TABLE_CHECKS: [u32; 5] = [3, 4, 11, 5, 12];
 
 /// The table changed so that a check on tables refuses it with this number, or
 /// with one before it.
@@ -281,6 +310,7 @@ pub fn spoil_table(random: &mut Random, table: &mut Table, number: u32) {
             let any = random.word() as u32 | 32;
             table.loading = random.one_of(&[17, 17, 18, 64, u32::MAX, any]);
         }
+        12 => spoil_promise(random, table),
         _ => match random.between(0, 5) {
             0 => table.work[index] = random.one_of(&[0, 1_000_001, u32::MAX]),
             1 => table.deadline[index] = random.one_of(&[1_000_001, u32::MAX]),
@@ -295,7 +325,7 @@ pub fn spoil_table(random: &mut Random, table: &mut Table, number: u32) {
 /// The table changed so that one of the checks on tables refuses it, or several of
 /// them would.
 pub fn spoil_by_several(random: &mut Random, table: &mut Table) {
-    let wanted = random.between(1, 15);
+    let wanted = random.between(1, 31);
     for (bit, number) in TABLE_CHECKS.into_iter().enumerate().rev() {
         if wanted >> bit & 1 == 1 {
             spoil_table(random, table, number);
@@ -312,11 +342,12 @@ fn spoil_tail(random: &mut Random, table: &mut Table) {
     }
     let index = random.between(table.n, 63) as usize;
     let figure = random.one_of(&[1, 2, 1 << 31, u32::MAX]);
-    match random.between(0, 4) {
+    match random.between(0, 5) {
         0 => table.release[index] = figure,
         1 => table.work[index] = figure,
         2 => table.deadline[index] = figure,
         3 => table.level[index] = figure,
+        4 => table.promised[index] = figure,
         _ => (table.work[index], table.deadline[index]) = (1, 1),
     }
 }
@@ -350,6 +381,7 @@ pub fn refused_sheet(random: &mut Random, table: &Table) -> Vec<u8> {
         work: field(row.work),
         deadline: field(row.deadline),
         level: field(row.level),
+        promised: field(row.promised),
     });
     let rows: Vec<Row> = rows.collect();
     let figures = [spoiled.normal, spoiled.degraded, spoiled.loading];

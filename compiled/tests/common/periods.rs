@@ -2,7 +2,7 @@
 //! these are done or a slot later, at N and at G; and tables with many ties.
 
 use compiled::sheets::tightened;
-use model::random::{loading, Random};
+use model::random::{loading, promise, with_promises, Random};
 use model::table::{allowance, need, Row, Table, HI, LATEST_DEADLINE, LO};
 
 /// Where a row is released: at the end, at N (0) or at G (1), of the busy period of all
@@ -30,15 +30,22 @@ pub fn joined(random: &mut Random, n: u32, joints: &[Joint]) -> Joined {
     let loading = loading(random);
     let (mut rows, mut gaps) = (Vec::new(), Vec::new());
     let (mut ends, mut release) = ([0, 0], 0);
+    let promises = random.once_in(2);
     for _ in 0..n {
         let (speed, gap) = random.one_of(joints);
         release = release.max(ends[speed] + gap);
         gaps.push(ends.map(|end| release - end));
+        let (work, level) = (random.between(1, 3 * normal), random.one_of(&[LO, HI]));
         let row = Row {
             release: release as u32,
-            work: random.between(1, 3 * normal),
+            work,
             deadline: LATEST_DEADLINE,
-            level: random.one_of(&[LO, HI]),
+            level,
+            promised: if promises {
+                promise(random, work, level)
+            } else {
+                0
+            },
         };
         let alone = Table::of(normal, degraded, loading, &[row]);
         ends = [0, 1].map(|speed| release.max(ends[speed]) + taken(&alone)[speed]);
@@ -72,10 +79,12 @@ pub fn tied(random: &mut Random, n: u32) -> Table {
         work: random.one_of(&[1, normal, 2 * normal]),
         deadline: LATEST_DEADLINE,
         level: random.one_of(&[LO, LO, HI]),
+        promised: 0,
     };
     let rows: Vec<Row> = (0..n).map(|_| row(random)).collect();
     let table = Table::of(normal, degraded, loading(random), &rows);
-    let tight = tightened(random, &table);
+    let promising = with_promises(random, &table);
+    let tight = tightened(random, &promising);
     with_steps(random, &tight)
 }
 

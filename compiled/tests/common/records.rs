@@ -10,11 +10,12 @@ use model::run::is_late_preview;
 use model::table::{allowance, Table, HI, LATEST_DEADLINE, LO, ROWS};
 
 /// Every clause of check 9.
-pub const CLAUSES: [Unsound; 13] = [
+pub const CLAUSES: [Unsound; 14] = [
     Unsound::TableOrOrder(3),
     Unsound::TableOrOrder(4),
     Unsound::TableOrOrder(11),
     Unsound::TableOrOrder(5),
+    Unsound::TableOrOrder(12),
     Unsound::TableOrOrder(6),
     Unsound::Clock,
     Unsound::GotOverWork,
@@ -220,6 +221,7 @@ pub fn any_record(random: &mut Random) -> Record {
     record.table.work = std::array::from_fn(|_| word());
     record.table.deadline = std::array::from_fn(|_| word());
     record.table.level = std::array::from_fn(|_| word());
+    record.table.promised = std::array::from_fn(|_| word());
     record.order = [0; ROWS].map(|_: u8| word() as u8);
     record.clock = word();
     record.got = std::array::from_fn(|_| word());

@@ -12,7 +12,7 @@ use model::order::Order;
 use model::plan::plan;
 use model::program::KEPT;
 use model::report::{report, LONGEST_REPORT};
-use model::run::{chosen, kept_deadline, State};
+use model::run::{chosen, has_promised, kept_deadline, State};
 use model::sheet::{read_sheet, write_back, LONGEST_SHEET};
 use model::table::Table;
 use std::fs::File;
@@ -26,7 +26,7 @@ const NOT_USABLE: u8 = 2;
 fn words_for(number: u32) -> &'static str {
     match number {
         0 => "success",
-        1 => "the sheet has under 33 bytes, or not 33 + 33 for each row",
+        1 => "the sheet has under 33 bytes, or not 33 + 41 for each row",
         2 => "a field or a line end of the sheet is malformed",
         3 => "the row count is not 1 to 64",
         4 => "N is not 1 to 1,000, or G is not 1 to N (work units per slot)",
@@ -38,6 +38,7 @@ fn words_for(number: u32) -> &'static str {
         7 => "no correct order exists",
         8 => "the clock is 2,000,000 slots, and no further slot is worked",
         11 => "K is above 16 slots",
+        12 => "a promised part is above its row's work, or above 0 work units on a HI row",
         _ => unreachable!("no other number comes up in a run on paper"),
     }
 }
@@ -103,12 +104,26 @@ fn dropped_beside(table: &Table, state: &State, ran: u8) -> Vec<u8> {
 
 fn summary_line(table: &Table, state: &State, row: u8) -> String {
     format!(
-        "row {row}: {} at clock {}, deadline {} slots, {}",
+        "row {row}: {} at clock {}, deadline {} slots, {}{}",
         closing_word(table, state, row),
         state.closing[row as usize - 1],
         table.row(row).deadline,
-        deadline_word(table, state, row)
+        deadline_word(table, state, row),
+        promise_words(table, state, row)
     )
+}
+
+/// Whether the row has got the part that it promises; nothing if it promises none.
+fn promise_words(table: &Table, state: &State, row: u8) -> String {
+    let got = if has_promised(table, state, row) {
+        "got"
+    } else {
+        "not got"
+    };
+    match table.row(row).promised {
+        0 => String::new(),
+        promised => format!(", promised {promised} work units {got}"),
+    }
 }
 
 /// The supply of a slot in work units: from the list, its last one repeated, or

@@ -2,12 +2,14 @@
 //!
 //! A busy period has one end, and whichever of its rows stands lowest finishes then. Of
 //! those at one level the first in the trial sequence has the latest deadline: if it
-//! fails, they all do. So one row of each busy period is looked at. When a row gets its
-//! place, just the busy period in which it stood is swept again; a row that passes goes
-//! on passing.
+//! fails, they all do. So of the rows that promise nothing one of each busy period is
+//! looked at. When a row gets its place, just the busy period in which it stood is swept
+//! again; a row that passes goes on passing. A promise is looked at when its row is in
+//! time and every row tried before it fails, over its busy period at G; if it is not
+//! kept, again when this period has lost a row.
 
-use super::left::{is_over, Left, SPEEDS};
-use super::{planned, Sweeps, Trials};
+use super::left::{is_over, Left, DEGRADED, SPEEDS};
+use super::{planned, turns_in, Sweeps, Trials};
 use crate::plan::Plan;
 use crate::table::{Table, ROWS};
 use std::ops::Range;
@@ -24,8 +26,11 @@ pub fn plan_and_trials(table: &Table) -> (Plan, u32) {
 
 /// What the sweeps have found.
 struct EachPlace {
-    /// Of each busy period the first row tried, if it passes.
+    /// Of each busy period the first row tried that promises nothing, if it passes, and
+    /// those that promise a part and are in time at N.
     passing: u64,
+    /// Of these, rows whose promise is not kept.
+    failing: u64,
     /// Where among the rows left a busy period starts, for each speed.
     starts: [u64; 2],
 }
@@ -34,6 +39,7 @@ impl Sweeps for EachPlace {
     fn of(trials: &Trials, left: &Left) -> EachPlace {
         let mut sweeps = EachPlace {
             passing: 0,
+            failing: 0,
             starts: [1; 2],
         };
         for speed in SPEEDS {
@@ -42,8 +48,14 @@ impl Sweeps for EachPlace {
         sweeps
     }
 
-    fn first_to_pass(&self, _: &Trials, _: &Left) -> Option<usize> {
-        (self.passing != 0).then(|| self.passing.trailing_zeros() as usize)
+    fn first_to_pass(&mut self, trials: &Trials, left: &Left) -> Option<usize> {
+        for turn in turns_in(self.passing & !self.failing) {
+            if trials.keeps_promise(left, turn, || self.start_of(left.place_of(turn))) {
+                return Some(turn);
+            }
+            self.failing |= 1 << turn;
+        }
+        None
     }
 
     #[inline(always)]
@@ -51,12 +63,22 @@ impl Sweeps for EachPlace {
         self.passing &= trials.left;
         for speed in SPEEDS {
             let rows = self.lose(left, speed, at);
+            if speed == DEGRADED && self.failing != 0 {
+                let turns = left.jobs()[rows.clone()].iter().map(|job| job.turn);
+                turns.for_each(|turn| self.failing &= !(1 << turn));
+            }
             self.sweep(trials, left, speed, rows);
         }
     }
 }
 
 impl EachPlace {
+    /// Where the busy period at G starts to which the row left at `at` belongs.
+    fn start_of(&self, at: usize) -> usize {
+        let up_to = self.starts[DEGRADED] & u64::MAX >> (ROWS - 1 - at);
+        up_to.ilog2() as usize
+    }
+
     /// A row left was taken out at `at`: what is left of its busy period.
     fn lose(&mut self, left: &Left, speed: usize, at: usize) -> Range<usize> {
         let up_to = self.starts[speed] & u64::MAX >> (ROWS - 1 - at);
@@ -67,25 +89,27 @@ impl EachPlace {
     }
 
     /// Sweeps over these rows left, which are whole busy periods, or were one before a
-    /// row was taken out. It is needed as long as a row is tried at this speed. Inlined,
-    /// as is its caller, so that either speed has its own loop.
+    /// row was taken out. It is needed as long as a row is tried at this speed, and at G
+    /// as long as one promises a part. Inlined, as is its caller, so that either speed
+    /// has its own loop.
     #[inline(always)]
     fn sweep(&mut self, trials: &Trials, left: &Left, speed: usize, rows: Range<usize>) {
         let tried = trials.left & trials.tried[speed];
-        if tried == 0 {
+        let asks_for_starts = speed == DEGRADED && trials.left & trials.promising != 0;
+        if tried == 0 && !asks_for_starts {
             return;
         }
         let (mut end, mut period, mut starts, mut passing) = (0, 0, 0, 0);
         for (at, job) in left.jobs()[rows.clone()].iter().enumerate() {
             if is_over(end, job.release) {
-                passing |= trials.first_if_it_passes(period & tried, end);
+                passing |= trials.in_time(period & tried, end);
                 starts |= 1 << at;
                 (end, period) = (job.release, 0);
             }
             end += job.caps[speed];
             period |= 1 << job.turn;
         }
-        self.passing |= passing | trials.first_if_it_passes(period & tried, end);
+        self.passing |= passing | trials.in_time(period & tried, end);
         self.starts[speed] |= starts << rows.start;
     }
 }

@@ -23,11 +23,11 @@ impl Sweeps for EachTrial {
         EachTrial
     }
 
-    fn first_to_pass(&self, trials: &Trials, left: &Left) -> Option<usize> {
+    fn first_to_pass(&mut self, trials: &Trials, left: &Left) -> Option<usize> {
         turns_in(trials.left).find(|&turn| {
             let speed = (trials.tried[DEGRADED] >> turn & 1) as usize;
             let due = trials.deadlines[turn];
-            left.finish(turn, speed, due) <= due
+            left.finish(turn, speed, due) <= due && trials.keeps_promise(left, turn, || 0)
         })
     }
 

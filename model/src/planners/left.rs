@@ -1,6 +1,6 @@
 //! The rows that have no place yet, as sweeps read them.
 
-use crate::table::{need, Table, LO, ROWS};
+use crate::table::{need, promised_need, Table, LO, ROWS};
 
 /// A row left. All of its figures but the turn are in slots.
 #[derive(Clone, Copy)]
@@ -79,14 +79,34 @@ impl Left {
     }
 
     /// The worst finish, in slots, of the row of this turn below all other rows left,
-    /// at this speed. One sweep, which ends early with a clock after `due` if the
-    /// finish is after it.
+    /// at this speed; or a clock after `due` if the finish is after it.
     pub fn finish(&self, turn: usize, speed: usize, due: u32) -> u32 {
-        let (before, after) = self.jobs().split_at(self.at[turn] as usize + 1);
+        let own = self.jobs[self.place_of(turn)].caps[speed];
+        self.end_of(turn, speed, own, 0, due)
+    }
+
+    /// The clock at which that row has got its promised part at G, of which it has this
+    /// need, in slots (rule 20.4); or a clock after `due` if it is after it. A busy
+    /// period starts with the row left at `from`.
+    pub fn promised_moment(&self, turn: usize, need: u32, from: usize, due: u32) -> u32 {
+        self.end_of(turn, DEGRADED, need, from, due)
+    }
+
+    /// Where the row of this turn stands.
+    pub fn place_of(&self, turn: usize) -> usize {
+        self.at[turn] as usize
+    }
+
+    /// The clock, in slots, at which that row has had so many slots of its own. One
+    /// sweep, which ends early with a clock after `due`.
+    fn end_of(&self, turn: usize, speed: usize, own: u32, from: usize, due: u32) -> u32 {
+        let at = self.place_of(turn);
+        let (before, after) = (&self.jobs()[from..at], &self.jobs()[at + 1..]);
         let mut end = 0;
         for job in before {
             end = job.release.max(end) + job.caps[speed];
         }
+        end = self.jobs[at].release.max(end) + own;
         for job in after {
             if is_over(end, job.release) || end > due {
                 break;
@@ -103,12 +123,16 @@ pub fn is_over(end: u32, release: u32) -> bool {
 }
 
 /// What the row can take, in slots: a LO row is dropped when it has used its
-/// allowance, its need at N, so that it takes no more at G (rule 1.9).
+/// allowance, which is all that it takes at G (rule 1.9).
 fn caps(table: &Table, index: usize) -> [u32; 2] {
     let row = index as u8 + 1;
     let at_normal = need(table, row, table.normal);
     if table.level[index] == LO {
-        [at_normal; 2]
+        let allowance = match table.promised[index] {
+            0 => at_normal,
+            _ => at_normal.max(promised_need(table, row)),
+        };
+        [at_normal, allowance]
     } else {
         [at_normal, need(table, row, table.degraded)]
     }

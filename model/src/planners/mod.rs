@@ -3,7 +3,8 @@
 //!
 //! A sweep goes through the rows left by rising release and adds up what they take:
 //! where the processor is free by the next release a busy period ends, and that is the
-//! worst finish of each row in it that stands below all others.
+//! worst finish of each row in it that stands below all others. A row that promises a
+//! part has a sweep of its own for it, in which it takes its need of that part.
 //!
 //! Clocks, caps, deadlines and finishes are in slots. A row's turn is where it stands
 //! in the trial sequence, from 0 on; words have a bit for each turn.
@@ -14,8 +15,8 @@ pub mod left;
 
 use crate::order::NO_ORDER;
 use crate::plan::Plan;
-use crate::table::{check_table, Table, LATEST_DEADLINE, ROWS};
-use left::{sweep_speed, Left, Sorted};
+use crate::table::{check_table, promised_need, Table, LATEST_DEADLINE, ROWS};
+use left::{sweep_speed, Left, Sorted, NORMAL};
 
 /// The trial sequence (rule 4.3), and whose turn is still to come.
 struct Trials {
@@ -29,6 +30,10 @@ struct Trials {
     left: u64,
     /// The rows that are tried at each speed: LO rows at N, HI rows at G.
     tried: [u64; 2],
+    /// The rows that promise a part, which are tried at G as well.
+    promising: u64,
+    /// The need of each promised part at G, in slots.
+    parts: [u32; ROWS],
 }
 
 impl Trials {
@@ -43,24 +48,55 @@ impl Trials {
             deadlines: [0; ROWS],
             left: u64::MAX >> (ROWS - n),
             tried: [0; 2],
+            promising: 0,
+            parts: [0; ROWS],
         };
         for (turn, index) in sequence.indices().enumerate() {
             trials.rows[turn] = index as u8 + 1;
             trials.turns[index] = turn as u8;
             trials.deadlines[turn] = table.deadline[index];
             trials.tried[sweep_speed(table.level[index])] |= 1 << turn;
+            if table.promised[index] > 0 {
+                trials.promising |= 1 << turn;
+                trials.parts[turn] = promised_need(table, index as u8 + 1);
+            }
         }
         trials
     }
 
-    /// The first of these rows alone, if it passes with this finish, else none.
-    fn first_if_it_passes(&self, rows: u64, finish: u32) -> u64 {
+    /// The row promises nothing, or has got its part by its deadline, in its own sweep:
+    /// from the row left at `from` on, with which a busy period at G starts.
+    fn keeps_promise(&self, left: &Left, turn: usize, from: impl Fn() -> usize) -> bool {
+        let (part, due) = (self.parts[turn], self.deadlines[turn]);
+        self.promising >> turn & 1 == 0 || left.promised_moment(turn, part, from(), due) <= due
+    }
+
+    /// The first of these rows alone, if it is in time with this finish, else none.
+    fn first_if_in_time(&self, rows: u64, finish: u32) -> u64 {
         let turn = rows.trailing_zeros() as usize;
         if turn < ROWS && finish <= self.deadlines[turn] {
             1 << turn
         } else {
             0
         }
+    }
+
+    /// Of these rows, which share this finish: the first that promises nothing, if it is
+    /// in time, and every one that promises a part and is in time.
+    fn in_time(&self, rows: u64, finish: u32) -> u64 {
+        let promising = match rows & self.promising {
+            0 => 0,
+            promising => promising & self.low_in_time(finish),
+        };
+        promising | self.first_if_in_time(rows & !self.promising, finish)
+    }
+
+    /// The LO rows that are in time with this finish: the first ones, since their
+    /// deadlines fall.
+    fn low_in_time(&self, finish: u32) -> u64 {
+        let low = self.tried[NORMAL].count_ones() as usize;
+        let in_time = self.deadlines[..low].partition_point(|&deadline| finish <= deadline);
+        u64::MAX.checked_shr((ROWS - in_time) as u32).unwrap_or(0)
     }
 
     /// How many rows left come no later than this turn.
@@ -90,7 +126,7 @@ trait Sweeps {
     fn of(trials: &Trials, left: &Left) -> Self;
 
     /// The first turn whose row passes.
-    fn first_to_pass(&self, trials: &Trials, left: &Left) -> Option<usize>;
+    fn first_to_pass(&mut self, trials: &Trials, left: &Left) -> Option<usize>;
 
     /// The row that stood at `at` has its place now and is left no more.
     fn renew(&mut self, trials: &Trials, left: &Left, at: usize);

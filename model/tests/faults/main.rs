@@ -2,10 +2,12 @@
 //! into a planner of its own, and the smallest tables on which that planner and
 //! the true one differ. `sweeps` has faults of planners whose trials share sweeps,
 //! `speeds` faults in the search for the least workable speed, `late` those of runs
-//! that drop late previews and of check 9. Run with `--nocapture` to read the tables.
+//! that drop late previews and of check 9, `promises` those in promised parts and of
+//! check 12. Run with `--nocapture` to read the tables.
 
 mod late;
 mod planners;
+mod promises;
 mod search;
 mod speeds;
 mod sweeps;

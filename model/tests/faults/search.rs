@@ -1,13 +1,14 @@
 //! The search for the smallest table on which a planner differs from the true one.
 //!
 //! A table is smaller than another if it has fewer rows, or as many and a lower
-//! sum of all its figures (N, G, K, and every a, c, d and level). All tables up to
-//! the sums in `TRIED` are tried in this sequence, and of those with the same sum
-//! the ones with less loading first.
+//! sum of all its figures (N, G, K, and every a, c, d, level and r). All tables without
+//! promises up to the sums in `TRIED` are tried in this sequence, and of those with the
+//! same sum the ones with less loading first. Faults that need a promise are looked for
+//! among all tables up to the sums in `TRIED_PROMISING`.
 
 use crate::planners::Planner;
 use model::plan::{plan, slack, Plan};
-use model::table::{Row, Table, MOST_LOADING};
+use model::table::{Row, Table, LO, MOST_LOADING};
 
 /// How a faulty answer differs from the true one.
 #[derive(Clone, Copy, Debug, PartialEq, Eq)]
@@ -97,14 +98,47 @@ pub fn every_row(sum: u32, visit: &mut dyn FnMut(Row)) {
                     work,
                     deadline,
                     level,
+                    promised: 0,
                 });
             }
         }
     }
 }
 
+/// Calls `visit` with every accepted table of n rows whose figures sum to `sum`, their
+/// promised parts among them.
+pub fn every_promising_table(n: u32, sum: u32, visit: &mut dyn FnMut(&Table)) {
+    for promised in 0..=sum {
+        every_table(n, sum - promised, &mut |table| {
+            every_promise(*table, 0, promised, visit);
+        });
+    }
+}
+
+/// Calls `visit` with the table in which the rows from this index on promise so much
+/// together, each at most its work.
+fn every_promise(mut table: Table, index: usize, sum: u32, visit: &mut dyn FnMut(&Table)) {
+    if index == table.n as usize {
+        if sum == 0 {
+            visit(&table);
+        }
+        return;
+    }
+    let most = match table.level[index] {
+        LO => sum.min(table.work[index]),
+        _ => 0,
+    };
+    for promised in 0..=most {
+        table.promised[index] = promised;
+        every_promise(table, index + 1, sum - promised, visit);
+    }
+}
+
 /// The largest sum of figures tried for each row count, in the sequence tried.
 pub const TRIED: [(u32, u32); 3] = [(1, 16), (2, 18), (3, 15)];
+
+/// The same for tables that may have promises.
+pub const TRIED_PROMISING: [(u32, u32); 2] = [(1, 14), (2, 15)];
 
 /// A table on which a planner with a fault differs from the true one.
 pub struct Witness {
@@ -116,6 +150,22 @@ pub struct Witness {
 /// The smallest table on which this planner differs from the true one in one of
 /// these kinds, among the tables tried.
 pub fn smallest(planner: &Planner, kinds: &[Kind]) -> Option<Witness> {
+    smallest_by(first_of, planner, kinds)
+}
+
+/// The same among the tables with promises that are tried.
+pub fn smallest_promising(planner: &Planner, kinds: &[Kind]) -> Option<Witness> {
+    smallest_by(first_promising_of, planner, kinds)
+}
+
+/// A search for the smallest table.
+type FirstOf<Found> = fn(&dyn Fn(&Table) -> Option<Found>) -> Option<Found>;
+
+fn smallest_by(
+    first_of: FirstOf<(Kind, Witness)>,
+    planner: &Planner,
+    kinds: &[Kind],
+) -> Option<Witness> {
     let of_kind = |table: &Table| witness(planner, table).filter(|(kind, _)| kinds.contains(kind));
     let (kind, witness) = first_of(&of_kind)?;
     print(planner, kind, &witness);
@@ -125,8 +175,24 @@ pub fn smallest(planner: &Planner, kinds: &[Kind]) -> Option<Witness> {
 /// What `found` makes of the smallest table of which it makes anything, among the
 /// tables tried.
 pub fn first_of<Found>(found: &dyn Fn(&Table) -> Option<Found>) -> Option<Found> {
+    first_in(&TRIED, every_table, found)
+}
+
+/// The same among the tables with promises that are tried.
+pub fn first_promising_of<Found>(found: &dyn Fn(&Table) -> Option<Found>) -> Option<Found> {
+    first_in(&TRIED_PROMISING, every_promising_table, found)
+}
+
+/// Calls a visitor with every table of so many rows and of this sum of figures.
+type EveryTable = fn(u32, u32, &mut dyn FnMut(&Table));
+
+fn first_in<Found>(
+    tried: &[(u32, u32)],
+    every_table: EveryTable,
+    found: &dyn Fn(&Table) -> Option<Found>,
+) -> Option<Found> {
     let mut first = None;
-    for (n, most) in TRIED {
+    for &(n, most) in tried {
         for sum in 0..=most {
             every_table(n, sum, &mut |table| {
                 if first.is_none() {
@@ -170,7 +236,7 @@ pub fn figures(table: &Table) -> String {
     let mut text = format!("N {normal}, G {degraded}, K {loading}, rows");
     for job in table.rows() {
         let (a, c, d, level) = (job.release, job.work, job.deadline, job.level);
-        text += &format!(" ({a} {c} {d} {level})");
+        text += &format!(" ({a} {c} {d} {level} {})", job.promised);
     }
     text
 }

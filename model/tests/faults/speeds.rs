@@ -152,19 +152,33 @@ fn smallest_tables() {
     }
 }
 
-/// For each speed sought, how many of the cases worked out by hand tell a search,
-/// and how many of 300 random tables.
-fn told_by(search: &Search) -> [[usize; 2]; 2] {
-    let cases = least_speeds();
+/// An accepted table, a speed that is sought in it, and the true answer.
+pub type Answered = (Table, Sought, Least);
+
+/// The cases worked out by hand whose tables are accepted.
+pub fn accepted_cases() -> Vec<Answered> {
+    let cases = least_speeds().into_iter();
+    let accepted = cases.filter(|case| check_table(&case.table) == 0);
+    accepted
+        .map(|case| (case.table, case.sought, case.answer))
+        .collect()
+}
+
+/// Both speeds sought in 200 random tables.
+pub fn random_searches() -> Vec<Answered> {
     let mut random = Random::seeded(71);
-    let tables: Vec<Table> = (0..300).map(|_| table_in(&mut random, RANGES)).collect();
-    BOTH.map(|sought| {
-        let tells = |table: &&Table| differs(search, table, sought).is_some();
-        let of_cases = cases.iter().filter(|case| case.sought == sought);
-        let of_cases = of_cases.map(|case| &case.table);
-        let accepted = of_cases.filter(|table| check_table(table) == 0);
-        let by_cases = accepted.filter(tells).count();
-        [by_cases, tables.iter().filter(tells).count()]
+    let tables: Vec<Table> = (0..200).map(|_| table_in(&mut random, RANGES)).collect();
+    let answered = |table: &Table| BOTH.map(|sought| (*table, sought, least(table, sought)));
+    tables.iter().flat_map(answered).collect()
+}
+
+/// For each speed sought, how many of these a search answers wrongly.
+pub fn told_by(search: &Search, searches: &[Answered]) -> [usize; 2] {
+    BOTH.map(|wanted| {
+        let is_wrong = |(table, sought, answer): &&Answered| {
+            *sought == wanted && (search.least)(table, *sought) != *answer
+        };
+        searches.iter().filter(is_wrong).count()
     })
 }
 
@@ -181,9 +195,11 @@ const RANGES: Ranges = Ranges {
 /// order of another G is the same.
 #[test]
 fn cases_and_random_tables_that_tell_a_fault() {
+    let (cases, searches) = (accepted_cases(), random_searches());
     for search in &SEARCHES {
-        let [degraded, normal] = told_by(search);
-        println!("{}: G {degraded:?}, N {normal:?}", search.name);
+        let [by_case, by_table] = [&cases, &searches].map(|of| told_by(search, of));
+        println!("{}: cases {by_case:?}, tables {by_table:?}", search.name);
+        let [degraded, normal] = [0, 1].map(|sought| [by_case[sought], by_table[sought]]);
         let normal_alone = [UP_TO_OWN, OTHER_ORDER].map(|search| search.name);
         let needs_degraded = !normal_alone.contains(&search.name);
         assert_eq!(degraded[0] > 0, needs_degraded, "{}", search.name);

@@ -3,7 +3,7 @@
 
 use crate::{for_each_count, pairs, Input};
 use compiled::raw;
-use compiled::sheets::{easy, hard, hard_loading, one_period, staggered};
+use compiled::sheets::{easy, hard, hard_loading, late_promises, one_period, promising, staggered};
 use model::planners::{each_place, each_trial};
 use model::table::{Table, MOST_LOADING};
 use std::hint::black_box;
@@ -11,20 +11,31 @@ use std::hint::black_box;
 /// What a table is like, and how it is made with so many rows.
 type Kind = (&'static str, fn(u32) -> Table);
 
-const KINDS: [Kind; 5] = [
+const KINDS: [Kind; 8] = [
     ("plan, hard", hard),
     ("plan, hard, K 16", |n| hard_loading(n, MOST_LOADING)),
     ("plan, easy", easy),
     ("plan, one busy period", |n| one_period(n, 0)),
     ("plan, staggered", |n| staggered(n, 0)),
+    ("plan, hard, promises", |n| promising(&hard(n))),
+    ("plan, easy, promises", |n| promising(&easy(n))),
+    ("plan, late promises", |n| late_promises(n, 0)),
 ];
 
 pub fn measure() {
     println!("Sheets that are planned: easy ones, of which every row passes at its first trial;");
     println!("hard ones, of which many LO rows fail at every place, in busy periods of four rows");
-    println!("or in one; staggered ones, with busy periods that break and join. Plain Rust makes");
-    println!("a sweep for each trial, and in its other planner one for each place and speed, over");
-    println!("the busy period that has lost a row.\n");
+    println!(
+        "or in one; staggered ones, with busy periods that break and join; hard and easy ones"
+    );
+    println!(
+        "in which every LO row promises the work of one slot at G, and hard ones whose LO rows"
+    );
+    println!("fail for that promise alone. Plain Rust makes a sweep for each trial, and in its");
+    println!(
+        "other planner one for each place and speed, over the busy period that has lost a row;"
+    );
+    println!("a promise has a sweep of its own in both.\n");
     pairs::print_head_with_two("trials", "each trial", "each place");
     for (kind, make) in KINDS {
         for_each_count(|n| measure_kind(kind, &make(n)));

@@ -21,8 +21,12 @@ const DEADLINE: u32 = 1_000;
 
 pub fn measure() {
     for_each_count(|n| measure_slot("one slot", &last_row_open(n)));
-    for_each_count(|n| measure_slot("one slot, LO open", &low_rows_open(n, 0)));
-    for_each_count(|n| measure_slot("one slot, LO open, K 16", &low_rows_open(n, MOST_LOADING)));
+    for_each_count(|n| measure_slot("one slot, LO open", &low_rows_open(n, 0, 0)));
+    for_each_count(|n| measure_slot("one slot, LO open, r = c", &low_rows_open(n, 0, MILLION)));
+    for_each_count(|n| {
+        let record = low_rows_open(n, MOST_LOADING, 0);
+        measure_slot("one slot, LO open, K 16", &record);
+    });
     let before = DEADLINE - 2;
     for_each_count(|n| measure_from("one slot, HI, no deadline", &at_clock(n, HI, before)));
     for_each_count(|n| measure_from("one slot, HI, a deadline", &at_clock(n, HI, before + 1)));
@@ -31,6 +35,7 @@ pub fn measure() {
     let measure_busy = |what, table: &Table| measure_forward(what, table, MILLION);
     for_each_count(|n| measure_busy("forward, a million slots", &busy(n, HI, 0)));
     for_each_count(|n| measure_busy("forward, LO rows", &busy(n, LO, 0)));
+    for_each_count(|n| measure_busy("forward, LO rows, r = c", &promising_all(n)));
     for_each_count(|n| measure_busy("forward, LO rows, K 16", &busy(n, LO, MOST_LOADING)));
     for_each_count(|n| measure_busy("forward, HI waiting", &waiting(n, |_| HI, MILLION)));
     for_each_count(|n| measure_busy("forward, LO dropped", &waiting(n, |_| LO, MILLION)));
@@ -51,14 +56,21 @@ fn last_row_open(n: u32) -> Record {
 
 /// A record in which every row but one is LO and open, so that check 9 asks of
 /// each whether its allowance is used up. Each row was preempted by the next one
-/// after 20 slots, `loading` of which loaded it. The row at the highest place is
-/// HI, was released last and gets nothing, so it runs on.
-fn low_rows_open(n: u32, loading: u32) -> Record {
-    let row = |index: u32| Row {
-        release: 20 * index,
-        work: 1_000_000,
-        deadline: 1_000_000,
-        level: if index + 1 == n { HI } else { LO },
+/// after 20 slots, `loading` of which loaded it, and promises so much. The row at the
+/// highest place is HI, was released last and gets nothing, so it runs on.
+fn low_rows_open(n: u32, loading: u32, promised: u32) -> Record {
+    let row = |index: u32| {
+        let (level, promised) = match index {
+            last if last + 1 == n => (HI, 0),
+            _ => (LO, promised),
+        };
+        Row {
+            release: 20 * index,
+            work: MILLION,
+            deadline: MILLION,
+            level,
+            promised,
+        }
     };
     let rows: Vec<Row> = (0..n).map(row).collect();
     let table = Table::of(7, 3, loading, &rows);
@@ -75,6 +87,7 @@ fn at_clock(n: u32, level: u32, clock: u32) -> Record {
         work: 1_000_000,
         deadline: DEADLINE,
         level,
+        promised: 0,
     };
     let input = Input::of(&Table::of(7, 3, 0, &vec![row; n as usize]));
     let (_, fresh) = Record::fresh(&input.table, &input.order);
@@ -135,8 +148,18 @@ pub fn busy(n: u32, level: u32, loading: u32) -> Table {
         work: MILLION / n,
         deadline: MILLION,
         level,
+        promised: 0,
     };
     Table::of(1, 1, loading, &vec![row; n as usize])
+}
+
+/// `busy` with LO rows that promise all of their work.
+fn promising_all(n: u32) -> Table {
+    let table = busy(n, LO, 0);
+    Table {
+        promised: table.work,
+        ..table
+    }
 }
 
 /// A table whose first row is HI and runs for a million slots, at one work unit per slot,
@@ -148,6 +171,7 @@ fn waiting(n: u32, level: fn(u32) -> u32, last: u32) -> Table {
         work: MILLION,
         deadline: last / n * number,
         level: if number == 1 { HI } else { level(number) },
+        promised: 0,
     };
     let rows: Vec<Row> = (1..=n).map(row).collect();
     Table::of(1, 1, 0, &rows)
