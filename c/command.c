@@ -99,6 +99,10 @@ static const char *slots(int64_t count) {
     return count == 1 || count == -1 ? "slot" : "slots";
 }
 
+static const char *work_units(uint32_t count) {
+    return count == 1 ? "work unit" : "work units";
+}
+
 /* The unit of a speed, after its figure. */
 static const char *per_slot(uint32_t speed) {
     return speed == 1 ? "work unit per slot" : "work units per slot";
@@ -112,12 +116,15 @@ static const char *level_word(uint32_t level) {
 
 /* A sheet of one row that the reader accepts. Probes put one part of another sheet in its place. */
 static const char PROBE[] = "       1       1       1       0\n"
-                            "       0       1       1       0\n";
+                            "       0       1       1       0       0\n";
 enum {
     PROBE_LENGTH = JB_FIRST_LINE + JB_ROW_LINE,
     FIRST_LINE_FIELDS = 4,
     LOADING_FIELD = 4, /* that of K in the first line, from 1 */
-    ROW_FIELDS = 4,
+    ROW_FIELDS = 5,
+    WORK_FIELD = 2,
+    LEVEL_FIELD = 4,
+    PROMISED_FIELD = 5, /* that of the promised part in the line of a row */
     LINE_END = 10
 };
 
@@ -344,6 +351,20 @@ static void find_row_fault(const uint8_t *bytes, size_t length, fault *found) {
     }
 }
 
+/* Which promised part made the reader answer 12: that of the first row that is refused so by itself. */
+static void find_promise_fault(const uint8_t *bytes, size_t length, fault *found) {
+    uint32_t row = 1;
+    for (size_t at = JB_FIRST_LINE; at + JB_ROW_LINE <= length; at += JB_ROW_LINE, row++) {
+        if (ask_probe(JB_FIRST_LINE, bytes + at, JB_ROW_LINE) == JB_PROMISED) {
+            note_field(bytes, row, PROMISED_FIELD, found);
+            const size_t said = strlen(found->what);
+            name_wrong_promise(figure_of(bytes, row, WORK_FIELD), figure_of(bytes, row, LEVEL_FIELD), found->what + said,
+                               sizeof found->what - said);
+            return;
+        }
+    }
+}
+
 /* Where and why the reader answered this number. */
 static void find_fault(uint32_t number, const uint8_t *bytes, size_t length, fault *found) {
     memset(found, 0, sizeof *found);
@@ -354,6 +375,7 @@ static void find_fault(uint32_t number, const uint8_t *bytes, size_t length, fau
     case JB_SPEEDS: find_speed_fault(bytes, found); break;
     case JB_LOADING: note_field(bytes, 0, LOADING_FIELD, found); break;
     case JB_ROW_LIMITS: find_row_fault(bytes, length, found); break;
+    case JB_PROMISED: find_promise_fault(bytes, length, found); break;
     default: break;
     }
 }
@@ -422,7 +444,8 @@ static void put_allowed(FILE *to, const uint8_t *bytes, const fault *found) {
     if (kind->other != 0) {
         other = figure_of(bytes, found->row, (uint32_t)kind->other + (found->row == 0));
     }
-    name_allowed(kind, kind->other == 0 ? NULL : &other, allowed, sizeof allowed);
+    const bool high = kind->of_low_rows && figure_of(bytes, found->row, LEVEL_FIELD) != JB_LO;
+    name_allowed(kind, high, kind->other == 0 ? NULL : &other, allowed, sizeof allowed);
     fprintf(to, "allowed: %s\n", allowed);
 }
 
@@ -468,13 +491,35 @@ static bool lacks_loading(const uint8_t *bytes, size_t length) {
     return length > begin && is_line_end(bytes[begin]) && ask_probe(0, bytes, begin) != JB_MALFORMED;
 }
 
-/* Says what to do with a rows file that was given for a sheet, and with a sheet from before K. */
+/* The line that begins here is well formed up to the field of a promised part, and ends where that begins. */
+static bool lacks_promised(const uint8_t *bytes, size_t length, size_t line) {
+    const size_t end = line + field_begin(0, PROMISED_FIELD);
+    return length > end && is_line_end(bytes[end]) && ask_probe(JB_FIRST_LINE, bytes + line, end - line) != JB_MALFORMED;
+}
+
+/* The reader finds nothing malformed in the first line. */
+static bool has_first_line(const uint8_t *bytes, size_t length) {
+    return length >= JB_FIRST_LINE && ask_probe(0, bytes, JB_FIRST_LINE) != JB_MALFORMED;
+}
+
+/* Says what to do with a rows file that was given for a sheet, and with a sheet from before promised parts, or from before K. */
 static void put_hint(FILE *to, const sheet_file *sheet) {
     sheet_file copy = *sheet;
     const text_piece text = {copy.bytes, copy.length};
+    const bool no_loading = lacks_loading(sheet->bytes, sheet->length);
+    const size_t rows = no_loading ? field_begin(0, LOADING_FIELD) + 1 : JB_FIRST_LINE;
+    const bool no_promised = lacks_promised(sheet->bytes, sheet->length, rows);
     if (begins_as_rows_file(text)) {
         fputs("hint: this is a rows file; 'jasminebrace sheet ROWS.csv' makes a sheet of it\n", to);
-    } else if (lacks_loading(sheet->bytes, sheet->length)) {
+    } else if (no_loading && no_promised) {
+        fputs("hint: the fields of K (loading, in slots) and of promised parts (in work units) are missing; a sheet from before "
+              "both is brought up by a field '       0' before each line end: sed 's/$/       0/' SHEET\n",
+              to);
+    } else if (no_promised && has_first_line(sheet->bytes, sheet->length)) {
+        fputs("hint: the field of the promised part (in work units) is missing; a sheet from before promised parts is brought up "
+              "by a field '       0' before the line end of each row: sed '2,$s/$/       0/' SHEET\n",
+              to);
+    } else if (no_loading) {
         fputs("hint: the field of K (loading, in slots) is missing; a sheet from before K is brought up by a field "
               "'       0' before its first line end: sed '1s/$/       0/' SHEET\n",
               to);
@@ -686,8 +731,49 @@ static int load_words(const request *asked, jb_table *table, order_list *order) 
     return status == FINE ? load_table_and_order(asked, table, order) : status;
 }
 
-static int64_t slack_of(const jb_table *table, const uint32_t finishes[JB_ROWS], uint32_t row) {
-    return (int64_t)table->deadline[row - 1] - (int64_t)finishes[row - 1];
+/* What the archive's report says of each row under an order, by row, in slots. */
+typedef struct {
+    uint32_t finish[JB_ROWS];
+    int64_t slack[JB_ROWS];
+} row_times;
+
+/* A figure of a report, counted from 1 in its line. */
+static int64_t report_figure(const uint8_t *line, size_t figure) {
+    char text[JB_FIGURE + 1] = {0};
+    memcpy(text, line + (figure - 1) * JB_FIGURE, JB_FIGURE);
+    return strtoll(text, NULL, 10);
+}
+
+/* Worst finishes and slacks under an order, from the report. Gives its number. */
+static uint32_t take_times(const jb_table *table, const uint8_t order[JB_ROWS], row_times *times) {
+    uint8_t report[JB_LONGEST_REPORT];
+    uint32_t length;
+    const uint32_t number = jb_report_order(table, order, report, sizeof report, &length);
+    for (size_t place = 0; number == JB_OK && place < table->n; place++) {
+        const uint8_t *line = report + place * JB_PLACE_LINE;
+        const size_t index = (size_t)report_figure(line, 2) - 1;
+        times->finish[index] = (uint32_t)report_figure(line, 4);
+        times->slack[index] = report_figure(line, 5);
+    }
+    return number;
+}
+
+/*
+ * The moment of a row's promised part under an order, in slots: the archive's worst
+ * finish of a HI row that has this part as its work and stands in the row's place. 0
+ * where nothing is promised.
+ */
+static uint32_t promised_moment(const jb_table *table, const uint8_t order[JB_ROWS], uint32_t row) {
+    jb_table other = *table;
+    uint32_t worst[JB_ROWS];
+    if (table->promised[row - 1] == 0) {
+        return 0;
+    }
+    other.level[row - 1] = JB_HI;
+    other.work[row - 1] = table->promised[row - 1];
+    other.promised[row - 1] = 0;
+    jb_worst_finishes(&other, order, worst);
+    return worst[row - 1];
 }
 
 /* The number of reading a sheet and planning it, with the order and the rows left. */
@@ -713,8 +799,8 @@ static int plan_plain(const sheet_file *sheet) {
 
 /* Says a correct order with the slack of each place; in the plain form the lines of its places alone. */
 static int put_correct_order(const request *asked, const jb_table *table, const uint8_t order[JB_ROWS]) {
-    uint32_t worst[JB_ROWS];
-    const uint32_t number = jb_worst_finishes(table, order, worst);
+    row_times times;
+    const uint32_t number = take_times(table, order, &times);
     if (number != JB_OK) {
         return refuse_call(asked, number);
     }
@@ -723,7 +809,7 @@ static int put_correct_order(const request *asked, const jb_table *table, const 
     }
     for (uint32_t place = 1; place <= table->n; place++) {
         const uint32_t row = order[place - 1];
-        const int64_t slack = slack_of(table, worst, row);
+        const int64_t slack = times.slack[row - 1];
         if (asked->plain) {
             put_three_fields(place, row, (uint32_t)slack);
         } else {
@@ -800,33 +886,42 @@ static void put_heading(const request *asked, const order_list *order, uint32_t 
     }
 }
 
+/* Says a row's worst finish, the moment of its promised part if it has one, its deadline and its slack. */
+static void put_times(const request *asked, const jb_table *table, const row_times *times, uint32_t row, uint32_t promised) {
+    const uint32_t finish = times->finish[row - 1];
+    const uint32_t deadline = table->deadline[row - 1];
+    const int64_t slack = times->slack[row - 1];
+    if (asked->plain) {
+        put_field(row);
+        put_field(finish);
+        put_field(deadline);
+        put_slack(slack);
+        put_field(promised);
+        putchar('\n');
+        return;
+    }
+    printf("row %" PRIu32 " (%s): worst finish %" PRIu32 " %s", row, level_word(table->level[row - 1]), finish, slots(finish));
+    if (promised != 0) {
+        printf(", promised part at %" PRIu32 " %s", promised, slots(promised));
+    }
+    printf(", deadline %" PRIu32 " %s, slack %" PRId64 " %s\n", deadline, slots(deadline), slack, slots(slack));
+}
+
 static int finishes(const request *asked) {
     jb_table table;
     order_list order = {{0}, 0};
-    uint32_t worst[JB_ROWS];
+    row_times times;
     const int status = load_words(asked, &table, &order);
     if (status != FINE) {
         return status;
     }
-    const uint32_t number = jb_worst_finishes(&table, order.places, worst);
+    const uint32_t number = take_times(&table, order.places, &times);
     if (number != JB_OK) {
         return refuse_call(asked, number);
     }
     put_heading(asked, &order, table.n);
     for (uint32_t row = 1; row <= table.n; row++) {
-        const uint32_t finish = worst[row - 1];
-        const uint32_t deadline = table.deadline[row - 1];
-        const int64_t slack = slack_of(&table, worst, row);
-        if (asked->plain) {
-            put_field(row);
-            put_field(finish);
-            put_field(deadline);
-            put_slack(slack);
-            putchar('\n');
-        } else {
-            printf("row %" PRIu32 " (%s): worst finish %" PRIu32 " %s, deadline %" PRIu32 " %s, slack %" PRId64 " %s\n", row,
-                   level_word(table.level[row - 1]), finish, slots(finish), deadline, slots(deadline), slack, slots(slack));
-        }
+        put_times(asked, &table, &times, row, promised_moment(&table, order.places, row));
     }
     return FINE;
 }
@@ -888,6 +983,15 @@ static uint32_t plan_at(jb_table table, uint32_t normal, uint32_t degraded, uint
     return jb_plan_table(&table, order, left);
 }
 
+/* Some of these rows promise a part. */
+static bool any_promised(const jb_table *table, uint64_t rows) {
+    bool any = false;
+    for (uint32_t index = 0; index < table->n; index++) {
+        any = any || (rows >> index & 1 && table->promised[index] != 0);
+    }
+    return any;
+}
+
 /*
  * What to do where no speed of a range will do, as far as it can help: a larger
  * speed of the other kind if there is an order with both at their largest, a smaller
@@ -897,9 +1001,11 @@ static void put_speed_remedy(FILE *to, const search *of, const jb_table *table, 
     jb_table unloaded = *table;
     unloaded.loading = 0;
     uint64_t left;
+    plan_at(*table, normal, degraded, &left);
+    fprintf(to, "remedy: give the rows left later deadlines%s",
+            any_promised(table, left) ? ", less work or smaller promised parts" : " or less work");
     const bool faster = plan_at(*table, JB_MOST_SPEED, JB_MOST_SPEED, &left) == JB_OK;
     const bool lighter = plan_at(unloaded, normal, degraded, &left) == JB_OK;
-    fputs("remedy: give the rows left later deadlines or less work", to);
     if (faster && lighter) {
         fprintf(to, ", the processor a larger %c, or the table a smaller K\n", of->kept);
     } else if (faster) {
@@ -1023,8 +1129,8 @@ static int slacks(const request *asked) {
     if (status != FINE) {
         return status;
     }
-    uint32_t worst[JB_ROWS];
-    uint32_t number = jb_worst_finishes(&table, order.places, worst);
+    row_times times;
+    uint32_t number = take_times(&table, order.places, &times);
     if (number != JB_OK) {
         return refuse_call(asked, number);
     }
@@ -1059,11 +1165,29 @@ static uint32_t closing_figure(const jb_run *run, uint32_t row) {
     return !jb_is_done(run, row) ? OPEN : jb_is_late(run, row) ? DONE_LATE : DONE;
 }
 
-/* How a row has closed, in words; nothing while it is open. */
-static void put_closing(const jb_run *run, uint32_t row) {
+/* Says of a row that was dropped whether it has got its promised part, if it has one. */
+static void put_promise_of_dropped(const jb_run *run, uint32_t row) {
+    const uint32_t promised = run->table.promised[row - 1];
+    if (promised != 0) {
+        printf(", promised %" PRIu32 " %s %s", promised, work_units(promised), jb_has_promised(run, row) ? "got" : "not got");
+    }
+}
+
+/*
+ * How a row has closed, in words; nothing while it is open. Before that, the clock at
+ * which it got its promised part, unless that is 0.
+ */
+static void put_closing(const jb_run *run, uint32_t row, uint32_t promised_at) {
+    if (promised_at != 0) {
+        const uint32_t promised = run->table.promised[row - 1];
+        printf(", promised %" PRIu32 " %s got at clock %" PRIu32, promised, work_units(promised), promised_at);
+    }
     if (jb_is_dropped(run, row)) {
         const char *why = jb_is_dropped_for_deadline(run, row) ? "its deadline" : "its slots used up";
         printf(", dropped at clock %" PRIu32 ", %s", run->closing[row - 1], why);
+        if (promised_at == 0) {
+            put_promise_of_dropped(run, row);
+        }
     } else if (jb_is_done(run, row)) {
         printf(", done at clock %" PRIu32, run->closing[row - 1]);
         if (jb_is_late(run, row)) {
@@ -1078,9 +1202,36 @@ static uint32_t loading_between(const jb_run *before, const jb_run *after, uint3
     return jb_loaded(after, row) - jb_loaded(before, row);
 }
 
+/*
+ * The clock at which a row got its promised part in the slots between two records, which
+ * had these supplies; 0 if not in them. The slots are halved until one is left.
+ */
+static uint32_t promised_between(const jb_run *before, const jb_run *after, uint32_t row, const uint32_t *supplies) {
+    jb_run run = *before;
+    size_t left = after->clock - before->clock;
+    if (jb_has_promised(before, row) || !jb_has_promised(after, row)) {
+        return 0;
+    }
+    while (left > 1) {
+        const size_t half = left / 2;
+        jb_run copy = run;
+        uint32_t worked;
+        jb_work_forward(&copy, supplies, half, &worked);
+        if (jb_has_promised(&copy, row)) {
+            left = half;
+        } else {
+            run = copy;
+            supplies += half;
+            left -= half;
+        }
+    }
+    return run.clock + 1;
+}
+
 /* Says what the slot between two records did. */
 static void put_slot(const request *asked, const jb_run *before, const jb_run *run, uint32_t row, uint32_t supply) {
     const uint32_t slot = before->clock;
+    const uint32_t promised_at = promised_between(before, run, row, &supply);
     const uint32_t got = row == 0 ? 0 : run->got[row - 1];
     const uint32_t work = row == 0 ? 0 : run->table.work[row - 1];
     const uint32_t loading = loading_between(before, run, row);
@@ -1091,6 +1242,7 @@ static void put_slot(const request *asked, const jb_run *before, const jb_run *r
         put_field(work);
         put_field(closing_figure(run, row));
         put_field(loading);
+        put_field(promised_at);
     } else if (row == 0) {
         printf("slot %" PRIu32 ": idle, supply %" PRIu32 " work units", slot, supply);
     } else {
@@ -1099,15 +1251,16 @@ static void put_slot(const request *asked, const jb_run *before, const jb_run *r
             printf(", loading slot %" PRIu32 " of %" PRIu32, jb_loaded(run, row), run->table.loading);
         }
         printf(", supply %" PRIu32 " work units, got %" PRIu32 " of %" PRIu32 " work units", supply, got, work);
-        put_closing(run, row);
+        put_closing(run, row, promised_at);
     }
     putchar('\n');
 }
 
-/* Says what the stretch of slots between two records did. */
-static void put_stretch(const request *asked, const jb_run *before, const jb_run *run, uint32_t row) {
+/* Says what the stretch of slots between two records did; supplies are those of its slots. */
+static void put_stretch(const request *asked, const jb_run *before, const jb_run *run, uint32_t row, const uint32_t *supplies) {
     const uint32_t first = before->clock;
     const uint32_t length = run->clock - first;
+    const uint32_t promised_at = promised_between(before, run, row, supplies);
     const uint32_t loading = loading_between(before, run, row);
     if (asked->plain) {
         put_field(first);
@@ -1115,6 +1268,7 @@ static void put_stretch(const request *asked, const jb_run *before, const jb_run
         put_field(row);
         put_field(closing_figure(run, row));
         put_field(loading);
+        put_field(promised_at);
     } else {
         printf("from slot %" PRIu32 ", %" PRIu32 " %s", first, length, slots(length));
         if (loading != 0) {
@@ -1124,7 +1278,7 @@ static void put_stretch(const request *asked, const jb_run *before, const jb_run
             fputs(": idle", stdout);
         } else {
             printf(": row %" PRIu32, row);
-            put_closing(run, row);
+            put_closing(run, row, promised_at);
         }
     }
     putchar('\n');
@@ -1166,7 +1320,7 @@ static void put_plain_dropped(const request *asked, const jb_run *run, uint32_t 
         put_field(run->got[row - 1]);
         put_field(run->table.work[row - 1]);
     }
-    put_two_fields(DROPPED_NOT_RUN, 0);
+    put_three_fields(DROPPED_NOT_RUN, 0, 0);
 }
 
 /* Says that a row was dropped at its deadline while another one ran. */
@@ -1174,8 +1328,10 @@ static void put_dropped(const request *asked, const jb_run *run, uint32_t row) {
     if (asked->plain) {
         put_plain_dropped(asked, run, row);
     } else {
-        printf("at clock %" PRIu32 ": row %" PRIu32 ", got %" PRIu32 " of %" PRIu32 " work units, dropped at its deadline\n",
+        printf("at clock %" PRIu32 ": row %" PRIu32 ", got %" PRIu32 " of %" PRIu32 " work units, dropped at its deadline",
                run->closing[row - 1], row, run->got[row - 1], run->table.work[row - 1]);
+        put_promise_of_dropped(run, row);
+        putchar('\n');
     }
 }
 
@@ -1241,7 +1397,7 @@ static uint32_t run_stretches(const request *asked, jb_run *run, const uint32_t 
         if (number != JB_OK) {
             return number;
         }
-        put_stretch(asked, &before, run, row);
+        put_stretch(asked, &before, run, row, supplies + before.clock);
         put_all_dropped(asked, &before, run, row);
     }
     return JB_OK;
@@ -1336,8 +1492,7 @@ static int explain(const request *asked) {
 
 /* The file begins as a sheet does, or as one from before K: the reader finds nothing malformed in its first line. */
 static bool begins_as_sheet(text_piece text) {
-    const bool whole = text.length >= JB_FIRST_LINE && ask_probe(0, text.bytes, JB_FIRST_LINE) != JB_MALFORMED;
-    return whole || lacks_loading(text.bytes, text.length);
+    return has_first_line(text.bytes, text.length) || lacks_loading(text.bytes, text.length);
 }
 
 /* Why a file is no rows file, as far as its first bytes and its length tell; NULL if they do not. */
@@ -1412,25 +1567,28 @@ static int take_first_words(char **words, size_t count, jb_table *table) {
     return FINE;
 }
 
-/* Takes a row, counted from 1, from a word. Gives FINE, or NOT_USABLE with the reason said. */
+/*
+ * Takes a row, counted from 1, from a word; without a fifth figure nothing is promised.
+ * Gives FINE, or NOT_USABLE with the reason said.
+ */
 static int take_row_word(char *word, size_t row, jb_table *table) {
     text_piece cells[ROW_COLUMNS];
-    uint32_t figures[ROW_COLUMNS];
+    uint32_t figures[ROW_COLUMNS] = {0};
     char what[320];
     char *at = word;
-    size_t commas = 0;
+    size_t columns = 1;
     for (const char *byte = word; *byte != '\0'; byte++) {
-        commas += *byte == ',';
+        columns += *byte == ',';
     }
-    if (commas != ROW_COLUMNS - 1) {
-        return not_usable("a row is release,work,deadline,level with three commas between: '%s'", word);
+    if (columns != ROW_COLUMNS && columns != PROMISED_COLUMN - 1) {
+        return not_usable("a row is release,work,deadline,level or release,work,deadline,level,promised: '%s'", word);
     }
-    for (size_t index = 0; index < ROW_COLUMNS; index++) {
+    for (size_t index = 0; index < columns; index++) {
         const text_piece part = {(uint8_t *)at, strcspn(at, ",")};
         cells[index] = without_blanks(part);
         at += part.length + 1;
     }
-    const size_t wrong = read_cells(cells, ROW_KINDS, ROW_COLUMNS, figures, what, sizeof what);
+    const size_t wrong = read_cells(cells, ROW_KINDS, columns, figures, what, sizeof what);
     if (wrong != 0) {
         return not_usable("row %zu, %s: %s", row, ROW_KINDS[wrong - 1].name, what);
     }
@@ -1499,10 +1657,12 @@ static const char PLAN_HELP[] =
     "makes a correct order, highest place first, with the slack of each row in slots\n"
     "\n"
     "A row's slack is its deadline less its worst finish: its finish when every slot\n"
-    "supplies exactly N (LO row) or exactly G (HI row) work units. Plans do not count\n"
-    "on LO rows being dropped at their deadlines, as run drops them: for correct orders\n"
-    "and worst finishes late rows go on. So where the answer is 7, an order may still\n"
-    "serve, only because late LO rows are dropped; such orders are not looked for.\n"
+    "supplies exactly N (LO row) or exactly G (HI row) work units. Of a LO row with a\n"
+    "promised part it is no more than its deadline less the clock at which the row has\n"
+    "got that part when every slot supplies exactly G. Plans do not count on LO rows\n"
+    "being dropped at their deadlines, as run drops them: for correct orders and worst\n"
+    "finishes late rows go on. So where the answer is 7, an order may still serve, only\n"
+    "because late LO rows are dropped; such orders are not looked for.\n"
     "\n"
     "--plain: what the planning program writes. First line: 0 and the row count, or\n"
     "a refusal's number and the count of rows left, which is 0 but for 7. After 0 a\n"
@@ -1514,20 +1674,22 @@ static const char JUDGE_HELP[] =
     "ROW.. is the order: row numbers, highest place first, with spaces or commas\n"
     "between them. On a tie the lower row is named.\n"
     "\n"
-    "--plain: one line: 0, yes as 1 or no as 0, row of least slack, slots by which it\n"
-    "finishes before its deadline, slots by which it finishes after it (at least one\n"
-    "of these two is 0). A refusal is a line of its number and 0.\n";
+    "--plain: one line: 0, yes as 1 or no as 0, row of least slack, that slack in slots if\n"
+    "it is above 0, and the slots by which it is below 0 (at least one of these two is\n"
+    "0). A refusal is a line of its number and 0.\n";
 
 static const char FINISHES_HELP[] =
-    "says each row's worst finish and slack in slots\n"
+    "says each row's worst finish and slack in slots, and when it has its promised part\n"
     "\n"
     "ROW.. is the order as for judge; without it the planned order is taken. In worst\n"
-    "finishes late LO rows go on; in a run they are dropped at their deadlines.\n"
+    "finishes late LO rows go on; in a run they are dropped at their deadlines. The\n"
+    "promised part of a LO row is there, at the latest, at the clock named beside it:\n"
+    "the first at which the row has got it when every slot supplies exactly G.\n"
     "\n"
     "--plain: first line: 0 and the row count, or a refusal's number and the count of\n"
     "rows left, 0 but for 7. After 0 a line for each row: row, worst finish in\n"
-    "slots, deadline in slots, slots by which it finishes before its deadline, slots\n"
-    "by which it finishes after it.\n";
+    "slots, deadline in slots, slack in slots if it is above 0, slots by which it is\n"
+    "below 0, clock of the promised part in slots (0 where nothing is promised).\n";
 
 _Static_assert(JB_FIGURE == 10 && JB_PLACE_LINE == 51 && JB_TOTALS_LINE == 21, "as the heading and the help of report say");
 static const char REPORT_HELP[] =
@@ -1535,7 +1697,8 @@ static const char REPORT_HELP[] =
     "\n"
     "ROW.. is the order as for judge; without it the planned order is taken. A line for\n"
     "each place, highest first: place, row, the row's need at N in slots (K, and its work\n"
-    "at N rounded up), its worst finish in slots, its slack in slots. Then a last line:\n"
+    "at N rounded up), its worst finish in slots, its slack in slots as plan has it, with\n"
+    "the promised part. Then a last line:\n"
     "the needs of all rows added up, in slots, and how many rows have a slack below 0\n"
     "slots. That count is 0 rows exactly if the order is correct; any order is listed,\n"
     "with status 0. The heading names each column and its unit.\n"
@@ -1570,8 +1733,8 @@ static const char SPEEDS_HELP[] =
     "row, slack in slots. A sheet that is refused gives its number in both first lines.\n"
     "With --slacks: first line: 0 and the row count, or a refusal's number and the count\n"
     "of rows left, 0 but for 7. After 0 a line for each place: place, row. Then a line\n"
-    "for each G: G in work units per slot, row of least slack, slots by which it\n"
-    "finishes before its deadline, slots by which it finishes after it.\n";
+    "for each G: G in work units per slot, row of least slack, that slack in slots if it is\n"
+    "above 0, slots by which it is below 0.\n";
 
 static const char RUN_HELP[] =
     "works a run, one slot for each supply, and says what each slot did\n"
@@ -1584,20 +1747,25 @@ static const char RUN_HELP[] =
     "row that was preempted does not load again. A loading slot is named as one, and a\n"
     "stretch says how many of its slots are loading: they are its first ones.\n"
     "A row closes when it is done (all its work got) or dropped. A LO row is dropped if\n"
-    "it is not done when its need at N is used up, or when the clock reaches its\n"
-    "deadline; what the slot right before its deadline brings still counts. Where\n"
+    "it is not done when its allowance is used up (its need at N, or that of its promised\n"
+    "part at G if this is larger), or when the clock reaches its deadline; what the slot\n"
+    "right before its deadline brings still counts. Where\n"
     "another row runs in that slot, the drop has a line of its own, 'at clock ..',\n"
     "after that of the slot or of the stretch. A HI row goes on until it is done, late\n"
     "if that is after its deadline.\n"
+    "Of a row with a promised part the clock is named at which it got that part, and when\n"
+    "it is dropped, whether it has got it.\n"
     "The clock ends at 2,000,000 slots: a supply beyond that is refused with 8.\n"
     "\n"
     "--plain: first line: 0 and the row count, or a refusal's number and the count of\n"
     "rows left, 0 but for 7. After 0 a line for each slot: slot, row run (0 for\n"
     "none), work units that the row has got, its work in work units, how it closed: 0\n"
     "not closed, 1 done, 2 dropped with its slots used up, 3 done late, 4 dropped at\n"
-    "its deadline; loading slots: 1 if the slot is one, else 0. With --stretches a line\n"
+    "its deadline; loading slots: 1 if the slot is one, else 0; the clock in slots at which\n"
+    "the row got its promised part, 0 if not in this slot. With --stretches a line\n"
     "for each stretch: first slot, number of slots, row (0 for none), how it closed at\n"
-    "the end of the stretch, loading slots in it. A 5 for how it closed marks a line of\n"
+    "the end of the stretch, loading slots in it, the clock at which the row got its\n"
+    "promised part, 0 if not in this stretch. A 5 for how it closed marks a line of\n"
     "a row that did not run: it was dropped at its deadline while another row ran, at\n"
     "the end of the slot; with --stretches the line has its deadline as first slot and\n"
     "0 as number of slots. Supplies are not repeated; some would not fit in 8 bytes.\n";
@@ -1618,23 +1786,26 @@ static const char SHEET_HELP[] =
     "ROWS.csv is a rows file, or - for standard input: what jasminebrace rows writes,\n"
     "and what a spreadsheet program saves of it as CSV, with commas:\n"
     "\n"
-    "  normal speed N (work units per slot),degraded speed G (work units per slot),loading K (slots),\n"
-    "  5,2,0,\n"
-    "  release (slots),work (work units),deadline (slots),level (HI or LO)\n"
-    "  0,20,10,HI\n"
-    "  5,15,10,LO\n"
+    "  normal speed N (work units per slot),degraded speed G (work units per slot),loading K (slots),,\n"
+    "  5,2,0,,\n"
+    "  release (slots),work (work units),deadline (slots),level (HI or LO),promised (work units)\n"
+    "  0,20,10,HI,0\n"
+    "  5,15,10,LO,4\n"
     "\n"
     "The headings stay as they are, upper or lower case; they say the order of the\n"
     "columns and their units. A figure is a whole number with digits alone: no sign,\n"
     "point, comma or zero before it. A level is HI or LO, or 1 or 0. Cells may stand in\n"
     "double quotes with blanks around; lines may end with LF, CR LF or CR; a UTF-8 byte\n"
-    "order mark and empty cells and lines at the end do no harm. There is no row count:\n"
+    "order mark and empty cells and lines at the end do no harm. A file without the last\n"
+    "column, from before there were promised parts, promises none. There is no row count:\n"
     "a file that is cut off at a line end is taken as fewer rows. A file may have up to\n"
     "16,777,216 bytes.\n"
     "\n"
     "Without a file: N and G are the normal and the degraded speed in work units per\n"
     "slot, K is the loading of each job in slots, 0 where no job loads; RELEASE and\n"
-    "DEADLINE are in slots, WORK in work units, LEVEL is as above.\n"
+    "DEADLINE are in slots, WORK and PROMISED in work units, LEVEL is as above. PROMISED\n"
+    "is the part of a LO job's work that it is to have at its deadline whenever every slot\n"
+    "supplies at least G; it may be left out, and is 0 then, as on every HI job.\n"
     "\n"
     "What cannot be taken for a figure, a level or a heading ends with status 3, what\n"
     "the archive refuses with status 2; both name the place and what is allowed.\n"
@@ -1657,7 +1828,7 @@ static const command COMMANDS[] = {
     {"speeds", speeds, 1, 0, "speeds {SHEET | --slacks SHEET [ROW..]}", SPEEDS_HELP},
     {"run", run, 2, 0, "run SHEET [--order ROW,ROW..] [--stretches] SUPPLY..", RUN_HELP},
     {"explain", explain, 1, 1, "explain SHEET", EXPLAIN_HELP},
-    {"sheet", sheet, 1, 0, "sheet {ROWS.csv | N G K RELEASE,WORK,DEADLINE,LEVEL..}", SHEET_HELP},
+    {"sheet", sheet, 1, 0, "sheet {ROWS.csv | N G K RELEASE,WORK,DEADLINE,LEVEL[,PROMISED]..}", SHEET_HELP},
     {"rows", rows, 1, 1, "rows SHEET", ROWS_HELP},
 };
 enum { COMMAND_COUNT = sizeof COMMANDS / sizeof COMMANDS[0] };

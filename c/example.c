@@ -2,9 +2,11 @@
  * An example for firmware writers: plan a sheet once, then run it slot by slot.
  * On the way the sheet is written back from the table that was read, and the
  * report of the planned order is printed. With supplies below N a LO row may be
- * dropped at its deadline, even while another row runs:
+ * dropped at its deadline, even while another row runs; with supplies of at least G it
+ * has its promised part then, if it has one:
  *
  *     example samples/late-preview.sheet 4 4 4 4 1
+ *     example samples/promise.sheet 2
  *
  *     example [SHEET [SUPPLY ...]]
  *
@@ -145,10 +147,20 @@ static const char *deadline_word(const jb_run *run, uint32_t row) {
     return jb_is_late(run, row) ? "late" : "kept";
 }
 
+/* Whether the row has the part of its work that was promised of it: firmware may then show a coarse preview. */
+static void print_promise(const jb_run *run, uint32_t row) {
+    const uint32_t promised = run->table.promised[row - 1];
+    if (promised != 0) {
+        printf(", promised %" PRIu32 " work units %s", promised, jb_has_promised(run, row) ? "got" : "not got");
+    }
+}
+
 static void print_summary(const jb_run *run) {
     for (uint32_t row = 1; row <= run->table.n && row <= JB_ROWS; row++) {
-        printf("row %" PRIu32 ": %s at clock %" PRIu32 ", deadline %" PRIu32 " slots, %s\n", row, closing_word(run, row),
+        printf("row %" PRIu32 ": %s at clock %" PRIu32 ", deadline %" PRIu32 " slots, %s", row, closing_word(run, row),
                run->closing[row - 1], run->table.deadline[row - 1], deadline_word(run, row));
+        print_promise(run, row);
+        printf("\n");
     }
 }
 

@@ -34,10 +34,10 @@ void *memset(void *to, int byte, size_t count) {
 }
 
 static const char SHEET[] = "       4       5       2       0\n"
-                            "       0      20      10       1\n"
-                            "       5      15      10       0\n"
-                            "       5      11      19       1\n"
-                            "       0       5       5       0\n";
+                            "       0      20      10       1       0\n"
+                            "       5      15      10       0       0\n"
+                            "       5      11      19       1       0\n"
+                            "       0       5       5       0       0\n";
 
 /* Its report under the planned order: place and row; need at N, worst finish and slack in slots. */
 static const char REPORT[] = "         1         1         4        10         0\n"

@@ -30,7 +30,7 @@ enum {
     GUARD_SIZE = 256,  /* bytes of it that are checked */
     MOST_SUPPLIES = 40,
     SEARCHED = 4, /* rounds for one in which least speeds are sought: each search plans many times */
-    LONGEST_INPUT = 2300, /* bytes, some more than a sheet has */
+    LONGEST_INPUT = 2800, /* bytes, some more than a sheet has */
     MOST_ROOM = 3400      /* bytes lent for a report, some more than one has */
 };
 
@@ -139,6 +139,11 @@ static uint32_t any_count(void) {
     return once_in(16) ? between(1, JB_ROWS) : between(1, 6);
 }
 
+/* What may be promised of a LO row: nothing, all of its work, or some. */
+static uint32_t any_part(uint32_t work) {
+    return once_in(3) ? 0 : once_in(4) ? work : between(0, work);
+}
+
 static void fill_accepted(jb_table *table) {
     memset(table, 0, sizeof *table);
     table->n = any_count();
@@ -152,6 +157,7 @@ static void fill_accepted(jb_table *table) {
         table->work[index] = between(1, most_work);
         table->deadline[index] = table->release[index] + between(1, most_window);
         table->level[index] = between(0, 1);
+        table->promised[index] = table->level[index] == JB_HI ? 0 : any_part(table->work[index]);
     }
 }
 
@@ -167,6 +173,10 @@ static void fill_table(jb_table *table) {
         uint32_t figure = any_figure();
         uint32_t word = once_in(2) ? between(0, 3) : between(0, JB_TABLE_WORDS - 1);
         memcpy(bytes + 4 * word, &figure, sizeof figure);
+    }
+    if (once_in(12)) { /* one work unit more than a row has */
+        uint32_t index = between(0, any_count() - 1);
+        table->promised[index] = table->work[index] + 1;
     }
 }
 
@@ -195,11 +205,11 @@ static uint32_t any_clock(const jb_table *table) {
     return once_in(4) ? between(JB_LAST_CLOCK - 10, JB_LAST_CLOCK + 1) : between(0, 60);
 }
 
-/* Slots that an open row may have used: up to K, or one less than its need, and no more than the clock. */
+/* Slots that an open row may have used: up to K, or one less than its allowance, and no more than the clock. */
 static uint32_t any_used(const jb_run *run, uint32_t row) {
-    const uint32_t need = jb_need(&run->table, row);
+    const uint32_t allowance = jb_allowance(&run->table, row);
     const uint32_t most = run->table.loading < JB_MOST_LOADING ? run->table.loading : JB_MOST_LOADING;
-    const uint32_t used = once_in(3) && need != 0 ? need - 1 : between(0, most);
+    const uint32_t used = once_in(3) && allowance != 0 ? allowance - 1 : between(0, most);
     return used < run->clock ? used : run->clock;
 }
 
@@ -241,7 +251,7 @@ static void change_field(uint8_t *sheet, uint32_t n) {
                                          "      65", "    1000", "    1001", " 1000000", " 1000001", "12345678", "99999999"};
     uint32_t row = once_in(3) ? 0 : between(1, n);
     uint32_t line = row == 0 ? 0 : JB_FIRST_LINE + (row - 1) * JB_ROW_LINE;
-    uint32_t field = between(0, 3);
+    uint32_t field = between(0, row == 0 ? 3 : 4);
     memcpy(sheet + line + field * JB_FIELD, fields[between(0, sizeof fields / sizeof *fields - 1)], JB_FIELD);
 }
 
@@ -299,26 +309,27 @@ static const struct {
     const char *name;
     int numbers[NUMBERS];
 } functions[FUNCTIONS] = {
-    [READ] = {"read", {0, 1, 2, 3, 4, 11, 5, END}},
-    [WRITE] = {"write", {0, 3, 4, 11, 5, 10, END}},
-    [PLAN] = {"plan", {0, 3, 4, 11, 5, 7, END}},
-    [LEAST_DEGRADED] = {"least G", {0, 3, 4, 11, 5, 7, END}},
-    [LEAST_NORMAL] = {"least N", {0, 3, 4, 11, 5, 7, END}},
-    [READ_LEAST_DEGRADED] = {"sheet's G", {0, 1, 2, 3, 4, 11, 5, 7, END}},
-    [READ_LEAST_NORMAL] = {"sheet's N", {0, 1, 2, 3, 4, 11, 5, 7, END}},
-    [JUDGE] = {"judge", {0, 3, 4, 11, 5, 6, END}},
-    [FINISHES] = {"finishes", {0, 3, 4, 11, 5, 6, END}},
-    [REPORT] = {"report", {0, 3, 4, 11, 5, 6, 10, END}},
-    [FRESH] = {"fresh", {0, 3, 4, 11, 5, 6, END}},
+    [READ] = {"read", {0, 1, 2, 3, 4, 11, 5, 12, END}},
+    [WRITE] = {"write", {0, 3, 4, 11, 5, 12, 10, END}},
+    [PLAN] = {"plan", {0, 3, 4, 11, 5, 12, 7, END}},
+    [LEAST_DEGRADED] = {"least G", {0, 3, 4, 11, 5, 12, 7, END}},
+    [LEAST_NORMAL] = {"least N", {0, 3, 4, 11, 5, 12, 7, END}},
+    [READ_LEAST_DEGRADED] = {"sheet's G", {0, 1, 2, 3, 4, 11, 5, 12, 7, END}},
+    [READ_LEAST_NORMAL] = {"sheet's N", {0, 1, 2, 3, 4, 11, 5, 12, 7, END}},
+    [JUDGE] = {"judge", {0, 3, 4, 11, 5, 12, 6, END}},
+    [FINISHES] = {"finishes", {0, 3, 4, 11, 5, 12, 6, END}},
+    [REPORT] = {"report", {0, 3, 4, 11, 5, 12, 6, 10, END}},
+    [FRESH] = {"fresh", {0, 3, 4, 11, 5, 12, 6, END}},
     [COMING] = {"coming", {0, 8, 9, END}},
     [SLOT] = {"slot", {0, 8, 9, END}},
     [FORWARD] = {"forward", {0, 8, 9, END}},
-    [PROGRAM] = {"program", {0, 1, 2, 3, 4, 11, 5, 7, END}},
+    [PROGRAM] = {"program", {0, 1, 2, 3, 4, 11, 5, 12, 7, END}},
 };
 static uint64_t counts[FUNCTIONS][NUMBERS];
 static uint64_t range_ends[2]; /* least speeds that are the first and the last of their range */
 static uint64_t loading_slots, working_slots; /* slots worked one by one that brought no work by K, and other ones of a row */
-static uint64_t dropped_for_need, dropped_running, dropped_waiting; /* LO rows: for their need, at their deadlines as they ran, and as they did not */
+static uint64_t dropped_for_need, dropped_running, dropped_waiting; /* LO rows: for their allowance, at their deadlines as they ran, and as they did not */
+static uint64_t tight_promises, longer_allowances; /* slacks that a promised part makes smaller, and allowances that it makes longer */
 
 /* Counts an answer, whose number is one that the function can give. */
 static void count(int function, uint32_t number) {
@@ -572,7 +583,7 @@ static void try_judge_list(const jb_table *table, const uint8_t *order, uint32_t
     jb_row rows[JB_ROWS];
     size_t count = table->n < JB_ROWS ? table->n : JB_ROWS;
     for (size_t i = 0; i < count; i++) {
-        rows[i] = (jb_row){table->release[i], table->work[i], table->deadline[i], table->level[i]};
+        rows[i] = (jb_row){table->release[i], table->work[i], table->deadline[i], table->level[i], table->promised[i]};
     }
     uint32_t list_yes, list_row;
     int32_t list_slack;
@@ -581,6 +592,29 @@ static void try_judge_list(const jb_table *table, const uint8_t *order, uint32_t
     if (number == JB_OK) {
         expect(list_number == JB_OK && list_yes == yes && list_row == row && list_slack == slack, "the judge says the same of a list");
     }
+}
+
+/* The first clock at which a row has its promised part at exactly G, in slots: when a HI row with that work would be done in its place. */
+static uint32_t promised_moment(const jb_table *table, const uint8_t *order, uint32_t row) {
+    jb_table other = *table;
+    uint32_t finishes[JB_ROWS];
+    other.level[row - 1] = JB_HI;
+    other.work[row - 1] = table->promised[row - 1];
+    other.promised[row - 1] = 0;
+    expect(jb_worst_finishes(&other, order, finishes) == JB_OK, "worst finishes with the promised part as a row");
+    return finishes[row - 1];
+}
+
+/* A row's slack by its worst finish and its promised part, in slots. */
+static int64_t slack_of(const jb_table *table, const uint8_t *order, const uint32_t *finishes, uint32_t row) {
+    const int64_t deadline = table->deadline[row - 1];
+    const int64_t of_finish = deadline - finishes[row - 1];
+    if (table->promised[row - 1] == 0) {
+        return of_finish;
+    }
+    const int64_t of_promise = deadline - promised_moment(table, order, row);
+    tight_promises += of_promise < of_finish;
+    return of_promise < of_finish ? of_promise : of_finish;
 }
 
 static void try_judge(void) {
@@ -611,7 +645,7 @@ static void try_judge(void) {
     }
     expect(*yes == (*slack >= 0), "yes exactly if no slack is below zero");
     expect(*row >= 1 && *row <= table->n, "the row of least slack is a row");
-    expect((int64_t)table->deadline[*row - 1] - finishes[*row - 1] == *slack, "slack is deadline less finish");
+    expect(slack_of(table, order, finishes, *row) == *slack, "slack is deadline less finish, or less the promised moment");
     expect(all_zero(finishes + table->n, (JB_ROWS - table->n) * sizeof *finishes), "zeros after the last row");
 }
 
@@ -629,7 +663,8 @@ static void list_place(listing *to, const jb_table *table, const uint8_t *order,
     uint32_t row = order[place - 1];
     uint32_t need = table->loading + (table->work[row - 1] + table->normal - 1) / table->normal;
     expect(jb_need(table, row) == need, "a row's need is the report's");
-    int64_t slack = (int64_t)table->deadline[row - 1] - finishes[row - 1];
+    longer_allowances += jb_allowance(table, row) > need;
+    int64_t slack = slack_of(table, order, finishes, row);
     to->length += (size_t)snprintf(to->text + to->length, sizeof to->text - to->length,
                                    "%10" PRIu32 "%10" PRIu32 "%10" PRIu32 "%10" PRIu32 "%10" PRId64 "\n", place, row, need,
                                    finishes[row - 1], slack);
@@ -714,12 +749,12 @@ static uint32_t got_after(const jb_run *before, uint32_t row, uint32_t supply) {
     return got + (brought < missing ? brought : missing);
 }
 
-/* A row that was open closes when it is done, for its need, or as a LO row at its deadline; any other stays as it was. */
+/* A row that was open closes when it is done, for its allowance, or as a LO row at its deadline; any other stays as it was. */
 static void expect_closing(const jb_run *before, const jb_run *run, uint32_t row, bool ran) {
     const uint32_t index = row - 1;
     const bool low = run->table.level[index] == JB_LO;
     const bool done = run->got[index] == run->table.work[index];
-    const bool used_up = low && run->used[index] >= jb_need(&run->table, row);
+    const bool used_up = low && run->used[index] >= jb_allowance(&run->table, row);
     const bool reached = low && run->clock >= run->table.deadline[index];
     if (!ran) {
         expect(run->got[index] == before->got[index] && run->used[index] == before->used[index], "a row that does not run gets nothing");
@@ -842,6 +877,7 @@ static uint32_t number_with(uint32_t n, uint32_t normal, uint32_t degraded, uint
         table.work[index] = row.work;
         table.deadline[index] = row.deadline;
         table.level[index] = row.level;
+        table.promised[index] = row.promised;
     }
     return jb_plan_table(&table, order, &left);
 }
@@ -854,54 +890,69 @@ static uint32_t number_of(uint32_t n, uint32_t normal, uint32_t degraded, jb_row
 /* The header's limits are the library's: a figure at its limit is taken, and one past it is refused. */
 static void try_limits(void) {
     const uint32_t last = JB_LAST_DEADLINE;
-    expect(number_of(1, 1, 1, (jb_row){0, 1, last, JB_LO}) == JB_OK, "one row, speeds of 1, the latest deadline");
-    expect(number_of(1, 1, 1, (jb_row){0, 1, last + 1, JB_LO}) == JB_ROW_LIMITS, "a later deadline");
-    expect(number_of(1, 1, 1, (jb_row){last - 1, 1, last, JB_HI}) == JB_OK, "the latest release");
-    expect(number_of(1, 1, 1, (jb_row){last, 1, last, JB_HI}) == JB_ROW_LIMITS, "a release at the deadline");
-    expect(number_of(1, 1, 1, (jb_row){0, 1, 1, JB_HI + 1}) == JB_ROW_LIMITS, "a level above HI");
-    expect(number_of(1, 1, 1, (jb_row){0, JB_MOST_WORK, last, JB_HI}) == JB_OK, "the largest work");
-    expect(number_of(1, 2, 2, (jb_row){0, JB_MOST_WORK + 1, last, JB_HI}) == JB_ROW_LIMITS, "a larger work");
-    expect(number_of(1, 1, 1, (jb_row){0, 0, last, JB_HI}) == JB_ROW_LIMITS, "no work");
-    expect(number_of(1, JB_MOST_SPEED, JB_MOST_SPEED, (jb_row){0, 1, 1, JB_LO}) == JB_OK, "the largest speeds");
-    expect(number_of(1, JB_MOST_SPEED + 1, 1, (jb_row){0, 1, 1, JB_LO}) == JB_SPEEDS, "a larger speed");
-    expect(number_of(1, 1, 2, (jb_row){0, 1, 1, JB_LO}) == JB_SPEEDS, "G above N");
-    expect(number_of(1, 1, 0, (jb_row){0, 1, 1, JB_LO}) == JB_SPEEDS, "no G");
-    expect(number_of(JB_ROWS, 1, 1, (jb_row){0, 1, JB_ROWS, JB_LO}) == JB_OK, "the most rows");
-    expect(number_of(JB_ROWS + 1, 1, 1, (jb_row){0, 1, JB_ROWS, JB_LO}) == JB_ROW_COUNT, "one row more");
-    expect(number_of(0, 1, 1, (jb_row){0, 1, 1, JB_LO}) == JB_ROW_COUNT, "no row");
+    expect(number_of(1, 1, 1, (jb_row){0, 1, last, JB_LO, 0}) == JB_OK, "one row, speeds of 1, the latest deadline");
+    expect(number_of(1, 1, 1, (jb_row){0, 1, last + 1, JB_LO, 0}) == JB_ROW_LIMITS, "a later deadline");
+    expect(number_of(1, 1, 1, (jb_row){last - 1, 1, last, JB_HI, 0}) == JB_OK, "the latest release");
+    expect(number_of(1, 1, 1, (jb_row){last, 1, last, JB_HI, 0}) == JB_ROW_LIMITS, "a release at the deadline");
+    expect(number_of(1, 1, 1, (jb_row){0, 1, 1, JB_HI + 1, 0}) == JB_ROW_LIMITS, "a level above HI");
+    expect(number_of(1, 1, 1, (jb_row){0, JB_MOST_WORK, last, JB_HI, 0}) == JB_OK, "the largest work");
+    expect(number_of(1, 2, 2, (jb_row){0, JB_MOST_WORK + 1, last, JB_HI, 0}) == JB_ROW_LIMITS, "a larger work");
+    expect(number_of(1, 1, 1, (jb_row){0, 0, last, JB_HI, 0}) == JB_ROW_LIMITS, "no work");
+    expect(number_of(1, JB_MOST_SPEED, JB_MOST_SPEED, (jb_row){0, 1, 1, JB_LO, 0}) == JB_OK, "the largest speeds");
+    expect(number_of(1, JB_MOST_SPEED + 1, 1, (jb_row){0, 1, 1, JB_LO, 0}) == JB_SPEEDS, "a larger speed");
+    expect(number_of(1, 1, 2, (jb_row){0, 1, 1, JB_LO, 0}) == JB_SPEEDS, "G above N");
+    expect(number_of(1, 1, 0, (jb_row){0, 1, 1, JB_LO, 0}) == JB_SPEEDS, "no G");
+    expect(number_of(JB_ROWS, 1, 1, (jb_row){0, 1, JB_ROWS, JB_LO, 0}) == JB_OK, "the most rows");
+    expect(number_of(JB_ROWS + 1, 1, 1, (jb_row){0, 1, JB_ROWS, JB_LO, 0}) == JB_ROW_COUNT, "one row more");
+    expect(number_of(0, 1, 1, (jb_row){0, 1, 1, JB_LO, 0}) == JB_ROW_COUNT, "no row");
     /* At G 1 and N 2 a LO row of four work units is dropped after two slots and a HI row takes all four. */
-    expect(number_of(1, 2, 1, (jb_row){0, 4, 2, JB_LO}) == JB_OK, "LO is tried at N");
-    expect(number_of(1, 2, 1, (jb_row){0, 4, 2, JB_HI}) == JB_NO_ORDER, "HI is tried at G");
+    expect(number_of(1, 2, 1, (jb_row){0, 4, 2, JB_LO, 0}) == JB_OK, "LO is tried at N");
+    expect(number_of(1, 2, 1, (jb_row){0, 4, 2, JB_HI, 0}) == JB_NO_ORDER, "HI is tried at G");
     /* The longest loading and one slot of work take 17 slots. */
     const uint32_t most = JB_MOST_LOADING;
-    expect(number_with(1, 1, 1, most, (jb_row){0, 1, most + 1, JB_LO}) == JB_OK, "the longest loading");
-    expect(number_with(1, 1, 1, most, (jb_row){0, 1, most, JB_LO}) == JB_NO_ORDER, "a slot too few for the longest loading");
-    expect(number_with(1, 1, 1, most + 1, (jb_row){0, 1, last, JB_LO}) == JB_LOADING, "a longer loading");
-    expect(number_with(1, 1, 1, UINT32_MAX, (jb_row){0, 1, last, JB_LO}) == JB_LOADING, "the largest figure as loading");
-    expect(number_with(1, 1, 1, most + 1, (jb_row){last, 1, last, JB_LO}) == JB_LOADING, "11 before 5");
-    expect(number_with(1, 1, 2, most + 1, (jb_row){0, 1, last, JB_LO}) == JB_SPEEDS, "4 before 11");
-    expect(number_with(0, 1, 1, most + 1, (jb_row){0, 1, last, JB_LO}) == JB_ROW_COUNT, "3 before 11");
+    expect(number_with(1, 1, 1, most, (jb_row){0, 1, most + 1, JB_LO, 0}) == JB_OK, "the longest loading");
+    expect(number_with(1, 1, 1, most, (jb_row){0, 1, most, JB_LO, 0}) == JB_NO_ORDER, "a slot too few for the longest loading");
+    expect(number_with(1, 1, 1, most + 1, (jb_row){0, 1, last, JB_LO, 0}) == JB_LOADING, "a longer loading");
+    expect(number_with(1, 1, 1, UINT32_MAX, (jb_row){0, 1, last, JB_LO, 0}) == JB_LOADING, "the largest figure as loading");
+    expect(number_with(1, 1, 1, most + 1, (jb_row){last, 1, last, JB_LO, 0}) == JB_LOADING, "11 before 5");
+    expect(number_with(1, 1, 2, most + 1, (jb_row){0, 1, last, JB_LO, 0}) == JB_SPEEDS, "4 before 11");
+    expect(number_with(0, 1, 1, most + 1, (jb_row){0, 1, last, JB_LO, 0}) == JB_ROW_COUNT, "3 before 11");
     /* At N 2 and G 1 four work units take 2 slots, and with K 3 the LO row is tried by 5 slots and the HI row by 7. */
-    expect(number_with(1, 2, 1, 3, (jb_row){0, 4, 5, JB_LO}) == JB_OK, "LO is tried at N with loading");
-    expect(number_with(1, 2, 1, 3, (jb_row){0, 4, 4, JB_LO}) == JB_NO_ORDER, "LO needs its loading");
-    expect(number_with(1, 2, 1, 3, (jb_row){0, 4, 7, JB_HI}) == JB_OK, "HI is tried at G with loading");
-    expect(number_with(1, 2, 1, 3, (jb_row){0, 4, 6, JB_HI}) == JB_NO_ORDER, "HI needs its loading");
+    expect(number_with(1, 2, 1, 3, (jb_row){0, 4, 5, JB_LO, 0}) == JB_OK, "LO is tried at N with loading");
+    expect(number_with(1, 2, 1, 3, (jb_row){0, 4, 4, JB_LO, 0}) == JB_NO_ORDER, "LO needs its loading");
+    expect(number_with(1, 2, 1, 3, (jb_row){0, 4, 7, JB_HI, 0}) == JB_OK, "HI is tried at G with loading");
+    expect(number_with(1, 2, 1, 3, (jb_row){0, 4, 6, JB_HI, 0}) == JB_NO_ORDER, "HI needs its loading");
+    /* Of six work units, which take 3 slots at N 2, three are promised by 3 slots at G 1, and four by 4; with K 1 it is a slot more. */
+    expect(number_of(1, 2, 1, (jb_row){0, 6, 3, JB_LO, 3}) == JB_OK, "a promised part in time");
+    expect(number_of(1, 2, 1, (jb_row){0, 6, 3, JB_LO, 4}) == JB_NO_ORDER, "a promised part a slot too late");
+    expect(number_of(1, 2, 1, (jb_row){0, 6, 4, JB_LO, 4}) == JB_OK, "a larger promised part in time");
+    expect(number_with(1, 2, 1, 1, (jb_row){0, 6, 5, JB_LO, 4}) == JB_OK, "a promised part with its loading");
+    expect(number_with(1, 2, 1, 1, (jb_row){0, 6, 4, JB_LO, 4}) == JB_NO_ORDER, "a promised part needs its loading");
+    expect(number_of(1, 2, 1, (jb_row){0, 6, 6, JB_LO, 6}) == JB_OK, "all work is promised");
+    expect(number_of(1, 2, 1, (jb_row){0, 6, 6, JB_LO, 7}) == JB_PROMISED, "more than all work is promised");
+    expect(number_of(1, 2, 1, (jb_row){0, 6, 6, JB_HI, 1}) == JB_PROMISED, "a part of a HI row is promised");
+    expect(number_of(1, 2, 1, (jb_row){0, JB_MOST_WORK, last, JB_LO, JB_MOST_WORK}) == JB_OK, "the largest promised part");
+    expect(number_of(1, 2, 1, (jb_row){0, 1, last, JB_LO, UINT32_MAX}) == JB_PROMISED, "the largest figure as promised part");
+    expect(number_of(2, 2, 1, (jb_row){6, 6, 6, JB_HI, 1}) == JB_ROW_LIMITS, "5 before 12");
+    expect(number_with(1, 2, 1, most + 1, (jb_row){0, 6, 6, JB_HI, 1}) == JB_LOADING, "11 before 12");
 }
 
 /* The numbers that try_limits does not meet, and verdicts on a list of the most rows whose last is the tightest. */
 static void try_numbers(void) {
     static const uint8_t sheet[] = "       1       1       1       x\n";
     static const uint8_t before[] = "       1       1       1\n       0       1       1       0\n";
+    static const uint8_t without[] = "       1       1       1       0\n       0       1       1       0\n";
     jb_table table;
     expect(jb_read_table(sheet, 32, &table) == JB_LENGTH, "32 bytes");
     expect(jb_read_table(sheet, 33, &table) == JB_MALFORMED, "a letter in a field");
     expect(jb_read_table(before, sizeof before - 1, &table) == JB_MALFORMED, "a sheet from before K");
+    expect(jb_read_table(without, sizeof without - 1, &table) == JB_LENGTH, "a sheet from before promised parts");
     jb_row rows[JB_ROWS];
     uint8_t order[JB_ROWS];
     uint32_t yes, row;
     int32_t slack;
     for (uint32_t index = 0; index < JB_ROWS; index++) {
-        rows[index] = (jb_row){0, 1, 2 * JB_ROWS, JB_HI};
+        rows[index] = (jb_row){0, 1, 2 * JB_ROWS, JB_HI, 0};
         order[index] = (uint8_t)(index + 1);
     }
     for (int32_t spare = -2; spare <= 2; spare++) {
@@ -911,6 +962,8 @@ static void try_numbers(void) {
     }
     order[0] = 0;
     expect(jb_judge_list(rows, JB_ROWS, 1, 1, 0, order, &yes, &row, &slack) == JB_NOT_AN_ORDER, "a row is missing");
+    rows[JB_ROWS - 1].promised = 1;
+    expect(jb_judge_list(rows, JB_ROWS, 1, 1, 0, order, &yes, &row, &slack) == JB_PROMISED, "12 before 6, of the last row");
     expect(yes == 0 && row == 0 && slack == 0, "all zero on a refusal");
 }
 
@@ -927,7 +980,7 @@ static void try_largest_figures(void) {
     static const char last_lines[] = "        64        64   1000016  65001023 -64001023\n"
                                      "  64001024        64\n";
     const size_t two_lines = sizeof last_lines - 1;
-    jb_table table = {JB_ROWS, 1, 1, JB_MOST_LOADING, {0}, {0}, {0}, {0}};
+    jb_table table = {JB_ROWS, 1, 1, JB_MOST_LOADING, {0}, {0}, {0}, {0}, {0}};
     uint8_t order[JB_ROWS], report[JB_LONGEST_REPORT];
     uint32_t length;
     for (uint32_t index = 0; index < JB_ROWS; index++) {
@@ -1014,9 +1067,11 @@ int main(int argc, char **argv) {
     print_counts();
     printf("slots worked one by one: %" PRIu64 " loading, %" PRIu64 " other ones of a row\n", loading_slots, working_slots);
     expect(loading_slots > 0 && working_slots > 0, "both kinds of slots come up");
-    printf("LO rows dropped: %" PRIu64 " for their need, at their deadlines %" PRIu64 " that ran and %" PRIu64 " that did not\n",
+    printf("LO rows dropped: %" PRIu64 " for their allowance, at their deadlines %" PRIu64 " that ran and %" PRIu64 " that did not\n",
            dropped_for_need, dropped_running, dropped_waiting);
     expect(dropped_for_need > 0 && dropped_running > 0 && dropped_waiting > 0, "every way to be dropped comes up");
+    printf("promised parts: %" PRIu64 " make a slack smaller, %" PRIu64 " an allowance longer\n", tight_promises, longer_allowances);
+    expect(tight_promises > 0 && longer_allowances > 0, "promised parts tell");
     printf("least speeds: %" PRIu64 " the first of their range, %" PRIu64 " the last\n", range_ends[0], range_ends[1]);
     expect(range_ends[0] > 0 && range_ends[1] > 0, "both ends of the ranges come up");
     printf("%lu rounds, all held\n", rounds);

@@ -1,10 +1,10 @@
 /*
  * Tests of the header's own functions, in what C11 and C++11 have in common:
  * the interface's number, the words for every number, lists of no entries, a
- * sheet written back, least speeds, reports, K beyond its limit, where a row of a run
- * stands and how far it has loaded, LO rows at their deadlines, needs, and the packed
- * verdict taken apart. It says how many things it looked at; exit status 1 if one is
- * not as it should be.
+ * sheet written back, least speeds, reports, K and promised parts beyond their limits,
+ * where a row of a run stands and how far it has loaded, LO rows at their deadlines,
+ * needs, promised parts, and the packed verdict taken apart. It says how many things it
+ * looked at; exit status 1 if one is not as it should be.
  */
 #include "jasminebrace.h"
 
@@ -24,8 +24,8 @@ static void look(int fine, const char *what, unsigned figure) {
 
 /* The sheet of case P3: N 2, G 1, K 0, a LO row 0 2 2 and a HI row 0 4 4. */
 static const char P3[] = "       2       2       1       0\n"
-                         "       0       2       2       0\n"
-                         "       0       4       4       1\n";
+                         "       0       2       2       0       0\n"
+                         "       0       4       4       1       0\n";
 
 static void look_at_words(void) {
     for (uint32_t number = JB_OK; number <= JB_LAST_NUMBER + 1; number++) {
@@ -122,24 +122,29 @@ typedef struct {
 /*
  * First N 20, a HI row 0 200 20 and a LO row 0 180 18: above row 2, row 1 makes it a
  * slot late; below it, 11 slots are left to row 1, so that G is 19. With G 20 the
- * least N is 20, and the order is other than at larger N. Then P3, and rows whose
- * least speeds are the ends of the ranges, or just beyond them.
+ * least N is 20, and the order is other than at larger N. Where 172 work units of row 2
+ * are promised it has 10 slots at G 19, and G is 20. Then P3, and rows whose least
+ * speeds are the ends of the ranges, or just beyond them; of the last one a part is
+ * promised that takes all of its slots at G 3.
  */
 static const least_case LEAST_CASES[] = {
-    {0, 1, 20, {{0, 200, 20, JB_HI}, {0, 180, 18, JB_LO}}, 19, {2, 1}},
-    {0, 18, 20, {{0, 200, 20, JB_HI}, {0, 180, 18, JB_LO}}, 19, {2, 1}},
-    {0, 20, 20, {{0, 200, 20, JB_HI}, {0, 180, 18, JB_LO}}, 19, {2, 1}},
-    {1, 20, 20, {{0, 200, 20, JB_HI}, {0, 180, 18, JB_LO}}, 20, {2, 1}},
-    {1, JB_MOST_SPEED, 20, {{0, 200, 20, JB_HI}, {0, 180, 18, JB_LO}}, 20, {2, 1}},
-    {0, 1, 2, {{0, 2, 2, JB_LO}, {0, 4, 4, JB_HI}}, 2, {1, 2}},
-    {1, 1, 1, {{0, 2, 2, JB_LO}, {0, 4, 4, JB_HI}}, 4, {2, 1}},
-    {1, JB_MOST_SPEED, 1, {{0, 2, 2, JB_LO}, {0, 4, 4, JB_HI}}, 4, {2, 1}},
-    {0, 7, 7, {{0, 7, 1, JB_LO}, {0, 0, 0, 0}}, 1, {1}},
-    {0, 7, 7, {{0, 7, 1, JB_HI}, {0, 0, 0, 0}}, 7, {1}},
-    {0, 7, 7, {{0, 8, 1, JB_HI}, {0, 0, 0, 0}}, 0, {0}},
-    {1, 9, 7, {{0, 7, 1, JB_LO}, {0, 0, 0, 0}}, 7, {1}},
-    {1, 7, 7, {{0, 1000, 1, JB_LO}, {0, 0, 0, 0}}, JB_MOST_SPEED, {1}},
-    {1, 7, 7, {{0, 1001, 1, JB_LO}, {0, 0, 0, 0}}, 0, {0}},
+    {0, 1, 20, {{0, 200, 20, JB_HI, 0}, {0, 180, 18, JB_LO, 0}}, 19, {2, 1}},
+    {0, 18, 20, {{0, 200, 20, JB_HI, 0}, {0, 180, 18, JB_LO, 0}}, 19, {2, 1}},
+    {0, 20, 20, {{0, 200, 20, JB_HI, 0}, {0, 180, 18, JB_LO, 0}}, 19, {2, 1}},
+    {0, 20, 20, {{0, 200, 20, JB_HI, 0}, {0, 180, 18, JB_LO, 171}}, 19, {2, 1}},
+    {0, 1, 20, {{0, 200, 20, JB_HI, 0}, {0, 180, 18, JB_LO, 172}}, 20, {2, 1}},
+    {1, 20, 20, {{0, 200, 20, JB_HI, 0}, {0, 180, 18, JB_LO, 0}}, 20, {2, 1}},
+    {1, JB_MOST_SPEED, 20, {{0, 200, 20, JB_HI, 0}, {0, 180, 18, JB_LO, 0}}, 20, {2, 1}},
+    {0, 1, 2, {{0, 2, 2, JB_LO, 0}, {0, 4, 4, JB_HI, 0}}, 2, {1, 2}},
+    {1, 1, 1, {{0, 2, 2, JB_LO, 0}, {0, 4, 4, JB_HI, 0}}, 4, {2, 1}},
+    {1, JB_MOST_SPEED, 1, {{0, 2, 2, JB_LO, 0}, {0, 4, 4, JB_HI, 0}}, 4, {2, 1}},
+    {0, 7, 7, {{0, 7, 1, JB_LO, 0}, {0, 0, 0, 0, 0}}, 1, {1}},
+    {0, 7, 7, {{0, 7, 1, JB_HI, 0}, {0, 0, 0, 0, 0}}, 7, {1}},
+    {0, 7, 7, {{0, 8, 1, JB_HI, 0}, {0, 0, 0, 0, 0}}, 0, {0}},
+    {1, 9, 7, {{0, 7, 1, JB_LO, 0}, {0, 0, 0, 0, 0}}, 7, {1}},
+    {1, 7, 7, {{0, 1000, 1, JB_LO, 0}, {0, 0, 0, 0, 0}}, JB_MOST_SPEED, {1}},
+    {1, 7, 7, {{0, 1001, 1, JB_LO, 0}, {0, 0, 0, 0, 0}}, 0, {0}},
+    {0, 7, 7, {{0, 14, 4, JB_LO, 12}, {0, 0, 0, 0, 0}}, 3, {1}},
 };
 
 static jb_table table_of(const least_case *of) {
@@ -153,6 +158,7 @@ static jb_table table_of(const least_case *of) {
         table.work[index] = of->rows[index].work;
         table.deadline[index] = of->rows[index].deadline;
         table.level[index] = of->rows[index].level;
+        table.promised[index] = of->rows[index].promised;
     }
     return table;
 }
@@ -183,7 +189,10 @@ static void look_at_refused_speeds(void) {
     look(jb_read_table((const uint8_t *)P3, sizeof P3 - 1, &table) == JB_OK, "P3", 0);
     look_at_no_speed(NULL, P3, sizeof P3 - 2, JB_LENGTH, "no least speed of a sheet with a byte too few");
     table.deadline[0] = 0;
+    table.promised[0] = 3;
     look_at_no_speed(&table, NULL, 0, JB_ROW_LIMITS, "no least speed with a deadline of 0 slots");
+    table.deadline[0] = 2;
+    look_at_no_speed(&table, NULL, 0, JB_PROMISED, "no least speed with more promised than there is");
     table.degraded = table.normal + 1;
     look_at_no_speed(&table, NULL, 0, JB_SPEEDS, "no least speed with G above N");
     table.n = JB_ROWS + 1;
@@ -267,11 +276,11 @@ static void look_at_fields(void) {
 
 /* K above its limit is 11, after 4 and before 5, 6 and 10, wherever a table goes in; what is lent to be written stays. */
 static void look_at_long_loading(void) {
-    const jb_row rows[] = {{0, 2, 2, JB_LO}, {0, 4, 4, JB_HI}};
+    const jb_row rows[] = {{0, 2, 2, JB_LO, 0}, {0, 4, 4, JB_HI, 0}};
     const uint8_t order[JB_ROWS] = {1, 2};
     char sheet[] = "       2       2       1      17\n"
-                   "       0       2       2       0\n"
-                   "       0       4       4       1\n";
+                   "       0       2       2       0       0\n"
+                   "       0       4       4       1       0\n";
     jb_table table;
     jb_run run;
     uint8_t planned[JB_ROWS];
@@ -316,7 +325,8 @@ static void look_at_no_rows(const jb_run *run) {
     for (size_t index = 0; index < sizeof none / sizeof none[0]; index++) {
         look_at_row(run, none[index], 0, 0, 0, 0);
         look(jb_loaded(run, none[index]) == 0 && !jb_is_loading(run, none[index]), "loading, row", none[index]);
-        look(jb_need(&run->table, none[index]) == 0, "need, row", none[index]);
+        look(jb_need(&run->table, none[index]) == 0 && jb_allowance(&run->table, none[index]) == 0, "need, row", none[index]);
+        look(!jb_has_promised(run, none[index]), "promised part, row", none[index]);
     }
 }
 
@@ -432,6 +442,8 @@ static void look_at_deadlines(void) {
         look(jb_is_dropped_for_deadline(&run, 1) == expected->for_deadline, "why it was dropped, late case", index);
         look(jb_is_open(&run, 1) == (expected->closing == 0) && jb_is_late(&run, 1) == (expected->closing == 0), "open and late, late case", index);
         look(jb_need(&table, 1) == (expected->work + 1) / 2, "need, late case", index);
+        look(jb_allowance(&table, 1) == (expected->level == JB_LO ? (expected->work + 1) / 2 : 0), "allowance, late case", index);
+        look(!jb_has_promised(&run, 1), "nothing is promised, late case", index);
     }
 }
 
@@ -501,9 +513,89 @@ static void look_at_needs(void) {
     look(jb_need(&table, 1) == 0, "no need with N", table.normal);
 }
 
+/* More promised than the row's work, or a part of a HI row, is 12: after 5 in any row, before 6 and 10, wherever a table goes in. */
+static void look_at_wrong_promises(void) {
+    const jb_row rows[] = {{0, 2, 2, JB_LO, 3}, {0, 4, 4, JB_HI, 0}};
+    const uint8_t no_order[JB_ROWS] = {1, 1};
+    char sheet[] = "       2       2       1       0\n"
+                   "       0       2       2       0       3\n"
+                   "       0       4       4       1       0\n";
+    jb_table table;
+    jb_run run;
+    uint8_t planned[JB_ROWS];
+    uint32_t finishes[JB_ROWS];
+    uint64_t left = 7;
+    uint32_t length = 7;
+    uint32_t yes = 7;
+    uint32_t row = 7;
+    int32_t slack = 7;
+    look(jb_read_table((const uint8_t *)sheet, sizeof sheet - 1, &table) == JB_PROMISED, "a sheet that promises", 3);
+    look(all_zero(&table, sizeof table), "a table of zeros, promised", 3);
+    sheet[JB_FIRST_LINE + JB_ROW_LINE - 2] = '2';
+    look(jb_read_table((const uint8_t *)sheet, sizeof sheet - 1, &table) == JB_OK && table.promised[0] == 2, "a sheet that promises", 2);
+    table.promised[0] = 3;
+    look(jb_write_table(&table, NULL, 0, &length) == JB_PROMISED && length == 0, "no sheet, promised", 3);
+    look(jb_plan_table(&table, planned, &left) == JB_PROMISED && left == 0 && all_zero(planned, sizeof planned), "no plan, promised", 3);
+    look(jb_judge_order(&table, no_order, &yes, &row, &slack) == JB_PROMISED && yes == 0 && row == 0 && slack == 0, "no verdict", 3);
+    yes = row = 7;
+    slack = 7;
+    look(jb_judge_list(rows, 2, 2, 1, 0, no_order, &yes, &row, &slack) == JB_PROMISED && yes == 0 && row == 0 && slack == 0, "of a list", 3);
+    look(jb_worst_finishes(&table, no_order, finishes) == JB_PROMISED && all_zero(finishes, sizeof finishes), "no finishes, promised", 3);
+    length = 7;
+    look(jb_report_order(&table, no_order, NULL, 0, &length) == JB_PROMISED && length == 0, "no report, promised", 3);
+    look(jb_fresh_run(&table, no_order, &run) == JB_PROMISED && all_zero(&run, sizeof run), "no record, promised", 3);
+    table.promised[0] = 0;
+    table.promised[1] = 1;
+    look(jb_plan_table(&table, planned, &left) == JB_PROMISED, "12 on a HI row, promised", 1);
+    table.release[1] = table.deadline[1];
+    look(jb_plan_table(&table, planned, &left) == JB_ROW_LIMITS, "5 before 12, row", 2);
+    table.release[1] = 0;
+    table.promised[1] = 0;
+    table.promised[2] = 1;
+    look(jb_plan_table(&table, planned, &left) == JB_ROW_LIMITS, "5 for what is promised after the last row", 3);
+}
+
+/*
+ * A LO row of 6 work units with N 2, G 1 and K 1 has a need of 4 slots. Of a promised
+ * part of up to 3 the allowance stays so; 4 take 5 slots at G, and 6 take 7. With 1 work
+ * unit from each slot it has 4 at clock 5 and is dropped there, its promise kept.
+ */
+static void look_at_promises(void) {
+    const uint8_t order[JB_ROWS] = {1};
+    jb_table table = table_of_row(6, 9, JB_LO);
+    jb_run run;
+    uint32_t yes;
+    uint32_t row;
+    int32_t slack;
+    table.loading = 1;
+    for (uint32_t promised = 0; promised <= 6; promised++) {
+        const uint32_t moment = promised == 0 ? 0 : promised + 1;
+        table.promised[0] = promised;
+        look(jb_need(&table, 1) == 4, "need, promised", promised);
+        look(jb_allowance(&table, 1) == (moment > 4 ? moment : 4), "allowance, promised", promised);
+        look(jb_judge_order(&table, order, &yes, &row, &slack) == JB_OK && yes == 1 && row == 1, "verdict, promised", promised);
+        look(slack == 9 - (int32_t)(moment > 4 ? moment : 4), "slack, promised", promised);
+    }
+    table.promised[0] = 4;
+    look(jb_fresh_run(&table, order, &run) == JB_OK, "fresh", 0);
+    for (uint32_t slot = 0; slot < 5; slot++) {
+        look(jb_is_open(&run, 1) && !jb_has_promised(&run, 1), "open without its promised part at", slot);
+        look(jb_work_slot(&run, 1, &row) == JB_OK && row == 1, "slot", slot);
+    }
+    look(jb_is_dropped(&run, 1) && jb_has_promised(&run, 1) && run.closing[0] == 5 && run.got[0] == 4, "dropped with its part at", run.closing[0]);
+    look(!jb_is_dropped_for_deadline(&run, 1), "dropped for its allowance at", run.closing[0]);
+    table.deadline[0] = 4;
+    look(jb_judge_order(&table, order, &yes, &row, &slack) == JB_OK && yes == 0 && slack == -1, "a promised part too late, deadline", 4);
+    look(jb_fresh_run(&table, order, &run) == JB_OK, "fresh", 0);
+    for (uint32_t slot = 0; slot < 4; slot++) {
+        look(jb_work_slot(&run, 1, &row) == JB_OK && row == 1, "slot", slot);
+    }
+    look(jb_is_dropped_for_deadline(&run, 1) && !jb_has_promised(&run, 1) && run.got[0] == 3, "dropped without its part at", run.closing[0]);
+}
+
 /* The list's verdict taken apart is the table's, slacks below zero too. */
 static void look_at_lists(void) {
-    const jb_row rows[] = {{0, 2, 2, JB_LO}, {0, 4, 4, JB_HI}};
+    const jb_row rows[] = {{0, 2, 2, JB_LO, 0}, {0, 4, 4, JB_HI, 0}};
     const uint8_t orders[][JB_ROWS] = {{1, 2}, {2, 1}, {1, 1}};
     jb_table table;
     look(jb_read_table((const uint8_t *)P3, sizeof P3 - 1, &table) == JB_OK, "P3", 0);
@@ -530,12 +622,14 @@ int main(void) {
     look_at_longest_report();
     look_at_fields();
     look_at_long_loading();
+    look_at_wrong_promises();
     look_at_run();
     look_at_loading();
     look_at_deadlines();
     look_at_drops_of_others();
     look_at_soundness();
     look_at_needs();
+    look_at_promises();
     look_at_lists();
     printf("header: %u things looked at, %u not as they should be\n", looked_at, wrong);
     return wrong == 0 ? 0 : 1;

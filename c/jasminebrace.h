@@ -18,10 +18,19 @@
  * rounded up. K counts for each row of the table by itself; 0 is no loading.
  *
  * Late rows. In a run a LO row that is still open when the clock reaches its
- * deadline is dropped at that clock; what the last slot before it brought still
- * counts. HI rows go on until they are done. Plans do not count on these drops:
+ * deadline is dropped at that clock; one whose last work comes in the slot that ends
+ * there is done. HI rows go on until they are done. Plans do not count on these drops:
  * wherever an order is called correct, and in worst finishes, slacks and least
- * speeds, late rows go on, LO rows until their need at N is used up.
+ * speeds, late rows go on, LO rows until their allowance is used up.
+ *
+ * Promised parts. Of a LO row a part of its work may be promised: promised, in work
+ * units, at most its work. Under a correct order the row has got at least that much
+ * when the clock reaches its deadline, if every slot from the least release of all
+ * rows up to the deadline supplied at least G: a coarse preview, where N is not kept
+ * and the fine one is dropped. With 0 there is no promise. A HI row has 0, since all
+ * its work is promised at G. The slots that a LO row may use, its allowance, are the
+ * larger of the need of its work at N and the need of its promised part at G, K in
+ * each.
  *
  * Memory. Every pointer points to memory of the size that its parameter names,
  * aligned for its type. It is not null, but for one case: the functions of the
@@ -42,27 +51,28 @@
  * Stack, in bytes, without what the caller lends. It is measured, over tables of
  * 1 and 64 rows, and not proved: the most that each call took, and some bytes
  * more (512 stands for less); docs/BENCHMARKS.md says how:
- *     jb_read                  5,632
- *     jb_write                 3,584
+ *     jb_read                  6,912
+ *     jb_write                 4,352
  *     jb_field                   512
- *     jb_plan                  7,168
- *     jb_least_degraded        9,472
- *     jb_least_normal          9,472
- *     jb_read_least_degraded   9,472
- *     jb_read_least_normal     9,472
- *     jb_judge                 6,656
- *     jb_judge_rows            8,448
- *     jb_finishes              5,376
- *     jb_report                6,400
- *     jb_fresh                 4,096
- *     jb_coming                9,216
- *     jb_slot                 11,776
- *     jb_forward              12,032
- *     jb_program              11,776
+ *     jb_plan                  8,960
+ *     jb_least_degraded       12,032
+ *     jb_least_normal         12,032
+ *     jb_read_least_degraded  12,032
+ *     jb_read_least_normal    12,032
+ *     jb_judge                 8,192
+ *     jb_judge_rows           10,496
+ *     jb_finishes              6,912
+ *     jb_report                7,936
+ *     jb_fresh                 4,864
+ *     jb_coming               10,496
+ *     jb_slot                 13,312
+ *     jb_forward              12,288
+ *     jb_program              14,336
  *     jb_version                 512
- * The functions of the last part add the few words of their own frame. jb_need and
- * jb_is_dropped_for_deadline call jb_finishes on a table of their own: they take its
- * stack and 1,360 bytes besides.
+ * The functions of the last part add the few words of their own frame. But jb_need,
+ * jb_allowance and jb_is_dropped_for_deadline call jb_finishes on a table of their
+ * own. Measured likewise, by tools/firmware_test.c as gcc compiles it with -O2:
+ * count on 8,448 bytes.
  *
  * Bare boards. The archive's code uses xmm registers by SSE and SSE2
  * instructions, and no x87, MMX or AVX. Of later instructions it has tzcnt,
@@ -103,8 +113,10 @@
  * linked is of the same number.
  * 3: LO rows are dropped at their deadlines, so that other records are sound and
  *    9 means something else than in 2. Sizes and layouts are those of 2.
+ * 4: rows have a promised part, last in jb_row and last in jb_table. A table, and so a
+ *    record, is 256 bytes longer, the line of a row in a sheet 8 bytes; 12 is new.
  */
-#define JB_VERSION 3u
+#define JB_VERSION 4u
 
 #ifdef __cplusplus
 #define JB_STATIC_ASSERT(condition, words) static_assert(condition, words)
@@ -124,25 +136,25 @@ enum jb_limit {
     JB_MOST_WORK = 1000000,    /* largest work of a row, in work units */
     JB_LAST_DEADLINE = 1000000, /* latest deadline, in slots */
     JB_LAST_CLOCK = 2000000,   /* the clock at which no slot is worked any more, in slots */
-    JB_TABLE_WORDS = 260,      /* 32-bit words in a table */
+    JB_TABLE_WORDS = 324,      /* 32-bit words in a table */
     JB_STATE_WORDS = 193,      /* 32-bit words in the state of a run */
     JB_FIELD = 8,              /* bytes in a field of a sheet */
     JB_FIRST_LINE = 33,        /* bytes in a sheet's first line: n, N, G, K and byte 10 */
-    JB_ROW_LINE = 33,          /* bytes in the line of a row: release, work, deadline, level
-                                  and byte 10 */
-    JB_LONGEST_SHEET = 2145,   /* bytes in a sheet of 64 rows: 33 + 33 for each row */
+    JB_ROW_LINE = 41,          /* bytes in the line of a row: release, work, deadline, level,
+                                  promised part and byte 10 */
+    JB_LONGEST_SHEET = 2657,   /* bytes in a sheet of 64 rows: 33 + 41 for each row */
     JB_FIGURE = 10,            /* bytes in a figure of a report */
     JB_PLACE_LINE = 51,        /* bytes in a report's line of a place: five figures and byte 10 */
     JB_TOTALS_LINE = 21,       /* bytes in a report's last line: two figures and byte 10 */
     JB_LONGEST_REPORT = 3285,  /* bytes in a report of 64 rows: 51 for each row + 21 */
-    JB_PROGRAM_INPUT = 2146,   /* bytes of its input that the planning program looks at */
+    JB_PROGRAM_INPUT = 2658,   /* bytes of its input that the planning program looks at */
     JB_PROGRAM_TEXT = 1617,    /* most bytes that the planning program writes */
-    JB_LAST_NUMBER = 11        /* largest number that a call returns */
+    JB_LAST_NUMBER = 12        /* largest number that a call returns */
 };
 
 /* Levels of a row. */
 enum jb_level {
-    JB_LO = 0, /* dropped if work is still missing when its need at N is used up, or at its deadline */
+    JB_LO = 0, /* dropped if work is still missing when its allowance is used up, or at its deadline */
     JB_HI = 1  /* never dropped; late, it goes on until it is done */
 };
 
@@ -166,14 +178,15 @@ enum jb_number {
     JB_UNSOUND = 9,      /* the run record cannot come from a run; a LO row that is open at a
                             clock that has reached its deadline is one reason */
     JB_NO_ROOM = 10,     /* the memory lent is shorter than what has to be written */
-    JB_LOADING = 11      /* K is beyond its limit */
+    JB_LOADING = 11,     /* K is beyond its limit */
+    JB_PROMISED = 12     /* a promised part is above its row's work, or stands on a HI row */
 };
 
 /* What a number means, in words. The text lasts as long as the program. */
 static inline const char *jb_words(uint32_t number) {
     switch (number) {
     case JB_OK: return "success";
-    case JB_LENGTH: return "the sheet has under 33 bytes, or not 33 + 33 for each row";
+    case JB_LENGTH: return "the sheet has under 33 bytes, or not 33 + 41 for each row";
     case JB_MALFORMED: return "a field or a line end of the sheet is malformed";
     case JB_ROW_COUNT: return "the row count is not 1 to 64";
     case JB_SPEEDS: return "N is not 1 to 1,000, or G is not 1 to N (work units per slot)";
@@ -186,6 +199,7 @@ static inline const char *jb_words(uint32_t number) {
     case JB_UNSOUND: return "the run record cannot come from a run";
     case JB_NO_ROOM: return "the memory lent has fewer bytes than have to be written";
     case JB_LOADING: return "K is above 16 slots";
+    case JB_PROMISED: return "a promised part is above its row's work, or above 0 work units on a HI row";
     default: return "this number is never returned";
     }
 }
@@ -203,13 +217,16 @@ static inline const char *jb_remedy(uint32_t number) {
     case JB_ROW_LIMITS: return "correct the row";
     case JB_NOT_AN_ORDER: return "give each row of the table once, highest place first";
     case JB_NO_ORDER:
-        return "give the rows left later deadlines or less work, the processor more speed, or the table a smaller K";
+        return "give the rows left later deadlines, less work or smaller promised parts, the processor more speed, or the "
+               "table a smaller K";
     case JB_CLOCK_OVER: return "begin a new run with a fresh record";
     case JB_UNSOUND:
-        return "the record's memory was damaged, or it was stored by interface 2 with a LO row open past its deadline: drop "
-               "it and begin with a fresh record";
-    case JB_NO_ROOM: return "lend more memory: 2,145 bytes hold every sheet, 3,285 bytes every report";
+        return "the record's memory was damaged, or it was stored by an earlier interface: bring up a record of interface 3 "
+               "as docs/FIRMWARE.md says, else begin a new run with a fresh record";
+    case JB_NO_ROOM: return "lend more memory: 2,657 bytes hold every sheet, 3,285 bytes every report";
     case JB_LOADING: return "correct K; where a job really takes longer to load, split it or make the slots longer";
+    case JB_PROMISED:
+        return "promise at most the row's work, and 0 work units on a HI row, all of whose work is promised at G";
     default: return "compare the header with the archive by jb_fits()";
     }
 }
@@ -220,6 +237,8 @@ typedef struct {
     uint32_t work;     /* 1 to 1,000,000 work units */
     uint32_t deadline; /* at most 1,000,000 slots */
     uint32_t level;    /* JB_LO or JB_HI */
+    uint32_t promised; /* work units that a LO row is to have at its deadline if every slot supplies at least G: 0 to
+                          its work; 0 on a HI row */
 } jb_row;
 
 /* A table of n rows. Row i is at index i - 1 of every column; the entries after row n are 0. */
@@ -232,6 +251,8 @@ typedef struct {
     uint32_t work[JB_ROWS];     /* 1 to 1,000,000 work units */
     uint32_t deadline[JB_ROWS]; /* at most 1,000,000 slots; kept by a finish at or before it */
     uint32_t level[JB_ROWS];    /* JB_LO or JB_HI */
+    uint32_t promised[JB_ROWS]; /* work units that a LO row is to have at its deadline if every slot supplies at least
+                                   G: 0 to its work; 0 on a HI row */
 } jb_table;
 
 /* A run record: a table, an order of it, and how far its run has come. */
@@ -245,9 +266,9 @@ typedef struct {
                                   dropped, for a LO row at most its deadline; 0 while it is open */
 } jb_run;
 
-JB_STATIC_ASSERT(sizeof(jb_row) == 16, "a row is four words without gaps");
-JB_STATIC_ASSERT(sizeof(jb_table) == 1040, "a table is 260 words without gaps");
-JB_STATIC_ASSERT(sizeof(jb_table) == 4 * JB_TABLE_WORDS, "a table is 260 words without gaps");
+JB_STATIC_ASSERT(sizeof(jb_row) == 20, "a row is five words without gaps");
+JB_STATIC_ASSERT(sizeof(jb_table) == 1296, "a table is 324 words without gaps");
+JB_STATIC_ASSERT(sizeof(jb_table) == 4 * JB_TABLE_WORDS, "a table is 324 words without gaps");
 JB_STATIC_ASSERT(offsetof(jb_table, n) == 0, "the row count is word 0 of a table");
 JB_STATIC_ASSERT(offsetof(jb_table, normal) == 4, "N is word 1 of a table");
 JB_STATIC_ASSERT(offsetof(jb_table, degraded) == 8, "G is word 2 of a table");
@@ -256,16 +277,17 @@ JB_STATIC_ASSERT(offsetof(jb_table, release) == 16, "the releases begin at word 
 JB_STATIC_ASSERT(offsetof(jb_table, work) == 272, "the works begin at word 68 of a table");
 JB_STATIC_ASSERT(offsetof(jb_table, deadline) == 528, "the deadlines begin at word 132 of a table");
 JB_STATIC_ASSERT(offsetof(jb_table, level) == 784, "the levels begin at word 196 of a table");
-JB_STATIC_ASSERT(sizeof(jb_run) == 1876, "a run record is 1,876 bytes without gaps");
+JB_STATIC_ASSERT(offsetof(jb_table, promised) == 1040, "the promised parts begin at word 260 of a table");
+JB_STATIC_ASSERT(sizeof(jb_run) == 2132, "a run record is 2,132 bytes without gaps");
 JB_STATIC_ASSERT(offsetof(jb_run, table) == 0, "a run record begins with its table");
-JB_STATIC_ASSERT(offsetof(jb_run, order) == 1040, "the order follows the table");
-JB_STATIC_ASSERT(offsetof(jb_run, clock) == 1104, "the state follows the order");
-JB_STATIC_ASSERT(offsetof(jb_run, got) == 1108, "the works got begin at word 1 of the state");
-JB_STATIC_ASSERT(offsetof(jb_run, used) == 1364, "the slots used begin at word 65 of the state");
-JB_STATIC_ASSERT(offsetof(jb_run, closing) == 1620, "the closing slots begin at word 129 of the state");
+JB_STATIC_ASSERT(offsetof(jb_run, order) == 1296, "the order follows the table");
+JB_STATIC_ASSERT(offsetof(jb_run, clock) == 1360, "the state follows the order");
+JB_STATIC_ASSERT(offsetof(jb_run, got) == 1364, "the works got begin at word 1 of the state");
+JB_STATIC_ASSERT(offsetof(jb_run, used) == 1620, "the slots used begin at word 65 of the state");
+JB_STATIC_ASSERT(offsetof(jb_run, closing) == 1876, "the closing slots begin at word 129 of the state");
 JB_STATIC_ASSERT(sizeof(jb_run) - offsetof(jb_run, clock) == 4 * JB_STATE_WORDS, "a state is 193 words without gaps");
 JB_STATIC_ASSERT(JB_FIRST_LINE == 4 * JB_FIELD + 1, "the first line of a sheet has four fields");
-JB_STATIC_ASSERT(JB_ROW_LINE == 4 * JB_FIELD + 1, "the line of a row has four fields");
+JB_STATIC_ASSERT(JB_ROW_LINE == 5 * JB_FIELD + 1, "the line of a row has five fields");
 JB_STATIC_ASSERT(JB_LONGEST_SHEET == JB_FIRST_LINE + JB_ROWS * JB_ROW_LINE, "the longest sheet has 64 rows");
 JB_STATIC_ASSERT(JB_PLACE_LINE == 5 * JB_FIGURE + 1, "the line of a place has five figures");
 JB_STATIC_ASSERT(JB_TOTALS_LINE == 2 * JB_FIGURE + 1, "the last line of a report has two figures");
@@ -276,13 +298,13 @@ JB_STATIC_ASSERT(JB_PROGRAM_TEXT == 17 + 25 * JB_ROWS, "a text is a first line o
 #undef JB_STATIC_ASSERT
 
 /*
- * The functions of the archive, on bare arrays. table is the 260 words of a
+ * The functions of the archive, on bare arrays. table is the 324 words of a
  * jb_table, state the 193 words of a jb_run from its clock on. What each does
  * stands at the function over jb_table and jb_run that calls it. No pointer is
  * null here, not even where a length is 0.
  */
-uint32_t jb_read(const uint8_t *sheet, size_t length, uint32_t table[260]);
-uint32_t jb_write(const uint32_t table[260], uint8_t *sheet, size_t room, uint32_t *length);
+uint32_t jb_read(const uint8_t *sheet, size_t length, uint32_t table[324]);
+uint32_t jb_write(const uint32_t table[324], uint8_t *sheet, size_t room, uint32_t *length);
 
 /* Writes a number as a field of a sheet: right-justified in 8 bytes with spaces
    before it. Gives 1 if the field holds the number, which is so below
@@ -290,12 +312,12 @@ uint32_t jb_write(const uint32_t table[260], uint8_t *sheet, size_t room, uint32
    gives 0. */
 uint32_t jb_field(uint32_t figure, uint8_t field[8]);
 
-uint32_t jb_plan(const uint32_t table[260], uint8_t order[64], uint64_t *left);
-uint32_t jb_least_degraded(const uint32_t table[260], uint32_t *speed, uint8_t order[64]);
-uint32_t jb_least_normal(const uint32_t table[260], uint32_t *speed, uint8_t order[64]);
+uint32_t jb_plan(const uint32_t table[324], uint8_t order[64], uint64_t *left);
+uint32_t jb_least_degraded(const uint32_t table[324], uint32_t *speed, uint8_t order[64]);
+uint32_t jb_least_normal(const uint32_t table[324], uint32_t *speed, uint8_t order[64]);
 uint32_t jb_read_least_degraded(const uint8_t *sheet, size_t length, uint32_t *speed, uint8_t order[64]);
 uint32_t jb_read_least_normal(const uint8_t *sheet, size_t length, uint32_t *speed, uint8_t order[64]);
-uint32_t jb_judge(const uint32_t table[260], const uint8_t order[64], uint32_t *yes, uint32_t *row, int32_t *slack);
+uint32_t jb_judge(const uint32_t table[324], const uint8_t order[64], uint32_t *yes, uint32_t *row, int32_t *slack);
 
 /* Returns no number but a packed word: the number in bits 0 to 3, yes in bit 4,
    the row in bits 5 to 15 and the slack's 32 bits, two's complement, from bit 16
@@ -303,13 +325,13 @@ uint32_t jb_judge(const uint32_t table[260], const uint8_t order[64], uint32_t *
 uint64_t jb_judge_rows(const jb_row *rows, size_t count, uint32_t normal, uint32_t degraded, uint32_t loading,
                        const uint8_t order[64]);
 
-uint32_t jb_finishes(const uint32_t table[260], const uint8_t order[64], uint32_t finishes[64]);
-uint32_t jb_report(const uint32_t table[260], const uint8_t order[64], uint8_t *report, size_t room, uint32_t *length);
-uint32_t jb_fresh(const uint32_t table[260], const uint8_t order[64], uint32_t run_table[260], uint8_t run_order[64],
+uint32_t jb_finishes(const uint32_t table[324], const uint8_t order[64], uint32_t finishes[64]);
+uint32_t jb_report(const uint32_t table[324], const uint8_t order[64], uint8_t *report, size_t room, uint32_t *length);
+uint32_t jb_fresh(const uint32_t table[324], const uint8_t order[64], uint32_t run_table[324], uint8_t run_order[64],
                   uint32_t run_state[193]);
-uint32_t jb_coming(const uint32_t table[260], const uint8_t order[64], const uint32_t state[193], uint32_t *row);
-uint32_t jb_slot(const uint32_t table[260], const uint8_t order[64], uint32_t state[193], uint32_t supply, uint32_t *row);
-uint32_t jb_forward(const uint32_t table[260], const uint8_t order[64], uint32_t state[193], const uint32_t *supplies,
+uint32_t jb_coming(const uint32_t table[324], const uint8_t order[64], const uint32_t state[193], uint32_t *row);
+uint32_t jb_slot(const uint32_t table[324], const uint8_t order[64], uint32_t state[193], uint32_t supply, uint32_t *row);
+uint32_t jb_forward(const uint32_t table[324], const uint8_t order[64], uint32_t state[193], const uint32_t *supplies,
                     size_t count, uint32_t *worked);
 uint32_t jb_program(const uint8_t *input, size_t length, uint8_t text[1617]);
 
@@ -339,7 +361,7 @@ static inline uint32_t *jb_state_words(jb_run *run) {
  * Reads a sheet into a table.
  * In:      sheet, length bytes; any bytes, any length; null is allowed with 0.
  * Out:     0, and table holds the sheet's table.
- * Refused: 1, 2, 3, 4, 11 or 5; table is then all zero.
+ * Refused: 1, 2, 3, 4, 11, 5 or 12; table is then all zero.
  */
 static inline uint32_t jb_read_table(const uint8_t *sheet, size_t length, jb_table *table) {
     const uint8_t none = 0;
@@ -351,10 +373,10 @@ static inline uint32_t jb_read_table(const uint8_t *sheet, size_t length, jb_tab
  * table. A sheet that was read comes out again byte for byte.
  * In:      table, any values; sheet, memory of room bytes, any length (JB_LONGEST_SHEET
  *          is enough for every table) and any values; null is allowed with 0.
- * Out:     0; length is the sheet's length in bytes, 33 + 33 for each row, and
+ * Out:     0; length is the sheet's length in bytes, 33 + 41 for each row, and
  *          the first length bytes of sheet are the sheet. The bytes after
  *          them are as they were.
- * Refused: 3, 4, 11 or 5 for the table, else 10 if room is below the sheet's
+ * Refused: 3, 4, 11, 5 or 12 for the table, else 10 if room is below the sheet's
  *          length; length is then 0 and no byte of sheet is written.
  */
 static inline uint32_t jb_write_table(const jb_table *table, uint8_t *sheet, size_t room, uint32_t *length) {
@@ -366,7 +388,7 @@ static inline uint32_t jb_write_table(const jb_table *table, uint8_t *sheet, siz
  * The planning program as a function: reads a sheet, plans it and writes what
  * the program writes, in 8-byte fields with byte 10 at each line's end.
  * In:      input, length bytes; any bytes, any length; null is allowed with 0. Only
- *          the first 2,146 bytes are looked at.
+ *          the first 2,658 bytes are looked at.
  * Out:     the length of the text in bytes, 17 to 1,617. text holds the text
  *          and zeros after it. Its first line is 0 and the row count, or a
  *          refusal's number and the count of rows left, which is 0 but for 7.
@@ -381,8 +403,9 @@ static inline uint32_t jb_program_text(const uint8_t *input, size_t length, uint
 /*
  * Makes a correct priority order, or finds that none exists. With the order,
  * every row keeps its deadline whenever every slot supplies at least N work
- * units, and every HI row whenever every slot supplies at least G. An order is
- * correct if that holds even where late LO rows go on.
+ * units; and whenever every slot supplies at least G, every HI row does, and every
+ * LO row has got its promised part at its deadline. An order is correct if that
+ * holds even where late LO rows go on.
  * In:      table, any values.
  * Out:     0, and order holds row numbers from the highest place down, then
  *          zeros; left is 0.
@@ -391,7 +414,7 @@ static inline uint32_t jb_program_text(const uint8_t *input, size_t length, uint
  *          correct order have one that would serve all the same, only because
  *          runs drop late LO rows: such orders are not looked for, and a 7 tells
  *          nothing of them.
- *          3, 4, 11 or 5 for the table: order is all zero and left is 0.
+ *          3, 4, 11, 5 or 12 for the table: order is all zero and left is 0.
  */
 static inline uint32_t jb_plan_table(const jb_table *table, uint8_t order[JB_ROWS], uint64_t *left) {
     return jb_plan(jb_table_words(table), order, left);
@@ -407,7 +430,7 @@ static inline uint32_t jb_plan_table(const jb_table *table, uint8_t order[JB_ROW
  * In:      table, any values.
  * Out:     0; speed is that G in work units per slot; order is what jb_plan_table
  *          makes of the table with that G.
- * Refused: 7 if no G from 1 to N has a correct order; 3, 4, 11 or 5 for the table.
+ * Refused: 7 if no G from 1 to N has a correct order; 3, 4, 11, 5 or 12 for the table.
  *          With either, speed is 0 and order is all zero. (After a 7,
  *          jb_plan_table tells the rows left at any G that it is handed.)
  */
@@ -424,7 +447,7 @@ static inline uint32_t jb_least_degraded_speed(const jb_table *table, uint32_t *
  * Out:     0; speed is that N in work units per slot; order is what jb_plan_table
  *          makes of the table with that N. It is correct at every larger N up to
  *          1,000 too.
- * Refused: 7 if no N from G to 1,000 has a correct order; 3, 4, 11 or 5 for the
+ * Refused: 7 if no N from G to 1,000 has a correct order; 3, 4, 11, 5 or 12 for the
  *          table. With either, speed is 0 and order is all zero.
  */
 static inline uint32_t jb_least_normal_speed(const jb_table *table, uint32_t *speed, uint8_t order[JB_ROWS]) {
@@ -435,7 +458,7 @@ static inline uint32_t jb_least_normal_speed(const jb_table *table, uint32_t *sp
  * The least degraded speed of a sheet.
  * In:      sheet, length bytes; any bytes, any length; null is allowed with 0.
  * Out:     as jb_least_degraded_speed of the table that the sheet states.
- * Refused: 1, 2, 3, 4, 11 or 5 as jb_read_table refuses the sheet; 7 as
+ * Refused: 1, 2, 3, 4, 11, 5 or 12 as jb_read_table refuses the sheet; 7 as
  *          jb_least_degraded_speed. Speed is then 0 and order all zero.
  */
 static inline uint32_t jb_read_least_degraded_speed(const uint8_t *sheet, size_t length, uint32_t *speed,
@@ -456,8 +479,11 @@ static inline uint32_t jb_read_least_normal_speed(const uint8_t *sheet, size_t l
  * In:      table and order, any values.
  * Out:     0; yes is 1 if the order is correct, else 0; row is the row of least
  *          slack (the lower row on a tie); slack is that slack in slots: its
- *          deadline less its worst finish, below zero when it can be late.
- * Refused: 3, 4, 11 or 5 for the table, 6 for the order; yes, row and slack are
+ *          deadline less its worst finish, or less the moment of its promised part
+ *          if that is less; below zero when it can be late, or its promised part can
+ *          be. That moment is the first clock at which a LO row has got its promised
+ *          part when every slot supplies exactly G work units and late LO rows go on.
+ * Refused: 3, 4, 11, 5 or 12 for the table, 6 for the order; yes, row and slack are
  *          then 0.
  */
 static inline uint32_t jb_judge_order(const jb_table *table, const uint8_t order[JB_ROWS], uint32_t *yes, uint32_t *row,
@@ -474,7 +500,7 @@ static inline uint32_t jb_judge_order(const jb_table *table, const uint8_t order
  */
 static inline uint32_t jb_judge_list(const jb_row *rows, size_t count, uint32_t normal, uint32_t degraded, uint32_t loading,
                                      const uint8_t order[JB_ROWS], uint32_t *yes, uint32_t *row, int32_t *slack) {
-    const jb_row none = {0, 0, 0, 0};
+    const jb_row none = {0, 0, 0, 0, 0};
     const uint64_t packed = jb_judge_rows(count == 0 ? &none : rows, count, normal, degraded, loading, order);
     const uint32_t bits = (uint32_t)(packed >> 16);
     *yes = (uint32_t)(packed >> 4 & 1);
@@ -490,7 +516,7 @@ static inline uint32_t jb_judge_list(const jb_row *rows, size_t count, uint32_t 
  *          slots: its finish when every slot supplies exactly N (LO row) or
  *          exactly G (HI row) work units and late LO rows go on. Zeros after
  *          row n.
- * Refused: 3, 4, 11 or 5 for the table, 6 for the order; finishes is then all zero.
+ * Refused: 3, 4, 11, 5 or 12 for the table, 6 for the order; finishes is then all zero.
  */
 static inline uint32_t jb_worst_finishes(const jb_table *table, const uint8_t order[JB_ROWS], uint32_t finishes[JB_ROWS]) {
     return jb_finishes(jb_table_words(table), order, finishes);
@@ -500,7 +526,8 @@ static inline uint32_t jb_worst_finishes(const jb_table *table, const uint8_t or
  * Lists every job under an order, as text. Each figure stands in 10 columns at
  * their right end, spaces before it and a minus, if it has one, right before its
  * first digit. A line for each place, highest first: the place, its row, the
- * row's need at N in slots, its worst finish in slots, its slack in slots. Then
+ * row's need at N in slots, its worst finish in slots, its slack in slots, which is
+ * that of jb_judge_order, with promised parts. Then
  * a last line: the sum of all rows' needs at N in slots, and how many rows have
  * a slack below zero: 0 exactly if the order is correct. Byte 10 ends each line;
  * no byte 0 is written after the last one.
@@ -510,7 +537,7 @@ static inline uint32_t jb_worst_finishes(const jb_table *table, const uint8_t or
  * Out:     0; length is the report's length in bytes, 51 for each row + 21, and
  *          the first length bytes of report are the report. The bytes after
  *          them are as they were.
- * Refused: 3, 4, 11 or 5 for the table, 6 for the order, else 10 if room is below
+ * Refused: 3, 4, 11, 5 or 12 for the table, 6 for the order, else 10 if room is below
  *          the report's length; length is then 0 and no byte of report is written.
  */
 static inline uint32_t jb_report_order(const jb_table *table, const uint8_t order[JB_ROWS], uint8_t *report, size_t room,
@@ -524,7 +551,7 @@ static inline uint32_t jb_report_order(const jb_table *table, const uint8_t orde
  * In:      table and order, any values. Neither is run's own, since run is
  *          written: to begin a run again, hand in copies of its table and order.
  * Out:     0, and run holds the fresh record of table and order.
- * Refused: 3, 4, 11 or 5 for the table, 6 for the order; run is then all zero,
+ * Refused: 3, 4, 11, 5 or 12 for the table, 6 for the order; run is then all zero,
  *          and what stood in it is lost.
  */
 static inline uint32_t jb_fresh_run(const jb_table *table, const uint8_t order[JB_ROWS], jb_run *run) {
@@ -606,31 +633,56 @@ static inline int jb_is_dropped(const jb_run *run, uint32_t row) {
 }
 
 /*
- * A row's need at N in slots: for a LO row, the slots that it may use. It is the
- * archive's figure, the worst finish of the row where it is alone and released at
- * slot 0. 0 for a row that the table does not have, and where N, K or the row's
- * work is beyond its limits.
+ * The need of so much work at a speed, in slots, as the archive works it out: the worst
+ * finish of a row that is alone and released at slot 0. 0 where the work, the speed or
+ * K is beyond its limits.
  */
-static inline uint32_t jb_need(const jb_table *table, uint32_t row) {
-    jb_table alone = {1, table->normal, table->normal, table->loading, {0}, {0}, {JB_LAST_DEADLINE}, {JB_LO}};
+static inline uint32_t jb_need_of(uint32_t work, uint32_t speed, uint32_t loading) {
+    const jb_table alone = {1, speed, speed, loading, {0}, {work}, {JB_LAST_DEADLINE}, {JB_LO}, {0}};
     const uint8_t order[JB_ROWS] = {1};
     uint32_t finishes[JB_ROWS];
-    if (row < 1 || row > table->n || row > JB_ROWS) {
-        return 0;
-    }
-    alone.work[0] = table->work[row - 1];
     jb_finishes(jb_table_words(&alone), order, finishes);
     return finishes[0];
 }
 
 /*
+ * A row's need at N in slots. 0 for a row that the table does not have, and where N, K
+ * or the row's work is beyond its limits.
+ */
+static inline uint32_t jb_need(const jb_table *table, uint32_t row) {
+    return row < 1 || row > table->n || row > JB_ROWS ? 0 : jb_need_of(table->work[row - 1], table->normal, table->loading);
+}
+
+/*
+ * A LO row's allowance in slots, those that it may use: the larger of its need at N and
+ * of the need of its promised part at G. It is meant for tables that pass the checks. 0
+ * for a HI row, which has none, and for a row that the table does not have.
+ */
+static inline uint32_t jb_allowance(const jb_table *table, uint32_t row) {
+    const uint32_t need = jb_need(table, row);
+    if (need == 0 || table->level[row - 1] != JB_LO) {
+        return 0;
+    }
+    const uint32_t promised = jb_need_of(table->promised[row - 1], table->degraded, table->loading);
+    return need < promised ? promised : need;
+}
+
+/*
  * The row was dropped because the clock has reached its deadline, and not because
- * its need at N was used up. A row dropped at another clock than its deadline was
- * dropped for its need, and so was one that had used all of it at its deadline.
+ * its allowance was used up. A row dropped at another clock than its deadline was
+ * dropped for its allowance, and so was one that had used all of it at its deadline.
  */
 static inline int jb_is_dropped_for_deadline(const jb_run *run, uint32_t row) {
     return jb_is_dropped(run, row) && run->closing[row - 1] == run->table.deadline[row - 1] &&
-           run->used[row - 1] < jb_need(&run->table, row);
+           run->used[row - 1] < jb_allowance(&run->table, row);
+}
+
+/*
+ * A part of the row is promised, and the row has got it: of a row that was dropped, the
+ * coarse result is there. 0 where nothing is promised.
+ */
+static inline int jb_has_promised(const jb_run *run, uint32_t row) {
+    return jb_has_row(run, row) && run->table.promised[row - 1] != 0 && run->got[row - 1] >= run->table.promised[row - 1];
 }
 
 /* How many loading slots the row has used so far, 0 to K slots; 0 for a row that the table does not have. */

@@ -27,7 +27,9 @@ enum {
                                    1,048,576 empty lines below the last row */
     TABLE_COLUMNS = 3,     /* of what counts for all rows: N, G and K */
     LOADING_COLUMN = 3,    /* that of K, from 1 */
-    ROW_COLUMNS = 4,
+    ROW_COLUMNS = 5,
+    LEVEL_COLUMN = 4,
+    PROMISED_COLUMN = 5,   /* the last: files from before promised parts end with the level */
     TABLE_HEADINGS_LINE = 1,
     TABLE_LINE = 2,
     ROW_HEADINGS_LINE = 3, /* row i stands i lines below it: empty lines are taken at the end alone */
@@ -48,25 +50,29 @@ typedef struct {
     limited_by limit;    /* how another figure of the line limits it */
     size_t other;        /* column of that figure, from 1; 0 where there is none */
     const char *limited; /* how it does, in words */
+    bool of_low_rows;    /* a HI row has 0 there */
 } column_kind;
 
 static const column_kind TABLE_KINDS[TABLE_COLUMNS] = {
-    {"normal speed N (work units per slot)", "normal speed N", "work units per slot", 1, JB_MOST_SPEED, NOT_LIMITED, 0, ""},
+    {"normal speed N (work units per slot)", "normal speed N", "work units per slot", 1, JB_MOST_SPEED, NOT_LIMITED, 0, "",
+     false},
     {"degraded speed G (work units per slot)", "degraded speed G", "work units per slot", 1, JB_MOST_SPEED, UP_TO_IT, 1,
-     ", at most N"},
-    {"loading K (slots)", "loading K", "slots", 0, JB_MOST_LOADING, NOT_LIMITED, 0, ""},
+     ", at most N", false},
+    {"loading K (slots)", "loading K", "slots", 0, JB_MOST_LOADING, NOT_LIMITED, 0, "", false},
 };
 static const column_kind ROW_KINDS[ROW_COLUMNS] = {
-    {"release (slots)", "release", "slots", 0, JB_LAST_DEADLINE - 1, BELOW_IT, 3, ", below the deadline"},
-    {"work (work units)", "work", "work units", 1, JB_MOST_WORK, NOT_LIMITED, 0, ""},
-    {"deadline (slots)", "deadline", "slots", 1, JB_LAST_DEADLINE, ABOVE_IT, 1, ", above the release"},
-    {"level (HI or LO)", "level", NULL, JB_LO, JB_HI, NOT_LIMITED, 0, ""},
+    {"release (slots)", "release", "slots", 0, JB_LAST_DEADLINE - 1, BELOW_IT, 3, ", below the deadline", false},
+    {"work (work units)", "work", "work units", 1, JB_MOST_WORK, NOT_LIMITED, 0, "", false},
+    {"deadline (slots)", "deadline", "slots", 1, JB_LAST_DEADLINE, ABOVE_IT, 1, ", above the release", false},
+    {"level (HI or LO)", "level", NULL, JB_LO, JB_HI, NOT_LIMITED, 0, "", false},
+    {"promised (work units)", "promised part", "work units", 0, JB_MOST_WORK, UP_TO_IT, 2, ", at most the work", true},
 };
 
 /* A table as it was written, whatever its figures are. */
 typedef struct {
-    jb_table table;   /* n counts all rows; the columns hold the first 64 of them */
-    const char *file; /* the rows file's name, NULL for words on a command line */
+    jb_table table;     /* n counts all rows; the columns hold the first 64 of them */
+    const char *file;   /* the rows file's name, NULL for words on a command line */
+    size_t row_columns; /* of the rows file: without that of promised parts in a file from before them, where all are 0 */
 } written_table;
 
 /* What is wrong with a rows file, and where. */
@@ -96,6 +102,7 @@ static void set_row(jb_table *table, size_t index, const uint32_t figures[ROW_CO
     table->work[index] = figures[1];
     table->deadline[index] = figures[2];
     table->level[index] = figures[3];
+    table->promised[index] = figures[4];
 }
 
 static void get_row(const jb_table *table, size_t index, uint32_t figures[ROW_COLUMNS]) {
@@ -103,6 +110,7 @@ static void get_row(const jb_table *table, size_t index, uint32_t figures[ROW_CO
     figures[1] = table->work[index];
     figures[2] = table->deadline[index];
     figures[3] = table->level[index];
+    figures[4] = table->promised[index];
 }
 
 static void append_row(jb_table *table, const uint32_t figures[ROW_COLUMNS]) {
@@ -147,8 +155,8 @@ static void limits_of(const column_kind *kind, const uint32_t *other, uint32_t *
     }
 }
 
-/* What is allowed in a column, in words, beside the figure that limits it; NULL where that is not known. */
-static void name_allowed(const column_kind *kind, const uint32_t *other, char *text, size_t room) {
+/* What is allowed in a column, in words, in a HI row or not, beside the figure that limits it; NULL where that is not known. */
+static void name_allowed(const column_kind *kind, bool high, const uint32_t *other, char *text, size_t room) {
     uint32_t least;
     uint32_t most;
     char from[16];
@@ -158,6 +166,8 @@ static void name_allowed(const column_kind *kind, const uint32_t *other, char *t
     with_commas(most, to);
     if (kind->unit == NULL) {
         snprintf(text, room, "HI or LO (or %d or %d)", JB_HI, JB_LO);
+    } else if (kind->of_low_rows && high) {
+        snprintf(text, room, "only 0 (%s) on a HI row, all of whose work is promised", kind->unit);
     } else if (least == most) {
         snprintf(text, room, "only %s (%s)%s", to, kind->unit, kind->limited);
     } else {
@@ -217,7 +227,9 @@ static bool read_cell(const text_piece *cells, const column_kind *kinds, size_t 
         return true;
     }
     const bool known = kind->other != 0 && read_figure(cells[kind->other - 1], &other) == NULL;
-    name_allowed(kind, known ? &other : NULL, allowed, sizeof allowed);
+    uint32_t level;
+    const bool high = kind->of_low_rows && read_level(cells[LEVEL_COLUMN - 1], &level) == NULL && level == JB_HI;
+    name_allowed(kind, high, known ? &other : NULL, allowed, sizeof allowed);
     show_text(text, shown, sizeof shown);
     if (text.length == 0) {
         snprintf(what, room, "nothing stands here; allowed: %s", allowed);
@@ -326,9 +338,9 @@ static bool set_heading_trouble(const csv_line *line, size_t column, const char 
 static bool take_nothing_after(const csv_line *line, size_t columns, bool of_figures, trouble *found) {
     text_piece cell;
     const size_t column = csv_filled_after(line, columns, &cell);
-    const bool beside_loading = column <= ROW_COLUMNS;
+    const bool beside_loading = columns == TABLE_COLUMNS && column <= ROW_COLUMNS;
     char shown[SHOWN];
-    char reason[96];
+    char reason[160];
     if (column == 0) {
         return true;
     }
@@ -336,6 +348,10 @@ static bool take_nothing_after(const csv_line *line, size_t columns, bool of_fig
     if (beside_loading) {
         snprintf(reason, sizeof reason, "N, G and K use %d of the %d columns, and nothing is allowed after column %d",
                  TABLE_COLUMNS, ROW_COLUMNS, TABLE_COLUMNS);
+    } else if (columns == PROMISED_COLUMN - 1) {
+        snprintf(reason, sizeof reason,
+                 "line %d has no heading '%s' in column %d, and without it nothing is allowed after column %zu",
+                 ROW_HEADINGS_LINE, ROW_KINDS[PROMISED_COLUMN - 1].heading, PROMISED_COLUMN, columns);
     } else {
         snprintf(reason, sizeof reason, "a rows file has %d columns, and nothing is allowed after column %d", ROW_COLUMNS,
                  ROW_COLUMNS);
@@ -358,22 +374,34 @@ static bool take_headings(const csv_line *line, const column_kind *kinds, size_t
     return take_nothing_after(line, columns, false, found);
 }
 
+/* The columns of the rows, by their headings: in a file from before promised parts that of those is missing. */
+static size_t row_columns_of(const csv_line *headings) {
+    const bool is_missing = headings->cells[PROMISED_COLUMN - 1].length == 0 &&
+                            column_of(headings, ROW_KINDS[PROMISED_COLUMN - 1].heading) == 0;
+    return is_missing ? PROMISED_COLUMN - 1 : ROW_COLUMNS;
+}
+
 /* The cell is filled, and not with digits alone. */
 static bool is_text(text_piece cell) {
     return cell.length > 0 && !is_digits(cell);
 }
 
+/* A level stands where the promised part belongs, as it does after a figure with a comma in it. */
+static bool is_moved_level(size_t column, text_piece cell) {
+    return column == PROMISED_COLUMN && (piece_is(cell, "HI") || piece_is(cell, "LO"));
+}
+
 /*
  * Takes a line of figures. Text that is none is named before a cell too many, and
- * that before digits at fault and before an empty cell: of a figure with a comma
- * in it, as 1,000, the second part may begin with a zero.
+ * that before digits at fault, a moved level and an empty cell: of a figure with a
+ * comma in it, as 1,000, the second part may begin with a zero.
  */
 static bool take_figures(const csv_line *line, const column_kind *kinds, size_t columns, uint32_t *figures,
                          trouble *found) {
     const size_t wrong = read_cells(line->cells, kinds, columns, figures, found->what, sizeof found->what);
     found->line = line->number;
     found->column = wrong;
-    if (wrong != 0 && is_text(line->cells[wrong - 1])) {
+    if (wrong != 0 && is_text(line->cells[wrong - 1]) && !is_moved_level(wrong, line->cells[wrong - 1])) {
         return false;
     }
     return take_nothing_after(line, columns, true, found) && wrong == 0;
@@ -383,8 +411,11 @@ static bool take_figures(const csv_line *line, const column_kind *kinds, size_t 
 static bool take_line_of_rows(const csv_line *line, written_table *written, trouble *found) {
     const bool of_table = line->number <= TABLE_LINE;
     const column_kind *kinds = of_table ? TABLE_KINDS : ROW_KINDS;
-    const size_t columns = of_table ? TABLE_COLUMNS : ROW_COLUMNS;
-    uint32_t figures[ROW_COLUMNS];
+    uint32_t figures[ROW_COLUMNS] = {0};
+    if (line->number == ROW_HEADINGS_LINE) {
+        written->row_columns = row_columns_of(line);
+    }
+    const size_t columns = of_table ? TABLE_COLUMNS : written->row_columns;
     if (line->number == TABLE_HEADINGS_LINE || line->number == ROW_HEADINGS_LINE) {
         return take_headings(line, kinds, columns, found);
     }
@@ -425,8 +456,9 @@ static bool take_end(size_t filled, trouble *found) {
                            "the file ends where the speeds N and G and the loading K belong, as 5,2,0 (work units per slot; "
                            "slots)");
     case TABLE_LINE:
-        return set_trouble(found, ROW_HEADINGS_LINE, 0, "the file ends where the headings of the rows belong: %s,%s,%s,%s",
-                           ROW_KINDS[0].heading, ROW_KINDS[1].heading, ROW_KINDS[2].heading, ROW_KINDS[3].heading);
+        return set_trouble(found, ROW_HEADINGS_LINE, 0, "the file ends where the headings of the rows belong: %s,%s,%s,%s,%s",
+                           ROW_KINDS[0].heading, ROW_KINDS[1].heading, ROW_KINDS[2].heading, ROW_KINDS[3].heading,
+                           ROW_KINDS[4].heading);
     default: return true;
     }
 }
@@ -478,12 +510,13 @@ static bool begins_as_rows_file(text_piece text) {
 
 /* Writes the rows file of a table that the archive accepts. */
 static void put_rows(FILE *to, const jb_table *table) {
-    fprintf(to, "%s,%s,%s,\n", TABLE_KINDS[0].heading, TABLE_KINDS[1].heading, TABLE_KINDS[2].heading);
-    fprintf(to, "%" PRIu32 ",%" PRIu32 ",%" PRIu32 ",\n", table->normal, table->degraded, table->loading);
-    fprintf(to, "%s,%s,%s,%s\n", ROW_KINDS[0].heading, ROW_KINDS[1].heading, ROW_KINDS[2].heading, ROW_KINDS[3].heading);
+    fprintf(to, "%s,%s,%s,,\n", TABLE_KINDS[0].heading, TABLE_KINDS[1].heading, TABLE_KINDS[2].heading);
+    fprintf(to, "%" PRIu32 ",%" PRIu32 ",%" PRIu32 ",,\n", table->normal, table->degraded, table->loading);
+    fprintf(to, "%s,%s,%s,%s,%s\n", ROW_KINDS[0].heading, ROW_KINDS[1].heading, ROW_KINDS[2].heading, ROW_KINDS[3].heading,
+            ROW_KINDS[4].heading);
     for (size_t index = 0; index < table->n; index++) {
-        fprintf(to, "%" PRIu32 ",%" PRIu32 ",%" PRIu32 ",%s\n", table->release[index], table->work[index],
-                table->deadline[index], table->level[index] == JB_LO ? "LO" : "HI");
+        fprintf(to, "%" PRIu32 ",%" PRIu32 ",%" PRIu32 ",%s,%" PRIu32 "\n", table->release[index], table->work[index],
+                table->deadline[index], table->level[index] == JB_LO ? "LO" : "HI", table->promised[index]);
     }
 }
 
@@ -503,7 +536,7 @@ static uint32_t ask_one_row(uint32_t normal, uint32_t degraded, const uint32_t f
 }
 
 /* A row that the writer accepts. */
-static const uint32_t RIGHT_ROW[ROW_COLUMNS] = {0, 1, 1, JB_LO};
+static const uint32_t RIGHT_ROW[ROW_COLUMNS] = {0, 1, 1, JB_LO, 0};
 
 /* The writer's answer about this figure in a column, from 0, of a row that is right otherwise. */
 static uint32_t ask_figure(size_t column, uint32_t figure) {
@@ -548,6 +581,26 @@ static void find_refused_in_rows(const jb_table *table, refused_figure *found) {
     }
 }
 
+/* Which promised part made the writer answer 12: that of the first row that is refused so by itself. */
+static void find_refused_promise(const jb_table *table, refused_figure *found) {
+    for (size_t index = 0; index < table->n && index < JB_ROWS && found->row == 0; index++) {
+        get_row(table, index, found->figures);
+        if (ask_one_row(1, 1, found->figures) == JB_PROMISED) {
+            found->row = index + 1;
+            found->column = PROMISED_COLUMN;
+        }
+    }
+}
+
+/* Why a promised part is refused, to be said after its figure. */
+static void name_wrong_promise(uint32_t work, uint32_t level, char *text, size_t room) {
+    if (level == JB_LO) {
+        snprintf(text, room, ", above the row's work of %" PRIu32 " work unit%s", work, work == 1 ? "" : "s");
+    } else {
+        snprintf(text, room, ", and the row is HI");
+    }
+}
+
 /* Begins a line on a place; that in a rows file is named by the file first. */
 static void put_where(FILE *to, const written_table *written) {
     fputs("where: ", to);
@@ -561,7 +614,12 @@ static void put_refused_figure(FILE *to, const written_table *written, const ref
     const column_kind *kind = found->row == 0 ? &TABLE_KINDS[found->column - 1] : &ROW_KINDS[found->column - 1];
     char place[96];
     char allowed[ALLOWED];
-    name_allowed(kind, kind->other == 0 ? NULL : &found->figures[kind->other - 1], allowed, sizeof allowed);
+    char why[ALLOWED] = "";
+    const bool high = found->row != 0 && found->figures[LEVEL_COLUMN - 1] != JB_LO;
+    name_allowed(kind, high, kind->other == 0 ? NULL : &found->figures[kind->other - 1], allowed, sizeof allowed);
+    if (found->row != 0 && found->column == PROMISED_COLUMN) {
+        name_wrong_promise(found->figures[1], found->figures[LEVEL_COLUMN - 1], why, sizeof why);
+    }
     if (written->file != NULL) {
         name_place(found->row == 0 ? TABLE_LINE : ROW_HEADINGS_LINE + found->row, found->column, place, sizeof place);
     } else if (found->row == 0) {
@@ -570,7 +628,7 @@ static void put_refused_figure(FILE *to, const written_table *written, const ref
         snprintf(place, sizeof place, "row %zu, %s", found->row, kind->name);
     }
     put_where(to, written);
-    fprintf(to, "%s: the figure is %" PRIu32 "\nallowed: %s\n", place, found->figures[found->column - 1], allowed);
+    fprintf(to, "%s: the figure is %" PRIu32 "%s\nallowed: %s\n", place, found->figures[found->column - 1], why, allowed);
 }
 
 static void put_allowed_rows(FILE *to) {
@@ -604,6 +662,8 @@ static void put_refused_place(FILE *to, uint32_t number, const written_table *wr
         find_refused_in_first_line(number, &written->table, &found);
     } else if (number == JB_ROW_LIMITS) {
         find_refused_in_rows(&written->table, &found);
+    } else if (number == JB_PROMISED) {
+        find_refused_promise(&written->table, &found);
     }
     if (found.column != 0) {
         put_refused_figure(to, written, &found);

@@ -61,7 +61,7 @@ refused_at() {
     [ -n "$words" ] || complain "explain $file: not number $number"
     grep -q '^remedy: ' out || complain "explain $file: no remedy"
     # What is allowed is said of a figure, and of nothing else.
-    case $number in 3 | 4 | 5 | 11) allowed=1 ;; *) allowed=0 ;; esac
+    case $number in 3 | 4 | 5 | 11 | 12) allowed=1 ;; *) allowed=0 ;; esac
     [ "$(grep -c '^allowed: ' out)" -eq "$allowed" ] || complain "explain $file: not $allowed lines on what is allowed"
     plain=$(printf '%8s%8s%8s%8s%8s' "$number" "$row" "$field" "$byte" "$line_number")
     case_is "$status" "$plain" '' explain --plain "$file"
@@ -90,7 +90,7 @@ also_out 'place 4: row 4 (LO), slack 0 slots'
 case_is 0 'place 1: row 3 (HI), slack 0 slots' '' plan p2.sheet
 case_is 1 '' 'number 7: no correct order exists' plan p3.sheet
 also_err 'rows left: 1 2'
-also_err 'remedy: give the rows left later deadlines or less work, the processor more speed, or the table a smaller K'
+also_err 'remedy: give the rows left later deadlines, less work or smaller promised parts, the processor more speed, or the table a smaller K'
 # What a 7 does not say is said beside it, by everything that plans.
 not_said='not looked for: orders that would serve only because runs drop LO rows at their deadlines'
 also_err "$not_said"
@@ -133,7 +133,7 @@ case_is 1 'least slack: row 2 (HI), -1 slot' '' judge p3.sheet 1 2
 case_is 0 'row 3 (HI): worst finish 19 slots, deadline 19 slots, slack 0 slots' '' finishes p1.sheet
 also_out 'order: 1 2 3 4'
 case_is 0 'row 1 (LO): worst finish 1 slot, deadline 2 slots, slack 1 slot' '' finishes p3.sheet 1 2
-case_is 0 '       2       5       4       0       1' '' finishes --plain p3.sheet 1 2
+case_is 0 '       2       5       4       0       1       0' '' finishes --plain p3.sheet 1 2
 
 # ---- an order that is none: 6 ----
 for order in '1 1 3 4' '1 2 3' '1 2 3 4 4' '1 2 3 5' '0 1 2 3 4' '1 2 3 4 0 1' '1 2 3 255' '1 2 3 256' '1 2 3 260' '1 2 3 4294967295'; do
@@ -192,7 +192,7 @@ lines '1 2 3 5 2' '2 3 3 10 1' '3 1 5 11 2' '11 0' | report_is loading.sheet
 lines '1 1 5 5 8' '2 2 3 9 -2' '3 3 3 13 -2' '11 2' | report_is loading.sheet 1 2 3
 # Of the planned order of each sheet: places, rows and slacks are those of plan, worst finishes those of finishes, no row is late, and the
 # needs are added up from the sheet: K slots for each row, and its work at N rounded up.
-for sheet in p1.sheet p2.sheet rows64.sheet loading.sheet; do
+for sheet in p1.sheet p2.sheet rows64.sheet loading.sheet promise.sheet; do
     case_is 0 '*' '' report --plain "$sheet"
     cp out report
     [ "$(wc -c <report)" -eq $((51 * $(head -c 8 "$sheet") + 21)) ] || complain "report $sheet: $(wc -c <report) bytes"
@@ -321,7 +321,7 @@ case_is 1 'rows left at G = 10 work units per slot: 1' '' speeds left.sheet
 also_out 'rows left at N = 1000 work units per slot: 1 2'
 # Of each sample: the orders are those of plan at that speed, and one below it there is none.
 at_speeds() { sed "1s/^\(.\{8\}\).\{16\}/\1$(printf '%8s%8s' "$2" "$3")/" "$1"; } # SHEET N G: the sheet with these speeds
-for sheet in p1.sheet p2.sheet p3.sheet rows64.sheet loading.sheet cooler.sheet warm.sheet; do
+for sheet in p1.sheet p2.sheet p3.sheet rows64.sheet loading.sheet cooler.sheet warm.sheet promise.sheet; do
     read -r rows normal degraded _ <"$sheet"
     case_is 0 '*' '' speeds --plain "$sheet"
     cp out found
@@ -373,14 +373,14 @@ also_out 'after 10 slots: no row is open'
 case_is 0 'slot 0: row 1, supply 2 work units, got 2 of 2 work units, done at clock 1' '' run p3.sheet --order=1,2 2 2
 also_out 'after 2 slots: rows still open: 2'
 case_is 0 'after 4 slots: rows still open: 2 (late)' '' run p3.sheet --order 1,2 4x0
-case_is 0 '       4       2       4       4       3       0' '' run --plain p3.sheet --order 1,2 10x1
+case_is 0 '       4       2       4       4       3       0       0' '' run --plain p3.sheet --order 1,2 10x1
 also_out '       0       2'
-also_out '       0       1       1       2       2       0'
-also_out '       5       0       0       0       0       0'
+also_out '       0       1       1       2       2       0       0'
+also_out '       5       0       0       0       0       0       0'
 case_is 0 'from slot 1, 4 slots: row 2, done at clock 5, late by 1 slot' '' run --stretches p3.sheet --order 1,2 10x1
 also_out 'from slot 0, 1 slot: row 1, dropped at clock 1, its slots used up'
 also_out 'from slot 5, 5 slots: idle'
-case_is 0 '       1       4       2       3       0' '' run --stretches --plain p3.sheet --order 1,2 10x1
+case_is 0 '       1       4       2       3       0       0' '' run --stretches --plain p3.sheet --order 1,2 10x1
 case_is 0 'slot 0: row 1, supply 4294967295 work units, got 20 of 20 work units, done at clock 1' '' run p1.sheet 4294967295
 # The last slot is worked, one more is refused with 8, and what was worked is kept.
 case_is 0 'from slot 11, 1999989 slots: idle' '' run --stretches p1.sheet 2000x5 1998000x0
@@ -389,8 +389,8 @@ also_out 'from slot 0, 2000000 slots: row 1'
 also_out 'at clock 5: row 4, got 0 of 5 work units, dropped at its deadline'
 also_out 'at clock 10: row 2, got 0 of 15 work units, dropped at its deadline'
 also_err 'remedy: begin a new run with a fresh record'
-case_is 2 '       0 2000000       1       0       0' '*' run --stretches --plain p1.sheet 4294967295x0 4294967295x7
-case_is 2 ' 1999999       1       0      20       0       0' 'number 8: the clock is 2,000,000 slots, and no further slot is worked' run --plain p1.sheet 2000001x0
+case_is 2 '       0 2000000       1       0       0       0' '*' run --stretches --plain p1.sheet 4294967295x0 4294967295x7
+case_is 2 ' 1999999       1       0      20       0       0       0' 'number 8: the clock is 2,000,000 slots, and no further slot is worked' run --plain p1.sheet 2000001x0
 [ "$(wc -l <out)" -eq 2000003 ] || complain "2,000,000 slots, two rows dropped, and the first line"
 # LO rows at their deadlines: row 2 is done by its last slot, row 3 dropped by its own while the HI row below goes on, row 5 for its slots.
 works() { # OPTIONS SHEET SUPPLIES: the run is the one on standard input
@@ -419,12 +419,12 @@ after 14 slots: no row is open
 SLOTS
 works '--plain --stretches' late-preview.sheet '4x4 2x3 8x2' <<'STRETCHES'
        0       5
-       0       1       4       0       0
-       1       2       2       1       0
-       3       3       1       1       0
-       6       1       3       4       0
-       7       4       4       1       0
-      11       3       5       2       0
+       0       1       4       0       0       0
+       1       2       2       1       0       0
+       3       3       1       1       0       0
+       6       1       3       4       0       0
+       7       4       4       1       0       0
+      11       3       5       2       0       0
 STRETCHES
 # Dropped while another row runs: a line of its own after the slot's, or after those of the stretch, by clock and then by row.
 "$command" sheet 2 1 0 0,20,30,HI 0,2,5,LO 0,4,3,LO 1,2,3,LO 0,6,9,LO >beside.sheet
@@ -458,23 +458,23 @@ after 11 slots: no row is open
 STRETCHES
 works '--order 1,5,4,3,2 --plain' beside.sheet '5x1' <<'SLOTS'
        0       5
-       0       1       1      20       0       0
-       1       1       2      20       0       0
-       2       1       3      20       0       0
-       2       3       0       4       5       0
-       2       4       0       2       5       0
-       3       1       4      20       0       0
-       4       1       5      20       0       0
-       4       2       0       2       5       0
+       0       1       1      20       0       0       0
+       1       1       2      20       0       0       0
+       2       1       3      20       0       0       0
+       2       3       0       4       5       0       0
+       2       4       0       2       5       0       0
+       3       1       4      20       0       0       0
+       4       1       5      20       0       0       0
+       4       2       0       2       5       0       0
 SLOTS
 works '--order 1,5,4,3,2 --plain --stretches' beside.sheet '4x1 5x4 2x1' <<'STRETCHES'
        0       5
-       0       8       1       1       0
-       3       0       3       5       0
-       3       0       4       5       0
-       5       0       2       5       0
-       8       1       5       4       0
-       9       2       0       0       0
+       0       8       1       1       0       0
+       3       0       3       5       0       0
+       3       0       4       5       0       0
+       5       0       2       5       0       0
+       8       1       5       4       0       0
+       9       2       0       0       0       0
 STRETCHES
 # Loading: row 1 of the sample is preempted after one of its two loading slots, then after both, and does not load again.
 loads() { works "$1" loading.sheet "$2"; }
@@ -496,18 +496,18 @@ after 12 slots: no row is open
 SLOTS
 loads --plain 12x4 <<'SLOTS'
        0       3
-       0       1       0      12       0       1
-       1       2       0       4       0       1
-       2       2       0       4       0       1
-       3       2       4       4       1       0
-       4       1       0      12       0       1
-       5       1       4      12       0       0
-       6       3       0       4       0       1
-       7       3       0       4       0       1
-       8       3       4       4       1       0
-       9       1       8      12       0       0
-      10       1      12      12       1       0
-      11       0       0       0       0       0
+       0       1       0      12       0       1       0
+       1       2       0       4       0       1       0
+       2       2       0       4       0       1       0
+       3       2       4       4       1       0       0
+       4       1       0      12       0       1       0
+       5       1       4      12       0       0       0
+       6       3       0       4       0       1       0
+       7       3       0       4       0       1       0
+       8       3       4       4       1       0       0
+       9       1       8      12       0       0       0
+      10       1      12      12       1       0       0
+      11       0       0       0       0       0       0
 SLOTS
 loads --stretches 12x4 <<'STRETCHES'
 order: 2 3 1
@@ -521,12 +521,12 @@ after 12 slots: no row is open
 STRETCHES
 loads '--plain --stretches' 12x4 <<'STRETCHES'
        0       3
-       0       1       1       0       1
-       1       3       2       1       2
-       4       2       1       0       1
-       6       3       3       1       2
-       9       2       1       1       0
-      11       1       0       0       0
+       0       1       1       0       1       0
+       1       3       2       1       2       0
+       4       2       1       0       1       0
+       6       3       3       1       2       0
+       9       2       1       1       0       0
+      11       1       0       0       0       0
 STRETCHES
 # Loading slots are in a LO row's allowance; its last slot of 5 drops it, which is also the last before its deadline.
 case_is 0 'slot 12: row 1, supply 2 work units, got 6 of 12 work units, dropped at clock 13, its slots used up' '' run loading.sheet 13x2
@@ -535,7 +535,7 @@ case_is 0 'slot 0: row 1, loading slot 1 of 2, supply 4294967295 work units, got
 
 # The lines of slots, and of rows dropped while another one runs, are those of the run on paper, but for what is said of loading, of a late row
 # and of why a row was dropped; the loading slots are the first K that each row runs; stretches are these lines put together.
-for sheet in p1.sheet p2.sheet rows64.sheet loading.sheet late-preview.sheet; do
+for sheet in p1.sheet p2.sheet rows64.sheet loading.sheet late-preview.sheet promise.sheet; do
     for supplies in '5 5 2 2 2' '3' '0 1 2 3 4 5 6 7 8 9' '7 0 0 0 2 4294967295'; do
         # shellcheck disable=SC2086 # several supplies
         "$paper" "$sheet" $supplies >paper.out || true
@@ -545,7 +545,8 @@ for sheet in p1.sheet p2.sheet rows64.sheet loading.sheet late-preview.sheet; do
         # shellcheck disable=SC2086
         case_is 0 '*' '' run "$sheet" $supplies "${count}x$last"
         sed -n "/^slot $count:/q; s/, late by .*//; s/\\(, dropped at clock [0-9]*\\),.*/\\1/; s/, loading slot [0-9]* of [0-9]*,/,/
-            s/^at \\(clock.*\\), got .*, dropped/\\1 dropped/; /^slot\\|^clock/p" out >ours.slots
+            s/, promised [0-9]* work units* got at clock [0-9]*//; s/^at \\(clock.*\\), got .*, dropped at its deadline.*/\\1 dropped at its deadline/
+            /^slot\\|^clock/p" out >ours.slots
         grep -o 'row .*, loading slot [0-9]* of [0-9]*' out >ours.loading || true
         cmp -s ours.slots paper.slots || complain "run $sheet $supplies: not as on paper"
         [ "$(grep -c 'late by' out)" -eq "$(grep -c ', late$' paper.out)" ] || complain "run $sheet $supplies: not late as on paper"
@@ -557,16 +558,99 @@ for sheet in p1.sheet p2.sheet rows64.sheet loading.sheet late-preview.sheet; do
         cmp -s ours.loading expected || complain "run $sheet $supplies: other loading slots"
         awk 'NR > 1 && $5 != 5 { print $6 }' slots.plain | paste -sd ' ' >flags
         grep '^slot' out | sed 's/.*loading.*/1/; t; s/.*/0/' | paste -sd ' ' | cmp -s - flags || complain "run --plain $sheet $supplies: other loading slots"
-        awk 'function put() { printf "%8d%8d%8d%8d%8d\n%s", first, length_, row, closed, loading, dropped; length_ = loading = 0; dropped = "" }
-             NR > 1 && $5 == 5 { dropped = dropped sprintf("%8d%8d%8d%8d%8d\n", $1 + 1, 0, $2, 5, 0) }
+        awk 'function put() { printf "%8d%8d%8d%8d%8d%8d\n%s", first, length_, row, closed, loading, promised, dropped
+                 length_ = loading = promised = 0; dropped = "" }
+             NR > 1 && $5 == 5 { dropped = dropped sprintf("%8d%8d%8d%8d%8d%8d\n", $1 + 1, 0, $2, 5, 0, 0) }
              NR > 1 && $5 != 5 { if (length_ > 0 && ($2 != row || closed)) put()
                  if (length_++ == 0) first = $1
-                 row = $2; closed = $5; loading += $6 } END { put() }' slots.plain >expected
+                 row = $2; closed = $5; loading += $6; promised += $7 } END { put() }' slots.plain >expected
+        # A promised part is got in the slot in which the work got reaches it, and in no other.
+        awk 'NR == FNR { part[FNR - 1] = $5; next }
+             FNR > 1 && $5 != 5 && $2 > 0 && part[$2] > 0 && got[$2] < part[$2] && $3 >= part[$2] { print $1, $2, $1 + 1 } { got[$2] = $3 }' \
+            "$sheet" slots.plain >expected.promised
+        awk 'NR > 1 && $7 > 0 { print $1, $2, $7 }' slots.plain | cmp -s - expected.promised || complain "run --plain $sheet $supplies: other promised parts"
         # shellcheck disable=SC2086
         case_is 0 '*' '' run --plain --stretches "$sheet" $supplies "${count}x$last"
         tail -n +2 out | cmp -s - expected || complain "run --stretches $sheet $supplies: not the slots put together"
     done
 done
+
+# ---- promised parts ----
+# With the promise row 2 stands above the HI row 4, and its slack is that of the promised part; without it, below. Both orders are judged.
+case_is 0 'place 2: row 2 (LO), slack 2 slots' '' plan promise.sheet
+also_out 'place 3: row 4 (HI), slack 3 slots'
+case_is 0 'row 2 (LO): worst finish 7 slots, promised part at 10 slots, deadline 12 slots, slack 2 slots' '' finishes promise.sheet
+also_out 'row 3 (LO): worst finish 10 slots, deadline 17 slots, slack 7 slots'
+case_is 0 '       2       7      12       2       0      10' '' finishes --plain promise.sheet
+also_out '       4      13      16       3       0       0'
+case_is 1 'least slack: row 2 (LO), -1 slot' '' judge promise.sheet 1,4,2,3
+case_is 0 'row 2 (LO): worst finish 9 slots, promised part at 13 slots, deadline 12 slots, slack -1 slot' '' finishes promise.sheet 1,4,2,3
+lines '1 1 2 6 2' '2 4 2 9 7' '3 2 5 9 -1' '4 3 1 10 7' '10 1' | report_is promise.sheet 1 4 2 3
+lines '1 1 2 6 2' '2 2 5 7 2' '3 4 2 13 3' '4 3 1 10 7' '10 0' | report_is promise.sheet
+sed '3s/12$/ 0/' promise.sheet >no-promise.sheet
+case_is 0 'place 2: row 4 (HI), slack 7 slots' '' plan no-promise.sheet
+# Row 2 has 5 slots for its work at N and 6 for its promised part at G, and uses 6.
+works '' promise.sheet '2x4 14x2' <<'SLOTS'
+order: 1 2 4 3
+slot 0: row 2, supply 4 work units, got 4 of 18 work units
+slot 1: row 2, supply 4 work units, got 8 of 18 work units
+slot 2: row 1, supply 2 work units, got 2 of 8 work units
+slot 3: row 1, supply 2 work units, got 4 of 8 work units
+slot 4: row 1, supply 2 work units, got 6 of 8 work units
+slot 5: row 1, supply 2 work units, got 8 of 8 work units, done at clock 6
+slot 6: row 2, supply 2 work units, got 10 of 18 work units
+slot 7: row 2, supply 2 work units, got 12 of 18 work units, promised 12 work units got at clock 8
+slot 8: row 2, supply 2 work units, got 14 of 18 work units
+slot 9: row 2, supply 2 work units, got 16 of 18 work units, dropped at clock 10, its slots used up, promised 12 work units got
+slot 10: row 4, supply 2 work units, got 2 of 6 work units
+slot 11: row 4, supply 2 work units, got 4 of 6 work units
+slot 12: row 4, supply 2 work units, got 6 of 6 work units, done at clock 13
+slot 13: row 3, supply 2 work units, got 2 of 4 work units, dropped at clock 14, its slots used up
+slot 14: idle, supply 2 work units
+slot 15: idle, supply 2 work units
+after 16 slots: no row is open
+SLOTS
+works --stretches promise.sheet '2x4 14x2' <<'STRETCHES'
+order: 1 2 4 3
+from slot 0, 2 slots: row 2
+from slot 2, 4 slots: row 1, done at clock 6
+from slot 6, 4 slots: row 2, promised 12 work units got at clock 8, dropped at clock 10, its slots used up
+from slot 10, 3 slots: row 4, done at clock 13
+from slot 13, 1 slot: row 3, dropped at clock 14, its slots used up
+from slot 14, 2 slots: idle
+after 16 slots: no row is open
+STRETCHES
+works '--plain --stretches' promise.sheet '2x4 14x2' <<'STRETCHES'
+       0       4
+       0       2       2       0       0       0
+       2       4       1       1       0       0
+       6       4       2       2       0       8
+      10       3       4       1       0       0
+      13       1       3       2       0       0
+      14       2       0       0       0       0
+STRETCHES
+# Below G nothing is promised: the part is not got, by a row that runs as by one that waits.
+case_is 0 'slot 11: row 2, supply 1 work units, got 4 of 18 work units, dropped at clock 12, its deadline, promised 12 work units not got' '' run promise.sheet 12x1
+case_is 0 'at clock 12: row 2, got 0 of 18 work units, dropped at its deadline, promised 12 work units not got' '' run promise.sheet --order 4,1,3,2 20x0
+# A row that waits has got its part before it is dropped; one work unit; all of the work, which is done when it is got.
+"$command" sheet 4 2 0 0,9,6,LO,1 1,20,30,HI >beside.sheet
+case_is 0 'at clock 6: row 1, got 2 of 9 work units, dropped at its deadline, promised 1 work unit got' '' run --stretches beside.sheet --order 2,1 9x2
+also_out 'from slot 0, 1 slot: row 1, promised 1 work unit got at clock 1'
+"$command" sheet 4 2 1 0,9,9,LO,9 >whole.sheet
+case_is 0 'row 1 (LO): worst finish 4 slots, promised part at 6 slots, deadline 9 slots, slack 3 slots' '' finishes whole.sheet
+case_is 0 'slot 3: row 1, supply 4 work units, got 9 of 9 work units, promised 9 work units got at clock 4, done at clock 4' '' run whole.sheet 9x4
+case_is 0 'from slot 0, 6 slots (1 loading): row 1, promised 9 work units got at clock 6, done at clock 6' '' run --stretches whole.sheet 6x2
+case_is 0 '       0       6       1       1       1       6' '' run --plain --stretches whole.sheet 6x2
+# The clock at which a part is got, in a long stretch whose supplies change.
+"$command" sheet 10 7 0 0,1000000,500000,LO,700001 >long.sheet
+case_is 0 'from slot 0, 90001 slots: row 1, promised 700001 work units got at clock 85001' '' run --stretches long.sheet 60000x10 1 25000x4 5000x0
+# Least speeds: up to 171 work units take row 2 its 9 slots at G = 19 too, 172 take it 10, and so row 1 has a slot too few.
+for promised in 0 171 172 180; do
+    "$command" sheet 20 20 0 0,200,20,HI "0,180,18,LO,$promised" >cooler-promise.sheet
+    case_is 0 "least degraded speed, with N = 20 work units per slot: G = $([ "$promised" -gt 171 ] && echo 20 || echo 19) work units per slot" '' speeds cooler-promise.sheet
+done
+"$command" sheet 5 5 1 0,10,2,LO,1 >remedy.sheet
+case_is 1 'remedy: give the rows left later deadlines, less work or smaller promised parts, the processor a larger N, or the table a smaller K' '' speeds remedy.sheet
 
 # ---- a million slots by stretches, over 64 rows and over one ----
 rows=()
@@ -574,9 +658,9 @@ for ((row = 0; row < 64; row++)); do rows+=("0,15625,1000000,1"); done
 "$command" sheet 1 1 0 "${rows[@]}" >million.sheet
 case_is 0 'from slot 984375, 15625 slots: row 1, done at clock 1000000' '' run --stretches million.sheet 1000000x1
 [ "$(grep -c '^from' out)" -eq 64 ] || complain "a stretch for each row"
-line 1 1 1 0 >one.sheet && line 0 1000000 1000000 1 >>one.sheet
+line 1 1 1 0 >one.sheet && line 0 1000000 1000000 1 0 >>one.sheet
 case_is 0 'from slot 0, 1000000 slots: row 1, done at clock 1000000' '' run --stretches one.sheet 1000000x1
-line 1 1 1 16 >one.sheet && line 0 1000000 1000000 1 >>one.sheet
+line 1 1 1 16 >one.sheet && line 0 1000000 1000000 1 0 >>one.sheet
 case_is 0 'from slot 0, 1000016 slots (16 loading): row 1, done at clock 1000016, late by 16 slots' '' run --stretches one.sheet --order 1 1000016x1
 
 # The largest figures of a plain form: 64 rows of 1,000,016 slots each, 16 of them loading, all released in slot 999,999, the last of them
@@ -585,7 +669,7 @@ slow=()
 for ((row = 0; row < 64; row++)); do slow+=("999999,1000000,1000000,1"); done
 "$command" sheet 1 1 16 "${slow[@]}" >slow.sheet
 in_order=$(seq -s , 64)
-case_is 0 '      6465001023 1000000       064001023' '' finishes --plain slow.sheet "$in_order"
+case_is 0 '      6465001023 1000000       064001023       0' '' finishes --plain slow.sheet "$in_order"
 case_is 1 '       0       0      64       064001023' '' judge --plain slow.sheet "$in_order"
 { for ((row = 1; row <= 64; row++)); do echo "$row $row 1000016 $((999999 + row * 1000016)) $((1 - row * 1000016))"; done && echo '64001024 64'; } |
     report_is slow.sheet "$in_order"
@@ -599,33 +683,33 @@ refused_at part.sheet 1 '0 0 17 1' 'where: byte 17 (line 1, byte 17 of it): the 
 printf '4\t5\t2\n' >tabs.sheet
 refused_at tabs.sheet 1 '0 1 2 1' 'where: first line, row count n, byte 2 (line 1, byte 2 of it): a tab (byte 9) where a space or a digit belongs'
 p1 | head -c -1 >no-last-end.sheet
-refused_at no-last-end.sheet 1 '4 5 165 5' 'where: row 4, line end, byte 165 (line 5, byte 33 of it): the last line end (byte 10) is missing'
-also_err 'length: the sheet has 164 bytes; the rows that its first line announces make it 165'
+refused_at no-last-end.sheet 1 '4 6 197 5' 'where: row 4, line end, byte 197 (line 5, byte 41 of it): the last line end (byte 10) is missing'
+also_err 'length: the sheet has 196 bytes; the rows that its first line announces make it 197'
 p1 | head -n 3 >two-rows.sheet
-refused_at two-rows.sheet 1 '3 0 100 4' 'where: row 3, byte 100 (line 4, byte 1 of it): the sheet ends before this byte'
+refused_at two-rows.sheet 1 '3 0 116 4' 'where: row 3, byte 116 (line 4, byte 1 of it): the sheet ends before this byte'
 { p1 && echo; } >line-after.sheet
-refused_at line-after.sheet 1 '0 0 166 6' 'where: byte 166 (line 6, byte 1 of it): a line end (byte 10) follows the last row, row 4'
-{ p1 && line 0 5 5 0; } >row-after.sheet
-refused_at row-after.sheet 1 '0 0 166 6' 'where: byte 166 (line 6, byte 1 of it): a space (byte 32) follows the last row, row 4'
+refused_at line-after.sheet 1 '0 0 198 6' 'where: byte 198 (line 6, byte 1 of it): a line end (byte 10) follows the last row, row 4'
+{ p1 && line 0 5 5 0 0; } >row-after.sheet
+refused_at row-after.sheet 1 '0 0 198 6' 'where: byte 198 (line 6, byte 1 of it): a space (byte 32) follows the last row, row 4'
 { cat rows64.sheet && cat p1.sheet; } >long.sheet
-refused_at long.sheet 1 '0 0 2146 66' 'where: byte 2146 (line 66, byte 1 of it): a space (byte 32) follows the last row, row 64'
-also_err 'length: the sheet has 2146 bytes or more; the rows that its first line announces make it 2145'
+refused_at long.sheet 1 '0 0 2658 66' 'where: byte 2658 (line 66, byte 1 of it): a space (byte 32) follows the last row, row 64'
+also_err 'length: the sheet has 2658 bytes or more; the rows that its first line announces make it 2657'
 p1 | sed '2,$s/$/\r/' >cr-in-rows.sheet
-refused_at cr-in-rows.sheet 1 '1 5 66 2' 'where: row 1, line end, byte 66 (line 2, byte 33 of it): a carriage return (byte 13) where the line end (byte 10) belongs'
+refused_at cr-in-rows.sheet 1 '1 6 74 2' 'where: row 1, line end, byte 74 (line 2, byte 41 of it): a carriage return (byte 13) where the line end (byte 10) belongs'
 p1 | sed 's/$/\r/' >cr.sheet
 refused_at cr.sheet 2 '0 5 33 1' 'where: first line, line end, byte 33 (line 1, byte 33 of it): a carriage return (byte 13) where the line end (byte 10) belongs'
 { printf '\357\273\277' && p1; } >mark.sheet
 refused_at mark.sheet 2 '0 1 1 1' 'where: first line, row count n, byte 1 (line 1, byte 1 of it): a UTF-8 byte order mark (bytes 239, 187, 191) where a space or a digit belongs'
 p1 | sed '3s/      15/\t15     /' >tab.sheet
-refused_at tab.sheet 2 '2 2 75 3' 'where: row 2, work, byte 75 (line 3, byte 9 of it): a tab (byte 9) where a space or a digit belongs'
+refused_at tab.sheet 2 '2 2 83 3' 'where: row 2, work, byte 83 (line 3, byte 9 of it): a tab (byte 9) where a space or a digit belongs'
 p1 | sed '1s/^       4/00000004/' >zeros.sheet
 refused_at zeros.sheet 2 '0 1 1 1' "where: first line, row count n, byte 1 (line 1, byte 1 of it): '0' (byte 48) where a space or a digit 1 to 9 belongs"
 p1 | sed '5s/^       0/0       /' >left-zero.sheet
-refused_at left-zero.sheet 2 '4 1 133 5' "where: row 4, release, byte 133 (line 5, byte 1 of it): '0' (byte 48) where a space or a digit 1 to 9 belongs"
+refused_at left-zero.sheet 2 '4 1 157 5' "where: row 4, release, byte 157 (line 5, byte 1 of it): '0' (byte 48) where a space or a digit 1 to 9 belongs"
 p1 | sed '4s/19/1x/' >letter.sheet
-refused_at letter.sheet 2 '3 3 123 4' "where: row 3, deadline, byte 123 (line 4, byte 24 of it): 'x' (byte 120) where a space or a digit belongs"
+refused_at letter.sheet 2 '3 3 139 4' "where: row 3, deadline, byte 139 (line 4, byte 24 of it): 'x' (byte 120) where a space or a digit belongs"
 p1 | sed '5s/^       0/        /' >blank.sheet
-refused_at blank.sheet 2 '4 1 140 5' 'where: row 4, release, byte 140 (line 5, byte 8 of it): a space (byte 32) where a digit belongs'
+refused_at blank.sheet 2 '4 1 164 5' 'where: row 4, release, byte 164 (line 5, byte 8 of it): a space (byte 32) where a digit belongs'
 p1 | sed '2s/      20/20      /' >left.sheet
 refused_at left.sheet 2 '1 2 44 2' 'where: row 1, work, byte 44 (line 2, byte 11 of it): a space (byte 32) where a digit belongs'
 p1 | sed '2s/      20/     -20/' >minus.sheet
@@ -641,7 +725,7 @@ for count in 0 65 99999999; do
 done
 for speeds in '2 0 1 9 1,000' '2 1001 1 9 1,000' '3 5 6 17 5' '3 5 0 17 5' '3 1000 1001 17 1,000' '2 1001 1001 9 1,000'; do
     read -r field normal degraded byte most <<<"$speeds"
-    { line 1 "$normal" "$degraded" 17 && line 4 1 1 0; } >speeds.sheet
+    { line 1 "$normal" "$degraded" 17 && line 4 1 1 0 9; } >speeds.sheet
     name=$([ "$field" -eq 2 ] && echo "normal speed N" || echo "degraded speed G")
     figure=$([ "$field" -eq 2 ] && echo "$normal" || echo "$degraded")
     refused_at speeds.sheet 4 "0 $field $byte 1" "where: first line, $name, byte $byte (line 1, byte $byte of it): the figure is $figure"
@@ -650,17 +734,17 @@ for speeds in '2 0 1 9 1,000' '2 1001 1 9 1,000' '3 5 6 17 5' '3 5 0 17 5' '3 10
 done
 # K above its limit, whatever the row; up to it, it is taken.
 for loading in 17 100 99999999; do
-    { line 1 5 2 "$loading" && line 4 20 4 1; } >loading-above.sheet
+    { line 1 5 2 "$loading" && line 4 20 4 1 9; } >loading-above.sheet
     refused_at loading-above.sheet 11 '0 4 25 1' "where: first line, loading K, byte 25 (line 1, byte 25 of it): the figure is $loading"
     also_err 'number 11: K is above 16 slots'
     also_err 'allowed: 0 to 16 slots'
     also_err 'remedy: correct K; where a job really takes longer to load, split it or make the slots longer'
 done
 for loading in 0 1 16; do
-    { line 1 5 2 "$loading" && line 0 20 26 1; } >loading-taken.sheet
+    { line 1 5 2 "$loading" && line 0 20 26 1 0; } >loading-taken.sheet
     case_is 0 "place 1: row 1 (HI), slack $((16 - loading)) slots" '' plan loading-taken.sheet
 done
-{ line 1 5 2 17 && line 0 x 10 1; } >loading-later.sheet
+{ line 1 5 2 17 && line 0 x 10 1 0; } >loading-later.sheet
 refused_at loading-later.sheet 2 '1 2 49 2' "where: row 1, work, byte 49 (line 2, byte 16 of it): 'x' (byte 120) where a space or a digit belongs"
 # K's field malformed.
 p1 | sed '1s/       0$/      -1/' >loading-minus.sheet
@@ -698,12 +782,65 @@ for file in end-in-loading.sheet before-cr.sheet before-x.sheet loading-above.sh
     case_is 2 '*' '' explain "$file"
     ! grep -q '^hint: ' out || complain "explain $file: a hint"
 done
+# A promised part above the row's work, or on a HI row; all rows pass 5 first.
+while IFS='|' read -r row why allowed; do
+    # shellcheck disable=SC2086 # the figures of a row
+    { line 3 5 2 16 && line 0 20 10 0 20 && line $row && line 0 20 10 1 9; } >promised.sheet
+    refused_at promised.sheet 12 '2 5 107 3' "where: row 2, promised part, byte 107 (line 3, byte 33 of it): the figure is $why"
+    also_err 'number 12: a promised part is above its row'"'"'s work, or above 0 work units on a HI row'
+    also_err "allowed: $allowed"
+    also_err "remedy: promise at most the row's work, and 0 work units on a HI row, all of whose work is promised at G"
+done <<'ROWS'
+0 20 10 0 21|21, above the row's work of 20 work units|0 to 20 work units, at most the work
+0 1000000 10 0 1000001|1000001, above the row's work of 1000000 work units|0 to 1,000,000 work units, at most the work
+0 1 10 0 99999999|99999999, above the row's work of 1 work unit|0 to 1 work units, at most the work
+0 20 10 1 1|1, and the row is HI|only 0 (work units) on a HI row, all of whose work is promised
+0 20 10 1 20|20, and the row is HI|only 0 (work units) on a HI row, all of whose work is promised
+ROWS
+for promised in 0 1 20; do
+    { line 1 5 5 0 && line 0 20 10 0 "$promised"; } >promised.sheet
+    case_is 0 'place 1: row 1 (LO), slack 6 slots' '' plan promised.sheet
+done
+p1 | sed '3s/       0$/      -1/' >promised-minus.sheet
+refused_at promised-minus.sheet 2 '2 5 113 3' "where: row 2, promised part, byte 113 (line 3, byte 39 of it): '-' (byte 45) where a space or a digit belongs"
+# A sheet from before promised parts: 1, the field that is missing and how the sheet is brought up, which gives the sheet that promises nothing.
+missing_promised="hint: the field of the promised part (in work units) is missing; a sheet from before promised parts is brought up by a field '       0' before the line end of each row: sed '2,\$s/\$/       0/' SHEET"
+missing_both="hint: the fields of K (loading, in slots) and of promised parts (in work units) are missing; a sheet from before both is brought up by a field '       0' before each line end: sed 's/\$/       0/' SHEET"
+brought_up() { # SHEET PLACE NUMBER HINT: older.sheet is refused with this number and hint, and is brought up to the sheet
+    case_is 2 "$4" '' explain older.sheet
+    also_out "$2"
+    grep -q "^number $3: " out || complain "explain older.sheet: not number $3"
+    [ "$(tail -n 1 out)" = "$4" ] || complain "explain older.sheet: the hint is not last"
+    for words in 'plan older.sheet' 'rows older.sheet' 'judge older.sheet 1' 'finishes older.sheet' 'report older.sheet' 'run older.sheet 5' \
+        'speeds older.sheet' 'speeds --slacks older.sheet'; do
+        # shellcheck disable=SC2086 # several words
+        case_is 2 '' "$4" $words
+    done
+    told=$(sed -n "s/.*: \(sed .*\) SHEET$/\1/p" err)
+    bash -c "$told older.sheet" | cmp -s - "$1" || complain "$1 is not brought up by: $told"
+}
+for sheet in p1.sheet p2.sheet p3.sheet loading.sheet rows64.sheet; do
+    sed '2,$s/       0$//' "$sheet" >older.sheet
+    brought_up "$sheet" 'where: row 1, promised part, byte 66 (line 2, byte 33 of it): a line end (byte 10) where a space or a digit belongs' 1 "$missing_promised"
+done
+for sheet in p1.sheet p2.sheet p3.sheet rows64.sheet; do
+    sed 's/       0$//' "$sheet" >older.sheet
+    brought_up "$sheet" "$at_loading" 2 "$missing_both"
+done
+# No other sheet is said to be one from before promised parts.
+p1 | sed '2s/       0$//; 2s/^ /x/' >older-x.sheet
+p1 | sed '2s/.....$//' >end-in-promised.sheet
+p1 | sed '2s/       0$/\r/' >older-cr.sheet
+for file in older-x.sheet end-in-promised.sheet older-cr.sheet promised-minus.sheet two-rows.sheet; do
+    case_is 2 '*' '' explain "$file"
+    ! grep -q '^hint: ' out || complain "explain $file: a hint"
+done
 # Field at fault, its name, byte in the line, and the row.
 while read -r field name byte a c d level allowed; do
     figures=("$a" "$c" "$d" "$level")
     figure=${figures[$((field - 1))]}
-    { line 3 5 2 16 && line 0 20 10 1 && line "$a" "$c" "$d" "$level" && line 9 9 9 9; } >row.sheet
-    refused_at row.sheet 5 "2 $field $((66 + byte)) 3" "where: row 2, $name, byte $((66 + byte)) (line 3, byte $byte of it): the figure is $figure"
+    { line 3 5 2 16 && line 0 20 10 1 9 && line "$a" "$c" "$d" "$level" 2000000 && line 9 9 9 9 9; } >row.sheet
+    refused_at row.sheet 5 "2 $field $((74 + byte)) 3" "where: row 2, $name, byte $((74 + byte)) (line 3, byte $byte of it): the figure is $figure"
     also_err "allowed: $allowed"
 done <<'ROWS'
 1 release 1 4 20 4 1 0 to 3 slots, below the deadline
@@ -714,7 +851,7 @@ done <<'ROWS'
 3 deadline 17 7 20 0 1 8 to 1,000,000 slots, above the release
 4 level 25 0 20 10 2 HI or LO (or 1 or 0)
 ROWS
-{ line 1 1 1 0 && line 0 1000000 1000000 0; } >limits.sheet
+{ line 1 1 1 0 && line 0 1000000 1000000 0 1000000; } >limits.sheet
 case_is 0 'place 1: row 1 (LO), slack 0 slots' '' plan limits.sheet
 
 # ---- writing a sheet ----
@@ -784,15 +921,38 @@ case_is 3 '' "jasminebrace: normal speed N: 'p1.csv' $alone" sheet p1.csv 5 2 0,
 case_is 3 '' "jasminebrace: normal speed N: '-' $alone" sheet - p1.csv
 case_is 3 '' "jasminebrace: normal speed N: '05' has a zero before its other digits; write it without; allowed: 1 to 1,000 work units per slot" sheet 05 2 0 0,20,10,1
 case_is 3 '' 'jasminebrace: normal speed N: nothing stands here; allowed: 1 to 1,000 work units per slot' sheet '' p1.csv
-case_is 3 '' "jasminebrace: a row is release,work,deadline,level with three commas between: '0,20,10'" sheet 5 2 0 0,20,10
-case_is 3 '' "jasminebrace: a row is release,work,deadline,level with three commas between: '0,20,10,1,'" sheet 5 2 0 0,20,10,1,
-case_is 3 '' "jasminebrace: a row is release,work,deadline,level with three commas between: ''" sheet 5 2 0 ''
+a_row='a row is release,work,deadline,level or release,work,deadline,level,promised'
+case_is 3 '' "jasminebrace: $a_row: '0,20,10'" sheet 5 2 0 0,20,10
+case_is 3 '' "jasminebrace: $a_row: '0,20,10,1,0,'" sheet 5 2 0 0,20,10,1,0,
+case_is 3 '' "jasminebrace: $a_row: ''" sheet 5 2 0 ''
+# A promised part after the level; without it, or with 0, nothing is promised.
+case_is 0 '*' '' sheet 4 2 0 2,8,8,HI 0,18,12,LO,12 3,4,17,LO 5,6,16,HI,0
+cmp -s out promise.sheet || complain "the sheet written is the sample with a promised part"
+case_is 0 '       0      20      10       0      20' '' sheet 5 2 0 0,20,10,LO,20
+case_is 3 '' 'jasminebrace: row 1, promised part: nothing stands here; allowed: 0 to 20 work units, at most the work' sheet 5 2 0 0,20,10,0,
+case_is 3 '' 'jasminebrace: row 1, promised part: nothing stands here; allowed: only 0 (work units) on a HI row, all of whose work is promised' sheet 5 2 0 0,20,10,HI,
+case_is 3 '' "jasminebrace: row 1, promised part: '1.5' $no_figure; allowed: 0 to 1,000,000 work units, at most the work" sheet 5 2 0 0,1000000,10,LO,1.5
+case_is 3 '' "jasminebrace: row 1, promised part: '02' has a zero before its other digits; write it without; allowed: 0 to 20 work units, at most the work" sheet 5 2 0 0,20,10,LO,02
+while read -r row figure why allowed; do
+    case_is 2 '' "where: row 2, promised part: the figure is $figure${why//_/ }" sheet 5 2 0 0,20,10,LO,20 "$row" 0,20,10,HI,7
+    also_err 'number 12: a promised part is above its row'"'"'s work, or above 0 work units on a HI row'
+    also_err "allowed: $allowed"
+    also_err "remedy: promise at most the row's work, and 0 work units on a HI row, all of whose work is promised at G"
+done <<'ROWS'
+0,20,10,LO,21 21 ,_above_the_row's_work_of_20_work_units 0 to 20 work units, at most the work
+0,1,10,LO,4294967295 4294967295 ,_above_the_row's_work_of_1_work_unit 0 to 1 work units, at most the work
+0,20,10,HI,1 1 ,_and_the_row_is_HI only 0 (work units) on a HI row, all of whose work is promised
+0,20,10,HI,21 21 ,_and_the_row_is_HI only 0 (work units) on a HI row, all of whose work is promised
+ROWS
+# Every row passes 5 before one is refused by 12.
+case_is 2 '' 'where: row 2, work: the figure is 0' sheet 5 2 0 0,20,10,LO,21 0,0,10,LO
 
 # ---- rows files ----
-table_headings='normal speed N (work units per slot),degraded speed G (work units per slot),loading K (slots),'
-row_headings='release (slots),work (work units),deadline (slots),level (HI or LO)'
-# A rows file with the speeds and the loading of P1 and these rows.
-rows_file() { lines "$table_headings" 5,2,0, "$row_headings" "$@"; }
+table_headings='normal speed N (work units per slot),degraded speed G (work units per slot),loading K (slots),,'
+row_headings='release (slots),work (work units),deadline (slots),level (HI or LO),promised (work units)'
+# A rows file with the speeds and the loading of P1 and these rows, of which nothing is promised; or these rows as they are.
+rows_file() { given_rows "${@/%/,0}"; }
+given_rows() { lines "$table_headings" 5,2,0,, "$row_headings" "$@"; }
 rows_file 0,20,10,HI 5,15,10,LO 5,11,19,HI 0,5,5,LO >expected
 for words in 'rows p1.sheet' 'rows --plain p1.sheet' 'rows - --plain'; do
     case_in=p1.sheet
@@ -803,7 +963,7 @@ done
 case_in=/dev/null
 cmp -s p1.csv expected || complain "samples/p1.csv is not what rows writes of P1"
 # From a sheet to rows and back, and from these rows to a sheet and back, nothing changes.
-for sheet in p1.sheet p2.sheet p3.sheet rows64.sheet loading.sheet million.sheet slow.sheet limits.sheet; do
+for sheet in p1.sheet p2.sheet p3.sheet rows64.sheet loading.sheet promise.sheet million.sheet slow.sheet limits.sheet; do
     case_is 0 '*' '' rows "$sheet"
     cp out there.csv
     case_is 0 '*' '' sheet there.csv
@@ -910,8 +1070,8 @@ for bad in high H L lO1 'HI LO' -1 1.0 yes; do
     rows_file "0,20,10,$bad" | untaken ", line 4, column 4 (level): '$bad' is not a level; $levels"
 done
 rows_file 0,20,10,01 | untaken ", line 4, column 4 (level): '01' has a zero before its other digits; write it without; $levels"
-rows_file 0,20,10 | untaken ", line 4, column 4 (level): nothing stands here; $levels"
-rows_file 0,20,10,HI 7 | untaken ", line 5, column 2 (work, in work units): nothing stands here; $most_work"
+given_rows 0,20,10 | untaken ", line 4, column 4 (level): nothing stands here; $levels"
+given_rows 0,20,10,HI,0 7 | untaken ", line 5, column 2 (work, in work units): nothing stands here; $most_work"
 lines "$table_headings" 5.5,2,0, "$row_headings" 0,20,10,HI | untaken ", line 2, column 1 (normal speed N, in work units per slot): '5.5' $no_figure; allowed: 1 to 1,000 work units per slot"
 while IFS='|' read -r normal allowed; do
     lines "$table_headings" "$normal" "$row_headings" 0,20,10,HI |
@@ -935,29 +1095,53 @@ before() { sed '1s/loading K (slots)//; 2s/,0,/,,/' "$@"; }
 before p1.csv | untaken ", line 1, column 3: $no_loading"
 before p1.csv | sed '1,2s/,,$//' | untaken ", line 1, column 3: $no_loading"
 sed 's/"loading K (slots)"//; 2s/,0,/,,/' p1-saved.csv | untaken ", line 1, column 3: $no_loading"
-before p1.csv | sed '1s/,,$/,loading K (slots),/; 2s/,,$/,0,/' | same_sheet 'from before K, brought up'
+before p1.csv | sed '1s/,,,$/,loading K (slots),,/; 2s/,,,$/,0,,/' | same_sheet 'from before K, brought up'
+# A rows file from before promised parts has no column for them, and promises none; nothing may stand in that column without its heading.
+older() { sed 's/,[^,]*$//' "$@"; }
+older p1.csv | same_sheet 'from before promised parts'
+older p1.csv | sed '1,2s/,$//' | same_sheet 'from before promised parts, N, G and K without an empty cell'
+older p1-saved.csv | sed 's/$/\r/' | same_sheet 'from before promised parts, as a spreadsheet program saves it'
+older p1.csv | sed 's/$/,/' | same_sheet 'from before promised parts, with an empty column'
+no_heading="line 3 has no heading 'promised (work units)' in column 5, and without it nothing is allowed after column 4"
+one_too_many='delete the cell that is one too many; if a figure was written with a comma, as 1,000, write 1000'
+older p1.csv | sed '5s/$/,4/' | untaken ", line 5, column 5 (promised part, in work units): '4' stands here; $no_heading: $one_too_many"
+older p1.csv | sed '5s/15/1,500/' | untaken ", line 5, column 5 (promised part, in work units): 'LO' stands here; $no_heading: $one_too_many"
+older p1.csv | sed '3s/$/,,note/' | untaken ", line 3, column 6: 'note' stands here; $no_heading: delete this column"
+older p1.csv | sed '3s/$/,,promised (work units)/' |
+    untaken ", line 3, column 5: nothing stands where the heading 'promised (work units)' belongs; that heading stands in column 6: move its column here, or delete what stands before it"
+older p1.csv | sed '3s/$/,comment/' | untaken ", line 3, column 5: 'comment' stands where the heading 'promised (work units)' belongs"
+sed '3s/promised (work units)/promised/' p1.csv | untaken ", line 3, column 5: 'promised' stands where the heading 'promised (work units)' belongs"
+# With its heading the column is filled, in HI rows too.
+given_rows 0,20,10,HI,0 5,15,10,LO, | untaken ', line 5, column 5 (promised part, in work units): nothing stands here; allowed: 0 to 15 work units, at most the work'
+given_rows 0,20,10,HI, | untaken ', line 4, column 5 (promised part, in work units): nothing stands here; allowed: only 0 (work units) on a HI row, all of whose work is promised'
+given_rows 0,20,10,LO,-1 | untaken ", line 4, column 5 (promised part, in work units): '-1' $no_figure; allowed: 0 to 20 work units, at most the work"
+given_rows 0,x,10,LO,y | untaken ", line 4, column 2 (work, in work units): 'x' $no_figure; $most_work"
 # Cells after the last column; a figure with a comma in it moves others there.
-three='stands here; N, G and K use 3 of the 4 columns, and nothing is allowed after column 3'
-four='stands here; a rows file has 4 columns, and nothing is allowed after column 4'
+three='stands here; N, G and K use 3 of the 5 columns, and nothing is allowed after column 3'
+five='stands here; a rows file has 5 columns, and nothing is allowed after column 5'
 many='delete the cell that is one too many; if a figure was written with a comma, as 1,000, write 1000'
 for row in 0,1,000,10,HI 1,000,20,10,HI 0,20,1,000,HI 0,1,500,10,HI ,1,000,10,HI; do
-    rows_file "$row" | untaken ", line 4, column 5: 'HI' $four: $many"
+    rows_file "$row" | untaken ", line 4, column 6: '0' $five: $many"
 done
-rows_file 0,1,000,000,10,HI | untaken ", line 4, column 5: '10' $four: $many"
-rows_file 0,20,10,HI 5,15,10,LO,,,a,b | untaken ", line 5, column 7: 'a' $four: $many"
+rows_file 0,1,000,000,10,HI | untaken ", line 4, column 6: 'HI' $five: $many"
+given_rows 0,20,10,HI,0 5,15,10,LO,1,000 | untaken ", line 5, column 6: '000' $five: $many"
+given_rows 0,20,10,HI,0 5,15,10,LO,0,,,a,b | untaken ", line 5, column 8: 'a' $five: $many"
+given_rows 0,1,500,10,HI | untaken ", line 4, column 5 (promised part, in work units): 'HI' $no_figure; allowed: 0 to 1 work units, at most the work"
 lines "$table_headings" 5,2,3,4 | untaken ", line 2, column 4: '4' $three: $many"
 lines "$table_headings" 1,000,2,0, | untaken ", line 2, column 4: '0' $three: $many"
 lines "$table_headings" '5,2,0,measured in May' | untaken ", line 2, column 4: 'measured in May' $three: $many"
 lines "$table_headings" '5,2,,measured in May' | untaken ", line 2, column 4: 'measured in May' $three: $many"
-lines "$table_headings" 5,2,0,,x | untaken ", line 2, column 5: 'x' $four: $many"
-lines "${table_headings}n" 5,2,0 | untaken ", line 1, column 4: 'n' $three: delete this cell"
-lines "$table_headings,notes" 5,2,0 | untaken ", line 1, column 5: 'notes' $four: delete this column"
-sed 's/$/,note/' p1.csv | untaken ", line 1, column 5: 'note' $four: delete this column"
-lines "$table_headings" 5,2,0 "$row_headings,comment" | untaken ", line 3, column 5: 'comment' $four: delete this column"
+lines "$table_headings" 5,2,0,,x | untaken ", line 2, column 5: 'x' $three: $many"
+lines "$table_headings" 5,2,0,,,x | untaken ", line 2, column 6: 'x' $five: $many"
+lines "${table_headings%,}n" 5,2,0 | untaken ", line 1, column 4: 'n' $three: delete this cell"
+lines "${table_headings}n" 5,2,0 | untaken ", line 1, column 5: 'n' $three: delete this cell"
+lines "$table_headings,notes" 5,2,0 | untaken ", line 1, column 6: 'notes' $five: delete this column"
+sed 's/$/,note/' p1.csv | untaken ", line 1, column 6: 'note' $five: delete this column"
+lines "$table_headings" 5,2,0 "$row_headings,comment" | untaken ", line 3, column 6: 'comment' $five: delete this column"
 # Row numbers and names of jobs beside the rows alone.
-rows_file 1,0,20,10,HI | untaken ", line 4, column 5: 'HI' $four: $many"
+rows_file 1,0,20,10,HI | untaken ", line 4, column 6: '0' $five: $many"
 rows_file pen,0,20,10,HI | untaken ", line 4, column 1 (release, in slots): 'pen' $no_figure; allowed: 0 to 19 slots, below the deadline"
-rows_file 0,20,10,HI,pen | untaken ", line 4, column 5: 'pen' $four: $many"
+given_rows 0,20,10,HI,0,pen | untaken ", line 4, column 6: 'pen' $five: $many"
 # Headings: other columns, moved ones, other units, none.
 no_normal="stands where the heading 'normal speed N (work units per slot)' belongs"
 moved() { echo "; that heading stands in column $1: move its column here, or delete what stands before it"; }
@@ -986,7 +1170,7 @@ lines 'normal speed N (work units per slot)s,x' | untaken ", line 1, column 1: '
 lines "$table_headings" 5,2,0, 0,20,10,HI | untaken ", line 3, column 1: '0' stands where the heading 'release (slots)' belongs"
 sed 2d p1.csv | untaken ", line 2, column 1 (normal speed N, in work units per slot): 'release (slots)' $no_figure; allowed: 1 to 1,000 work units per slot"
 # Empty lines before others, and files that end too early.
-rows_file 0,20,10,HI ' ,"",' '' 5,15,10,LO | untaken ', line 5: this line is empty, and line 7 is not; delete the empty line'
+given_rows 0,20,10,HI,0 ' ,"",' '' 5,15,10,LO,0 | untaken ', line 5: this line is empty, and line 7 is not; delete the empty line'
 { echo && cat p1.csv; } | untaken ', line 1: this line is empty, and line 2 is not; delete the empty line'
 sed 's/$/\n/' p1.csv | untaken ', line 2: this line is empty, and line 3 is not; delete the empty line'
 sed 's/$/\r\r/' p1.csv | untaken ', line 2: this line is empty, and line 3 is not; delete the empty line'
@@ -1013,7 +1197,7 @@ separated='save the file with commas between the cells'
 tr ',' ';' <p1.csv | untaken ", line 1: the cells are separated by ';'; $separated"
 { mark && quoted p1.csv | sed 's/,/;/g; s/$/\r/'; } | untaken ", line 1: the cells are separated by ';'; $separated"
 tr ',' '\t' <p1.csv | untaken ", line 1: the cells are separated by tabs; $separated"
-rows_file 0,20,10,HI '5;15;10;LO' | untaken ", line 5: the cells are separated by ';'; $separated"
+given_rows 0,20,10,HI,0 '5;15;10;LO;0' | untaken ", line 5: the cells are separated by ';'; $separated"
 { printf '\377\376' && sed 's/./&\x00/g; s/$/\x00/' p1.csv; } | untaken ': this is text in UTF-16; save it as CSV in UTF-8, with commas between the cells'
 { printf '\376\377' && sed 's/./\x00&/g' p1.csv; } | untaken ': this is text in UTF-16; save it as CSV in UTF-8, with commas between the cells'
 wide='this is text in UTF-32; save it as CSV in UTF-8, with commas between the cells'
@@ -1068,8 +1252,16 @@ done <<'ROWS'
 7,20,0,HI|column 3 (deadline, in slots): the figure is 0|8 to 1,000,000 slots, above the release
 0,20,10,2|column 4 (level): the figure is 2|HI or LO (or 1 or 0)
 ROWS
+while IFS='|' read -r row place allowed; do
+    given_rows 0,20,10,LO,20 "$row" 0,20,10,HI,7 | refused_rows 12 "line 5, column 5 (promised part, in work units): the figure is $place" "$allowed"
+done <<'ROWS'
+0,20,10,LO,21|21, above the row's work of 20 work units|0 to 20 work units, at most the work
+0,20,10,LO,4294967295|4294967295, above the row's work of 20 work units|0 to 20 work units, at most the work
+0,20,10,HI,1|1, and the row is HI|only 0 (work units) on a HI row, all of whose work is promised
+ROWS
+given_rows 0,20,10,LO,21 0,0,10,LO,0 | refused_rows 5 'line 5, column 2 (work, in work units): the figure is 0' '1 to 1,000,000 work units'
 while IFS='|' read -r speeds place allowed; do
-    lines "$table_headings" "$speeds,17" "$row_headings" 9,9,9,9 | refused_rows 4 "line 2, $place" "$allowed"
+    lines "$table_headings" "$speeds,17" "$row_headings" 9,9,9,9,9 | refused_rows 4 "line 2, $place" "$allowed"
 done <<'SPEEDS'
 0,1|column 1 (normal speed N, in work units per slot): the figure is 0|1 to 1,000 work units per slot
 1001,1|column 1 (normal speed N, in work units per slot): the figure is 1001|1 to 1,000 work units per slot
@@ -1080,10 +1272,10 @@ done <<'SPEEDS'
 1,2|column 2 (degraded speed G, in work units per slot): the figure is 2|only 1 (work units per slot), at most N
 SPEEDS
 for loading in 17 18 4294967295; do
-    lines "$table_headings" "5,2,$loading" "$row_headings" 9,9,9,9 |
+    lines "$table_headings" "5,2,$loading" "$row_headings" 9,9,9,9,9 |
         refused_rows 11 "line 2, column 3 (loading K, in slots): the figure is $loading" '0 to 16 slots'
 done
-lines "$table_headings" 5,2,16 "$row_headings" 0,20,10,HI >loading.csv
+lines "$table_headings" 5,2,16 "$row_headings" 0,20,10,HI,0 >loading.csv
 case_is 0 '       1       5       2      16' '' sheet loading.csv
 lines "$table_headings" 0,0,17 "$row_headings" | refused_rows 3 'line 4: there is no row' '1 to 64 rows'
 lines "$table_headings" 5,2,0 "$row_headings" ,,, '' | refused_rows 3 'line 4: there is no row' '1 to 64 rows'
@@ -1096,8 +1288,8 @@ cmp -s out many.csv || complain "64 rows to a sheet and back"
 rows_file "${many[@]}" 0,20,10,HI | refused_rows 3 'line 68: this is row 65, and there are 65 rows' '1 to 64 rows'
 rows_file "${many[@]}" "${many[@]}" 9,9,9,9 | refused_rows 3 'line 68: this is row 65, and there are 129 rows' '1 to 64 rows'
 rows_file "${many[@]}" "${many[@]}" 9,9,9,x | untaken ", line 132, column 4 (level): 'x' is not a level; $levels"
-lines "$table_headings" 1000,1000,16 "$row_headings" 999999,1000000,1000000,LO 0,1,1,HI >limits.csv
-case_is 0 '  999999 1000000 1000000       0' '' sheet limits.csv
+lines "$table_headings" 1000,1000,16 "$row_headings" 999999,1000000,1000000,LO,1000000 0,1,1,HI,0 >limits.csv
+case_is 0 '  999999 1000000 1000000       0 1000000' '' sheet limits.csv
 
 # A rows file where a sheet belongs: the refusal is that of other bytes, and a line beside it says what to do.
 hint="hint: this is a rows file; 'jasminebrace sheet ROWS.csv' makes a sheet of it"
@@ -1184,7 +1376,7 @@ done
 case_is 3 '' 'jasminebrace: judge takes at least 2 arguments; 1 given' judge p1.sheet
 case_is 3 '' 'jasminebrace: run takes at least 2 arguments; 1 given' run p1.sheet
 case_is 3 '' 'jasminebrace: sheet takes at least 1 argument; 0 given' sheet
-also_err 'usage: jasminebrace sheet {ROWS.csv | N G K RELEASE,WORK,DEADLINE,LEVEL..}'
+also_err 'usage: jasminebrace sheet {ROWS.csv | N G K RELEASE,WORK,DEADLINE,LEVEL[,PROMISED]..}'
 case_is 3 '' 'jasminebrace: finishes takes at least 1 argument; 0 given' finishes
 case_is 3 '' 'jasminebrace: report takes at least 1 argument; 0 given' report
 also_err 'usage: jasminebrace report SHEET [ROW..]'

@@ -1,7 +1,7 @@
 #!/usr/bin/env python3
 """Draws a run of a sheet, or how slow the processor may be for it, as an SVG picture.
 
-    draw.py SHEET [--row R] [--order R,R,..] [--supplies WORD ..] OUT.svg
+    draw.py SHEET [{--row | --promise} R] [--order R,R,..] [--supplies WORD ..] OUT.svg
     draw.py SHEET --speeds [--order R,R,..] OUT.svg
 
 --row R         the row asked about, which is marked. Without --supplies its
@@ -10,12 +10,16 @@
                 In it late LO rows go on, since plans do not count on their
                 being dropped; in all other runs they are dropped at their
                 deadlines, as on the plotter.
+--promise R     the same for the promised part of a LO row: the run in which it is
+                judged, in which every slot supplies exactly G work units. The
+                slots that bring a promised part have a dashed edge, in every run,
+                and a flag stands where it is got.
 --supplies ..   a run of your own: each word is the supply of one slot in work
                 units, or COUNTxSUPPLY for COUNT slots that supply SUPPLY each.
 --order R,R,..  the order to draw, highest place first. Without it the sheet is
                 planned.
 
-With neither --row nor --supplies every slot supplies exactly N.
+Without --row, --promise and --supplies every slot supplies exactly N.
 
 --speeds        instead of a run: the slack of the tightest row against the
                 degraded speed G, from 1 to N work units per slot, under one
@@ -47,7 +51,7 @@ from pictures.words import lines_of, lines_of_verdicts
 
 COMMAND = os.path.join(os.path.dirname(os.path.abspath(__file__)), "jasminebrace")
 
-Given = namedtuple("Given", "sheet row order supplies speeds output")
+Given = namedtuple("Given", "sheet row promise order supplies speeds output")
 
 
 def given_by(words):
@@ -57,7 +61,7 @@ def given_by(words):
     sheet, *rest, output = words
     if not output.endswith(".svg"):
         raise Stopped(NOT_USABLE, f"the picture's name does not end in .svg: '{output}'\n{usage()}")
-    found = {"--row": "", "--order": "", "--supplies": [], "--speeds": False}
+    found = {"--row": "", "--promise": "", "--order": "", "--supplies": [], "--speeds": False}
     while rest:
         option, *rest = rest
         if option not in found or found[option]:
@@ -72,12 +76,14 @@ def given_by(words):
             raise Stopped(NOT_USABLE, f"nothing follows {option}\n{usage()}")
         found[option] = rest[:taken] if option == "--supplies" else rest[0]
         rest = rest[taken:]
-    row = found["--row"]
+    row = found["--row"] or found["--promise"]
+    if found["--row"] and found["--promise"]:
+        raise Stopped(NOT_USABLE, f"--row and --promise do not go together\n{usage()}")
     if row and not (row.isascii() and row.isdigit() and int(row)):
         raise Stopped(NOT_USABLE, f"'{row}' is no row number")
     if found["--speeds"] and (row or found["--supplies"]):
-        raise Stopped(NOT_USABLE, f"--speeds draws no run: --row and --supplies do not go with it\n{usage()}")
-    return Given(sheet, int(row or 0), found["--order"], found["--supplies"], found["--speeds"], output)
+        raise Stopped(NOT_USABLE, f"--speeds draws no run: --row, --promise and --supplies do not go with it\n{usage()}")
+    return Given(sheet, int(row or 0), bool(found["--promise"]), found["--order"], found["--supplies"], found["--speeds"], output)
 
 
 def usage():

@@ -39,3 +39,9 @@ few 64 1000000 run apart.sheet --stretches --order "$order" 500000x1 500000x2
 few 64 2000000 run apart.sheet --stretches --order "$order" 2000000x0
 few 64 1000000 run loading.sheet --stretches --order "$order" 500000x1 500000x2
 [ "$(grep -c ' (16 loading): ' out)" -eq 64 ] || { echo "NOT AS IT SHOULD BE: not one stretch for each row with its 16 loading slots"; exit 1; }
+# The clock at which a promised part is got is looked for by halves: a few calls more for each row that has one.
+promised=()
+for ((row = 0; row < 64; row++)); do promised+=("$((15000 * row)),18000,1000000,LO,$((9000 + 100 * row))"); done
+"$command" sheet 2 1 16 "${promised[@]}" >promised.sheet 2>err
+few 64 1000000 run promised.sheet --stretches --order "$order" 500000x1 500000x2
+[ "$(grep -c ', promised [0-9]* work units got at clock ' out)" -gt 32 ] || { echo "NOT AS IT SHOULD BE: few promised parts are got"; exit 1; }

@@ -3,7 +3,8 @@
  *
  *     firmware_test       exit status 0 and a line for each claim, or 1 with the claim that failed
  *
- * The loop is compiled from the page by tools/firmware_test.sh and linked to this file.
+ * The loop is compiled from the page by tools/firmware_test.sh and linked to this file. ALLOWANCE_STACK is the bytes of stack that the header
+ * states for jb_need, jb_allowance and jb_is_dropped_for_deadline.
  */
 #define _POSIX_C_SOURCE 200809L
 
@@ -14,6 +15,7 @@
 #include <stdio.h>
 #include <stdlib.h>
 #include <string.h>
+#include <ucontext.h>
 #include <unistd.h>
 
 /* The listing's functions. */
@@ -47,7 +49,7 @@ typedef struct {
     uint32_t units;        /* work units counted so far */
     uint32_t ended_at;     /* tick at whose slot's end the job had ended, 0 before */
     uint32_t calls;        /* how often board_closed or board_work_over_c was called */
-    int done, in_time, over_c;
+    int done, in_time, promised, over_c;
 } job;
 
 static struct {
@@ -72,7 +74,7 @@ void board_start(void);
 void board_run_until_tick(uint32_t row);
 uint32_t board_units(uint32_t row);
 int board_ended(uint32_t row);
-void board_closed(uint32_t row, int done, int in_time);
+void board_closed(uint32_t row, int done, int in_time, int promised);
 void board_work_over_c(uint32_t row);
 
 /* Slots that supply nothing, up to the last slot of the clock. */
@@ -131,10 +133,11 @@ int board_ended(uint32_t row) {
     return board.jobs[row].ended_at != 0;
 }
 
-void board_closed(uint32_t row, int done, int in_time) {
+void board_closed(uint32_t row, int done, int in_time, int promised) {
     board.jobs[row].calls++;
     board.jobs[row].done = done;
     board.jobs[row].in_time = in_time;
+    board.jobs[row].promised = promised;
     if (board.damage) {
         board.run->table.n = board.damaged_n;
         for (uint32_t other = 0; other < JB_ROWS; other++) {
@@ -174,7 +177,12 @@ static void add_row(jb_table *table, uint32_t release, uint32_t work, uint32_t d
     table->n++;
 }
 
-/* A table that has a correct order, with loading or without, and that order. */
+/* Promises so many work units of the last row, if it is LO. */
+static void promise(jb_table *table, uint32_t promised) {
+    table->promised[table->n - 1] = table->level[table->n - 1] == JB_LO ? promised : 0;
+}
+
+/* A table that has a correct order, with loading or without, with promised parts or without, and that order. */
 static jb_table planned_table(uint8_t order[JB_ROWS]) {
     for (;;) {
         uint64_t left;
@@ -184,6 +192,7 @@ static jb_table planned_table(uint8_t order[JB_ROWS]) {
         while (table.n < rows) {
             uint32_t release = 3 + below(20);
             add_row(&table, release, 1 + below(5 * normal), release + 1 + below(8 + (8 + loading) * rows), below(2));
+            promise(&table, below(3) ? 0 : below(table.work[table.n - 1] + 1));
         }
         uint32_t number = jb_plan_table(&table, order, &left);
         must(number == JB_OK || number == JB_NO_ORDER, "a table within the limits is answered %u", number);
@@ -242,9 +251,18 @@ static int ended_in_time(const jb_table *table, uint32_t row) {
 static void tell_all(const jb_run *run) {
     for (uint32_t row = 1; row <= run->table.n; row++) {
         if (run->closing[row - 1] == run->clock) {
-            board_closed(row, jb_is_done(run, row), 0);
+            board_closed(row, jb_is_done(run, row), 0, 0);
         }
     }
+}
+
+/* The least release of a table, in slots. */
+static uint32_t earliest_release(const jb_table *table) {
+    uint32_t earliest = COURSE;
+    for (uint32_t row = 1; row <= table->n; row++) {
+        earliest = table->release[row - 1] < earliest ? table->release[row - 1] : earliest;
+    }
+    return earliest;
 }
 
 /* ---- the claims ---- */
@@ -265,6 +283,7 @@ static void record_of_true_supplies(void) {
             must(it->calls == 1 && !it->over_c, "row %u is not told closed once", row);
             must(it->done == done && it->done == (it->ended_at != 0), "row %u is told done otherwise than it is", row);
             must(it->in_time == ended_in_time(&table, row), "row %u is told in time otherwise than it is", row);
+            must(it->promised == (table.promised[row - 1] != 0 && it->units >= table.promised[row - 1]), "row %u's part is told otherwise", row);
         }
     }
     puts("the loop's record is that of the true supplies, byte for byte; every closing is told once");
@@ -296,10 +315,7 @@ static void window_only(void) {
         uint8_t order[JB_ROWS];
         jb_table table = planned_table(order);
         jb_run run;
-        uint32_t earliest = COURSE, row = 1 + below(table.n);
-        for (uint32_t other = 1; other <= table.n; other++) {
-            earliest = table.release[other - 1] < earliest ? table.release[other - 1] : earliest;
-        }
+        uint32_t earliest = earliest_release(&table), row = 1 + below(table.n);
         const uint32_t least = table.level[row - 1] == JB_HI ? table.degraded : table.normal;
         new_board(&table, least, 2 * table.normal, 1);
         for (uint32_t slot = 0; slot < COURSE / 2; slot++) {
@@ -394,7 +410,7 @@ static void ends_alone(void) {
             }
         }
     }
-    must(at_deadline > TABLES / 10 && dropped > at_deadline + TABLES / 10, "%u rows were dropped, %u of them for their deadlines", dropped, at_deadline);
+    must(at_deadline > TABLES / 20 && dropped > at_deadline + TABLES / 10, "%u rows were dropped, %u of them for their deadlines", dropped, at_deadline);
     puts("ends reported, full slots at or below the count: rows, slots used, closings and clock as with the true figures");
 }
 
@@ -550,6 +566,35 @@ static void late_previews(void) {
     puts("LO rows at their deadlines: dropped, running or waiting, told at that tick, and never run again; work of the last slot counts");
 }
 
+/*
+ * With at least G from each slot of its window, and nothing from all other slots, a LO row has got its promised part when the clock reaches
+ * its deadline, in the record and on the board; a slot too few, and some do not. A row takes no more slots than its allowance.
+ */
+static void promised_parts(void) {
+    uint32_t kept = 0, dropped = 0, at_last = 0;
+    for (int trial = 0; trial < TABLES; trial++) {
+        uint8_t order[JB_ROWS];
+        jb_table table = planned_table(order);
+        const uint32_t row = 1 + below(table.n), deadline = table.deadline[row - 1];
+        if (table.promised[row - 1] == 0) {
+            continue;
+        }
+        new_board(&table, table.degraded, table.degraded + below(2) * table.normal, 0);
+        for (uint32_t slot = 0; slot < COURSE / 2; slot++) {
+            board.supply[slot] = slot < earliest_release(&table) || slot >= deadline ? 0 : board.supply[slot];
+        }
+        jb_run before = true_run(&table, order, deadline - 1), at = true_run(&table, order, deadline), later = true_run(&table, order, deadline + 50);
+        must(jb_has_promised(&at, row) && !jb_is_open(&at, row), "row %u has not got its promised part at its deadline", row);
+        must(jb_has_promised(&later, row), "row %u has lost its promised part", row);
+        must(at.used[row - 1] <= jb_allowance(&table, row), "row %u has used more than its allowance", row);
+        kept++;
+        dropped += jb_is_dropped(&at, row);
+        at_last += !jb_has_promised(&before, row);
+    }
+    must(kept > TABLES / 20 && dropped > TABLES / 50 && at_last > 0, "%u promised parts, %u dropped, %u at the last slot", kept, dropped, at_last);
+    puts("promised parts: got at the deadline with G from each slot of the window, whatever all others supply; no more slots than the allowance");
+}
+
 /* Loading slots: any figure gives the same record, which counts the slot as used; a preempted row goes on where it was. */
 static void loading_slots(void) {
     uint32_t loads = 0, preempted = 0;
@@ -678,7 +723,7 @@ static void restored(void) {
 }
 
 /*
- * A record of interface 2: a LO row open past its deadline makes 9 of it, and the record stays; closed later than its deadline, done or with
+ * Records as interface 2 made them: a LO row open past its deadline makes 9, and the record stays; closed later than its deadline, done or with
  * its slots used up, it is taken. Working the supplies again gives another run than the jobs have had.
  */
 static void stored_before(void) {
@@ -700,7 +745,95 @@ static void stored_before(void) {
     before = late;
     must(jb_coming_row(&late, &row) == JB_UNSOUND && row == 0, "a LO row open past its deadline is not 9 when asked");
     must(jb_work_slot(&late, 1, &row) == JB_UNSOUND && row == 0 && same(&late, &before), "a LO row open past its deadline is not 9 when worked");
-    puts("a record of interface 2 with a LO row open past its deadline is answered 9; with one closed after it, it is taken");
+    puts("a record with a LO row open past its deadline is answered 9; with one closed after it, it is taken");
+}
+
+/* A record of interface 3 has no promised parts: with 256 bytes of 0 after its first 1,040 it is one of interface 4, and goes on as before. */
+static void stored_by_3(void) {
+    unsigned char stored[1876];
+    const size_t ahead = offsetof(jb_table, promised), part = sizeof(jb_table) - ahead;
+    uint8_t order[JB_ROWS];
+    uint32_t row;
+    must(ahead == 1040 && part == 256 && sizeof stored == sizeof(jb_run) - part, "the layout of interface 3 is another");
+    jb_table table = planned_table(order);
+    memset(table.promised, 0, sizeof table.promised);
+    new_board(&table, table.degraded, table.normal, 0);
+    jb_run run = true_run(&table, order, 7), restored;
+    memcpy(stored, &run, ahead);
+    memcpy(stored + ahead, (unsigned char *)&run + ahead + part, sizeof stored - ahead);
+    memset(&restored, 0, sizeof restored);
+    memcpy(&restored, stored, ahead);
+    memcpy((unsigned char *)&restored + ahead + part, stored + ahead, sizeof stored - ahead);
+    must(same(&run, &restored) && jb_coming_row(&restored, &row) == JB_OK, "a record of interface 3 is not brought up");
+    restored.got[0] = table.work[0] + 1;
+    must(jb_coming_row(&restored, &row) == JB_UNSOUND, "a record that is brought up and unsound is not 9");
+    puts("a record of interface 3 is brought up by 256 bytes of 0, and 9 tells whether it is sound");
+}
+
+/* ---- stack ---- */
+
+static unsigned char lent_stack[1 << 16];
+static void (*on_lent_stack)(void);
+static uintptr_t stack_mark; /* where the call's stack begins */
+static const jb_run *looked_at;
+static volatile uint32_t found; /* so that no call is left out */
+
+static void from_the_mark(void) {
+    volatile unsigned char here = 0;
+    stack_mark = (uintptr_t)&here;
+    on_lent_stack();
+}
+
+/* Bytes of stack that a call takes: the lent stack is painted before, and what is left of the paint is counted afterwards. */
+static size_t stack_of(void (*call)(void)) {
+    static ucontext_t back, there;
+    size_t left = 0;
+    memset(lent_stack, 0xA5, sizeof lent_stack);
+    must(getcontext(&there) == 0, "no context");
+    there.uc_stack.ss_sp = lent_stack;
+    there.uc_stack.ss_size = sizeof lent_stack;
+    there.uc_link = &back;
+    on_lent_stack = call;
+    makecontext(&there, from_the_mark, 0);
+    must(swapcontext(&back, &there) == 0, "no other stack");
+    while (left < sizeof lent_stack && lent_stack[left] == 0xA5) {
+        left++;
+    }
+    return stack_mark - (uintptr_t)(lent_stack + left);
+}
+
+static void look_up_need(void) {
+    found = jb_need(&looked_at->table, 1);
+}
+
+static void look_up_allowance(void) {
+    found = jb_allowance(&looked_at->table, 1);
+}
+
+static void look_up_dropped(void) {
+    found = (uint32_t)jb_is_dropped_for_deadline(looked_at, 1);
+}
+
+/* The functions of the header that call jb_finishes on a table of their own take at most what it states, which is at most 512 bytes too much. */
+static void allowance_stack(void) {
+    static void (*const calls[])(void) = {look_up_need, look_up_allowance, look_up_dropped};
+    static const uint8_t order[JB_ROWS] = {1};
+    uint32_t row;
+    size_t most = 0;
+    jb_table table = empty_table(2, 1, 0);
+    add_row(&table, 0, 6, 1, JB_LO);
+    table.promised[0] = 6;
+    jb_run run = fresh_run(&table, order);
+    must(jb_work_slot(&run, 1, &row) == JB_OK && jb_is_dropped_for_deadline(&run, 1), "the row is not dropped at its deadline");
+    looked_at = &run;
+    for (size_t call = 0; call < sizeof calls / sizeof *calls; call++) {
+        stack_of(calls[call]); /* the first call may look for memcpy; the second is measured */
+        const size_t took = stack_of(calls[call]);
+        most = took > most ? took : most;
+    }
+    must(most <= ALLOWANCE_STACK && ALLOWANCE_STACK - most <= 512, "a look at an allowance took %zu bytes of stack", most);
+    printf("a look at a need, an allowance or a drop at a deadline took up to %zu bytes of stack, the header states %d bytes\n", most,
+           ALLOWANCE_STACK);
 }
 
 /* The sheet of a record's table: it reads as that table, and is written again from what was read; 10 writes nothing. */
@@ -723,7 +856,7 @@ static void sheet_of_record(void) {
 }
 
 /* How many rows have a slack below 0 slots, by the last figure of a list of all jobs. */
-static uint32_t late_rows(const uint8_t *list, uint32_t length) {
+static uint32_t slacks_below_zero(const uint8_t *list, uint32_t length) {
     char figure[JB_FIGURE + 1] = "";
     memcpy(figure, list + length - 1 - JB_FIGURE, JB_FIGURE);
     return (uint32_t)strtoul(figure, NULL, 10);
@@ -737,7 +870,7 @@ static void list_of_record(const jb_table *table, const uint8_t order[JB_ROWS]) 
     jb_run run = fresh_run(table, order);
     must(jb_report_order(table, order, list, sizeof list, &length) == JB_OK, "the jobs are not listed");
     must(length == 51 * table->n + 21, "the list has not 51 bytes for each row and 21 bytes");
-    must(late_rows(list, length) == 0, "a planned order is listed with a late row");
+    must(slacks_below_zero(list, length) == 0, "a planned order is listed with a slack below 0 slots");
     for (row = 1; row <= table->n; row++) {
         needs += table->loading + (table->work[row - 1] + table->normal - 1) / table->normal;
     }
@@ -751,7 +884,7 @@ static void list_of_record(const jb_table *table, const uint8_t order[JB_ROWS]) 
     must(memcmp(again, list, length) == 0, "the list changes with the clock");
 }
 
-/* Lists of planned orders have no late row, and those of other orders have none exactly if the judge says yes. */
+/* Lists of planned orders count no row with a slack below 0 slots, and those of other orders count none exactly if the judge says yes. */
 static void list_of_jobs(void) {
     uint32_t wrong = 0;
     for (int trial = 0; trial < TABLES; trial++) {
@@ -765,11 +898,11 @@ static void list_of_jobs(void) {
         }
         must(jb_judge_order(&table, turned, &yes, &row, &slack) == JB_OK, "an order is not judged");
         must(jb_report_order(&table, turned, list, sizeof list, &length) == JB_OK, "the jobs are not listed");
-        must((late_rows(list, length) == 0) == (yes == 1), "no late row is not yes");
+        must((slacks_below_zero(list, length) == 0) == (yes == 1), "no slack below 0 slots is not yes");
         wrong += yes == 0;
     }
     must(wrong > TABLES / 4 && wrong < TABLES, "%u orders were not correct", wrong);
-    puts("the list of all jobs: the same at any clock, no late row exactly if the order is correct; 10 writes nothing");
+    puts("the list of all jobs: the same at any clock, no slack below 0 slots exactly if the order is correct; 10 writes nothing");
 }
 
 /* A search for a least speed: over a table and over a sheet, G if it is sought and not N, and the range of an accepted table. */
@@ -988,16 +1121,21 @@ static void refusals(void) {
     must(plot(&table, &run) == JB_LOADING, "K 17 is not 11");
     must(jb_fresh_run(&table, other, &run) == JB_LOADING, "K 17 and a row twice are not 11");
     table.loading = 0;
+    table.promised[0] = 3;
+    must(plot(&table, &run) == JB_PROMISED, "more promised than there is work is not 12");
+    table.promised[0] = 0;
+    table.promised[1] = 1;
+    must(plot(&table, &run) == JB_PROMISED && jb_fresh_run(&table, other, &run) == JB_PROMISED, "a promise on a HI row is not 12");
     table.release[0] = 2;
     must(plot(&table, &run) == JB_ROW_LIMITS, "a release at the deadline is not 5");
     must(board.slots == 0 && !board.started, "a refused table starts the board or runs a slot");
-    puts("tables that cannot be run are answered 3, 4, 11, 5, 6 or 7, and no slot is begun");
+    puts("tables that cannot be run are answered 3, 4, 11, 5, 12, 6 or 7, and no slot is begun");
 }
 
 int main(void) {
     must(jb_fits(), "the header and the archive do not belong together");
-    must(jb_version() == 3, "the interface is not number 3");
-    must(sizeof(jb_table) == 1040 && sizeof(jb_run) == 1876, "table and record have other sizes");
+    must(jb_version() == 4, "the interface is not number 4");
+    must(sizeof(jb_table) == 1296 && sizeof(jb_run) == 2132 && sizeof(jb_row) == 20, "table, record and row have other sizes");
     record_of_true_supplies();
     real_deadlines();
     window_only();
@@ -1009,12 +1147,15 @@ int main(void) {
     lagging();
     too_much();
     late_previews();
+    promised_parts();
     loading_slots();
     ended_while_loading();
     loads_longer();
     given_up();
     restored();
     stored_before();
+    stored_by_3();
+    allowance_stack();
     sheet_of_record();
     list_of_jobs();
     least_speeds();

@@ -18,7 +18,9 @@ fail() { echo "firmware page: $*" >&2; exit 1; }
 sed -n '/^```c$/,/^```$/p' docs/FIRMWARE.md | sed '1d;$d' >"$built/listing.c"
 
 warnings='-Wall -Wextra -Werror -pedantic -Wmissing-prototypes'
-gcc -std=c11 $warnings -O2 -Ic -c -o "$built/test.o" tools/firmware_test.c
+stack=$(sed -n 's/^ \* count on \([0-9,]*\) bytes\.$/\1/p' c/jasminebrace.h | tr -d ,)
+[ -n "$stack" ] || fail "the header does not state the stack of a look at an allowance"
+gcc -std=c11 $warnings -O2 -Ic -DALLOWANCE_STACK="$stack" -c -o "$built/test.o" tools/firmware_test.c
 gcc -std=c11 $warnings -O2 -Ic -c -o "$built/listing.o" "$built/listing.c"
 gcc -o "$built/test" "$built/test.o" "$built/listing.o" "$archive"
 "$built/test" || fail "the listing, or what the page says, fails"
@@ -53,6 +55,7 @@ spoil 'board_run_until_tick(row);
 '
 spoil 'if (jb_is_done(run, row) && !board_ended(row)) {' 'if (0) {'
 spoil '&& !jb_is_late(run, row)' ''
+spoil 'jb_has_promised(run, row));' 'jb_is_done(run, row));'
 # Of several rows that a slot closes, only the first is told, or none that did not run; a row is told twice.
 spoil '            tell_closing(run, row);
         }' '            tell_closing(run, row);
@@ -99,7 +102,6 @@ objdump -f "$archive" | grep -q 'file format elf64-x86-64' || fail "the archive 
 # What the header says under "Bare boards": xmm registers and nothing beyond SSE2 but tzcnt, which is bsf to older processors; and nothing kept
 # below the stack pointer but by the calls that plan.
 code() { objdump -d --no-show-raw-insn "$1" | sed -nE 's/^ *[0-9a-f]+:[[:space:]]+//p'; }
-below_stack() { grep -E -- '-0x[0-9a-f]+\(%rsp|^mov +%rsp,%rbp' "$1"; } # a frame pointer would hide the offsets
 code "$archive" >"$built/code"
 [ "$(wc -l <"$built/code")" -gt 1000 ] || fail "the archive's code is not found"
 grep -q '%xmm' "$built/code" || fail "the header says that xmm registers are used, and none is"
@@ -111,11 +113,9 @@ later="$later|extractps|insertps|pm(in|ax)(sb|sd|uw|ud)|pmul(ld|dq)|pmov[sz]x|pt
 if grep -E "^($later)" "$built/code" >"$built/found"; then
     fail "the archive has instructions beyond SSE2: $(head -n 1 "$built/found")"
 fi
-python3 tools/red_zone.py "$archive" || fail "the archive keeps other values below the stack pointer than the header says"
+# A function that gcc makes use the red zone must be noticed beside the archive's.
 echo 'int leaf(int x); int leaf(int x) { volatile int a[4]; a[x & 3] = x; return a[0]; }' >"$built/leaf.c"
 gcc -std=c11 -O2 -mred-zone -fomit-frame-pointer -c -o "$built/leaf.o" "$built/leaf.c"
-code "$built/leaf.o" >"$built/leaf"
-below_stack "$built/leaf" >/dev/null || fail "a red zone in use is not noticed"
-python3 tools/red_zone.py "$built/leaf.o" >/dev/null && fail "a red zone in use is not noticed by tools/red_zone.py"
+python3 tools/red_zone.py "$archive" "$built/leaf.o" || fail "the archive keeps other values below the stack pointer than the header says"
 echo "the archive's code uses xmm registers, nothing beyond SSE2 but tzcnt, and keeps nothing below the stack pointer but where it plans"
 echo "firmware page: every claim holds, $spoilt spoilt listings noticed"

@@ -15,8 +15,10 @@ SPEEDS    the lines of `jasminebrace speeds --plain`, as a file: the least G of 
 
 Says what is wrong and ends with 1, or ends with 0. Every picture is well formed and has a title and a description for screen readers, no two
 words overlap and none leaves the picture. In that of a run every closing of the command is told once and has the one mark of its kind at its
-clock, each row's bars stand in the slots that it ran, as loading ones in its loading slots and nowhere else, loading and rows dropped at their
-deadlines are in the legend exactly if there are any, and the row asked about is marked; in its worst run it closes at its worst finish. In that
+clock, each row's bars stand in the slots that it ran, as loading ones in its loading slots and nowhere else, a promised part has its flag at the
+clock at which the command says that it is got and dashed edges around the slots up to there, loading, promised parts and rows dropped at their
+deadlines are in the legend exactly if there are any, and the row asked about is marked; in its worst run it closes at its worst finish, or has got
+its promised part when that is due at exactly G. In that
 of speeds the axes have their units and round ticks, the line has the command's slack at each G, or the G is said to be off the
 scale, the least workable G is marked with its figure, and so is the least G at which the order is correct if that is another, at which the
 ground of the G that are not enough ends, and the tightest rows stand in their speeds.
@@ -37,12 +39,13 @@ from pictures.measures import FONT, width_of
 SVG = "{http://www.w3.org/2000/svg}"
 OUTCOMES = {1: "done", 2: "dropped", 3: "late", 4: "dropped at deadline", 5: "dropped at deadline"}
 WRONG = "#b00020"  # what marks of rows that are not done in time are drawn in
+PROMISED = "#5b21b6"  # what flags and edges of promised parts are drawn in
 NEAR = 0.3  # pixels by which a place may differ, since coordinates are rounded
 NARROWEST = 0.8  # width in pixels of a bar that would be narrower
 
-# A stretch of slots as the command tells it: its first slot, slots, row, how the row closed, and loading slots, which are its first ones. One
-# of no slots is a row that was dropped at its deadline while another one ran.
-Stretch = namedtuple("Stretch", "first count row how loading")
+# A stretch of slots as the command tells it: its first slot, slots, row, how the row closed, loading slots, which are its first ones, and the
+# clock at which the row got its promised part, 0 if not in it. One of no slots is a row that was dropped at its deadline while another one ran.
+Stretch = namedtuple("Stretch", "first count row how loading promised")
 # How a row closed, and at which clock in slots, 0 while it is open.
 Closing = namedtuple("Closing", "how clock")
 
@@ -86,14 +89,18 @@ def run_faults(root, asked, sheet, ran):
     told = root.find(SVG + "desc")
     lanes = [lane for lane in root.iter(SVG + "g") if lane.find(SVG + "title") is not None]
     worst = root.find(SVG + "title").text.startswith("Worst run of row ")
-    loading, deadlines = figures_of(sheet)
+    for_promise = worst and " for its promised part: " in root.find(SVG + "title").text
+    loading, deadlines, parts = figures_of(sheet)
     stretches = stretches_of(ran)
     closings = {row_of(lane): closing_of(row_of(lane), stretches, deadlines, worst) for lane in lanes}
     yield from closing_faults(closings, told.text, lanes)
     yield from mark_of_closing_faults(closings, axis(root), root, lanes)
     yield from bar_faults(stretches, axis(root), lanes)
     yield from loading_faults(stretches, loading, root, lanes)
-    if worst:
+    yield from promise_faults(stretches, parts, axis(root), root, lanes)
+    if for_promise:
+        yield from promise_run_faults(asked, lanes)
+    elif worst:
         yield from worst_run_faults(closings[asked], asked, lanes)
     marked = [row_of(lane) for lane in lanes if any(text.get("font-weight") == "bold" for text in lane.iter(SVG + "text"))]
     if marked != ([asked] if asked else []):
@@ -110,10 +117,10 @@ def stretches_of(ran):
 
 
 def figures_of(sheet):
-    """K of a sheet, and the deadline of each row, both in slots."""
+    """K of a sheet and the deadline of each row, both in slots, and the promised part of each row in work units."""
     with open(sheet, encoding="ascii") as file:
-        first, *rows = [[int(line[at : at + 8]) for at in range(0, 32, 8)] for line in file.read().splitlines()]
-    return first[3], {row: line[2] for row, line in enumerate(rows, 1)}
+        first, *rows = [[int(line[at : at + 8]) for at in range(0, len(line), 8)] for line in file.read().splitlines()]
+    return first[3], {row: line[2] for row, line in enumerate(rows, 1)}, {row: line[4] for row, line in enumerate(rows, 1)}
 
 
 def closing_of(row, stretches, deadlines, worst):
@@ -233,6 +240,49 @@ def loading_faults(stretches, loading, root, lanes):
     patterns = sum(1 for pattern in root.iter(SVG + "pattern") if pattern.get("id").endswith("-loading"))
     if (named, patterns) != ((1, 2) if loading else (0, 0)):
         yield f"with K {loading} the legend names loading {named} times, and there are {patterns} patterns for it"
+
+
+def expected_edges(stretches, row, clock, x):
+    """Left and right of each dashed edge of a row that gets its promised part at this clock, 0 if it does not."""
+    for part in stretches:
+        working, after = part.first + part.loading, part.first + part.count
+        end = min(after, clock) if clock else after
+        if part.row == row and working < end:
+            yield x(working), x(end)
+
+
+def promise_faults(stretches, parts, x, root, lanes):
+    """Each promised part: its flag, its edges and its words, exactly if the row has one; and its two entries in the legend."""
+    for lane in lanes:
+        row, words = row_of(lane), lane.find(SVG + "title").text
+        clock = max((part.promised for part in stretches if part.row == row), default=0)
+        drawn = [corners_of(path) for path in lane.iter(SVG + "path") if path.get("stroke") == PROMISED and path.get("stroke-dasharray")]
+        edges = [(corners[0][0], corners[1][0]) for corners in drawn]
+        expected = list(expected_edges(stretches, row, clock, x)) if parts[row] else []
+        if len(edges) != len(expected) or any(abs(a - b) > NEAR for one, other in zip(edges, expected) for a, b in zip(one, other)):
+            yield f"row {row} has the promised edges {edges} and not {expected}"
+        flags = [corners_of(path)[0][0] for path in lane.iter(SVG + "path") if path.get("fill") == PROMISED]
+        poles = [float(line.get("x1")) for line in lane.iter(SVG + "line") if line.get("stroke") == PROMISED]
+        if [round(place) for place in flags] != [round(place) for place in poles] or len(flags) != (clock != 0):
+            yield f"row {row} has its promised part at {clock}, and flags at {flags} on poles at {poles}"
+        elif clock and abs(flags[0] - x(clock)) > NEAR:
+            yield f"row {row} has its promised part at {clock}, and its flag at {flags[0]}"
+        got = f"got after {clock:,} slot" if clock else "not got in this run"
+        said = f"; promised part {parts[row]:,} work unit{'' if parts[row] == 1 else 's'}, {got}"
+        if (said in words) != (parts[row] != 0) or ("; promised part" in words) != (parts[row] != 0):
+            yield f"of row {row} {parts[row]} work units are promised, {got}, and its lane says: {words}"
+    legend = ("slots that bring the promised part", "the promised part is got")
+    named = [sum(1 for text in root.iter(SVG + "text") if text.text.startswith(entry)) for entry in legend]
+    if named != ([1, 1] if any(parts.values()) else [0, 0]):
+        yield f"the legend names promised parts {named} times"
+
+
+def promise_run_faults(asked, lanes):
+    """In the run at exactly G a row gets its promised part when it is due at exactly G."""
+    told = next(lane.find(SVG + "title").text for lane in lanes if row_of(lane) == asked)
+    due = re.search("; promised part [^;]*, got after ([0-9,]+) slots?, at exactly G after ([0-9,]+) slots?; ", told)
+    if not due or due.group(1) != due.group(2):
+        yield f"row {asked} does not get its promised part when it is due: {told}"
 
 
 # ---- pictures of speeds ----
@@ -373,7 +423,7 @@ def speed_faults(root, sheet, slacks, speeds):
     with open(speeds, encoding="ascii") as file:
         best = int(file.readline()[8:16])
     with open(sheet, encoding="ascii") as file:
-        high = {row: line.endswith("1") for row, line in enumerate(file.read().splitlines())}
+        high = {row: line[24:32].endswith("1") for row, line in enumerate(file.read().splitlines())}
     places = slack_places(root)
     yield from axis_faults(root, places)
     x, y = columns(root, len(verdicts)), between(places)

@@ -27,6 +27,7 @@ stored_as wrong-order.svg samples/p1.sheet --row 1 --order 4,3,2,1
 stored_as loading-run.svg samples/loading.sheet --row 1
 stored_as least-speed.svg samples/warm.sheet --speeds
 stored_as late-preview.svg samples/late-preview.sheet --supplies 4x4 2x3 8x2
+stored_as promised-part.svg samples/promise.sheet --promise 2
 
 # Other sizes. The shapes of a picture do not grow with its slots.
 looked=0
@@ -38,7 +39,8 @@ looks_right() { # most shapes and words, row asked about (0: none), order, suppl
     cp "$sheet" "$made/worked.sheet"
     case " $* " in
         *' --supplies '*) ;;
-        *' --row '*) awk '{ printf "%8d%8d%8d%8d\n", $1, $2, (NR > 1 && $4 == 0 ? 1000000 : $3), $4 }' "$sheet" >"$made/worked.sheet" ;;
+        *' --row '* | *' --promise '*)
+            awk 'NR == 1; NR > 1 { printf "%8d%8d%8d%8d%8d\n", $1, $2, $4 == 0 ? 1000000 : $3, $4, $5 }' "$sheet" >"$made/worked.sheet" ;;
     esac
     # shellcheck disable=SC2086
     "$command" run --plain --stretches --order "$order" "$made/worked.sheet" $supplies >"$made/stretches"
@@ -89,7 +91,8 @@ looks_right 180 0 1 '8x5' "$made/later.sheet" --supplies 8x5
 eight=$(planned "$made/eight.sheet")
 looks_right 400 6 "$eight" 400x25 "$made/eight.sheet" --row 6
 looks_right 400 0 8,7,6,5,4,3,2,1 2000000x24 "$made/eight.sheet" --order 8,7,6,5,4,3,2,1 --supplies 2000000x24
-awk '{ printf "%8d%8d%8d%8d\n", $1, $2, NR == 1 ? $3 : $3 + 150, NR == 1 ? 1 : $4 }' samples/rows64.sheet >"$made/rows64.sheet"
+awk 'NR == 1 { printf "%8d%8d%8d%8d\n", $1, $2, $3, 1 } NR > 1 { printf "%8d%8d%8d%8d%8d\n", $1, $2, $3 + 150, $4, $5 }' samples/rows64.sheet \
+    >"$made/rows64.sheet"
 rows64=$(planned "$made/rows64.sheet")
 looks_right 2300 30 "$rows64" 500x12 "$made/rows64.sheet" --row 30
 
@@ -110,6 +113,27 @@ looks_right 150 2 1,2 1000000x1 "$made/patient.sheet" --order 1,2 --row 2
 looks_right 150 0 1,2 1000000x1 "$made/patient.sheet" --order 1,2
 "$command" sheet 1 1 0 0,1000000,1000000,1 0,5,10,0 0,5,1000000,1 >"$made/patient.sheet"
 looks_right 200 3 1,2,3 1000000x1 "$made/patient.sheet" --order 1,2,3 --row 3
+
+# Promised parts: got, not got, by the last slot of a stretch, of all the work, with loading, beside a drop at the deadline, in the worst runs of
+# the row and of others, of 64 rows and in a million slots.
+looks_right 320 2 1,2,4,3 14x2 samples/promise.sheet --promise 2
+looks_right 320 2 1,2,4,3 12x4 samples/promise.sheet --row 2
+looks_right 320 4 1,2,4,3 20x2 samples/promise.sheet --row 4
+looks_right 320 0 1,2,4,3 '3x4 14x2' samples/promise.sheet --supplies 3x4 14x2
+looks_right 320 0 1,2,4,3 20x1 samples/promise.sheet --supplies 20x1
+looks_right 320 2 3,1,2,4 20x0 samples/promise.sheet --order 3,1,2,4 --row 2 --supplies 20x0
+"$command" sheet 4 2 2 0,12,30,LO,12 1,4,17,HI,0 6,4,25,LO,1 >"$made/promise.sheet"
+promise=$(planned "$made/promise.sheet")
+looks_right 320 1 "$promise" 40x2 "$made/promise.sheet" --promise 1
+looks_right 320 3 "$promise" 40x2 "$made/promise.sheet" --promise 3
+looks_right 320 0 "$promise" '4x3 9x4' "$made/promise.sheet" --supplies 4x3 9x4
+awk 'NR == 1; NR > 1 { printf "%8d%8d%8d%8d%8d\n", $1, $2, $3 + 150, $4, $4 == 0 ? int($2 / 2) : 0 }' samples/rows64.sheet >"$made/rows64.sheet"
+rows64=$(planned "$made/rows64.sheet")
+low=$(awk 'NR > 1 && $4 == 0 { print NR - 1; exit }' "$made/rows64.sheet")
+looks_right 2600 "$low" "$rows64" 500x12 "$made/rows64.sheet" --promise "$low"
+"$command" sheet 10 7 0 0,1000000,200000,LO,700000 5,70,1000000,HI >"$made/long-promise.sheet"
+looks_right 200 1 2,1 200000x7 "$made/long-promise.sheet" --order 2,1 --promise 1
+looks_right 200 0 1,2 '50000x10 40000x7' "$made/long-promise.sheet" --order 1,2 --supplies 50000x10 40000x7
 
 # How slow the processor may be, under the order at the least G or another one.
 speeds_look_right() { # most shapes and words, sheet, order to give, if any
@@ -134,6 +158,8 @@ speeds_look_right 150 samples/p3.sheet
 speeds_look_right 150 samples/cooler.sheet
 speeds_look_right 150 samples/cooler.sheet 1,2
 grep -qF 'The order 2 1 is correct from G = 19 work units per slot on.' "$made/picture.svg" || fail "the order that does better is not named"
+speeds_look_right 150 samples/promise.sheet
+speeds_look_right 150 samples/promise.sheet 1,4,2,3
 speeds_look_right 150 samples/warm.sheet 5,6,1,3,4,2
 speeds_look_right 150 samples/warm.sheet 5,3,6,1,4,2
 speeds_look_right 200 samples/rows64.sheet
@@ -187,6 +213,21 @@ spoilt_is_noticed '(<path d="M)[0-9.]*,[0-9.]* ([^"]*" fill="#b00020")' '\g<1>9,
 spoilt_is_noticed '(<line [^>]*stroke=")#b00020' '\1#1f2328' '^.*: row 5 is dropped at 14, and has the marks'
 spoilt_is_noticed '<circle [^>]* r="4.4" [^>]*/>' '' '^.*: row 1 is done at 6, and has the marks'
 spoilt_is_noticed '<text [^>]*>dropped at its deadline: [^<]*</text>' '' '^.*: the legend names rows dropped at their deadlines 0 times'
+# Promised parts: an edge or a flag at another place, too few of them, words, and the legend.
+spoilt_from=docs/promised-part.svg
+spoilt_test=(320 2 samples/promise.sheet "$made/stretches")
+awk 'NR == 1; NR > 1 { printf "%8d%8d%8d%8d%8d\n", $1, $2, $4 == 0 ? 1000000 : $3, $4, $5 }' samples/promise.sheet >"$made/worked.sheet"
+"$command" run --plain --stretches --order 1,2,4,3 "$made/worked.sheet" 14x2 >"$made/stretches"
+python3 tools/picture_test.py docs/promised-part.svg "${spoilt_test[@]}" || fail "docs/promised-part.svg"
+spoilt_is_noticed '<path d="[^"]*" fill="none" stroke="#5b21b6"[^>]*/>' '' '^.*: row 2 has the promised edges'
+spoilt_is_noticed '<path d="M[0-9.]*(,[^"]*" fill="none" stroke="#5b21b6")' '<path d="M9\1' '^.*: row 2 has the promised edges'
+spoilt_is_noticed '<path [^>]*fill="#5b21b6"[^>]*/>' '' '^.*: row 2 has its promised part at 10, and flags'
+spoilt_is_noticed '<line [^>]*stroke="#5b21b6"[^>]*/>' '' '^.*: row 2 has its promised part at 10, and flags'
+spoilt_is_noticed '<line x1="[0-9.]*"([^>]*stroke="#5b21b6")' '<line x1="9"\1' '^.*: row 2 has its promised part at 10, and flags'
+spoilt_is_noticed '(<g><title>Place 2: .*promised part) 12' '\1 13' '^.*: of row 2 12 work units are promised'
+spoilt_is_noticed '(<g><title>Place 2: .*)promised part [^;]*; ' '\1' '^.*: of row 2 12 work units are promised'
+spoilt_is_noticed '(<g><title>Place 2: .*at exactly G after) 10' '\1 11' '^.*: row 2 does not get its promised part when it is due'
+spoilt_is_noticed '<text [^>]*>the promised part is got</text>' '' '^.*: the legend names promised parts'
 spoilt_from=docs/least-speed.svg
 spoilt_test=(150 --speeds samples/warm.sheet "$made/slacks" "$made/speeds")
 "$command" speeds --slacks --plain samples/warm.sheet >"$made/slacks"
@@ -239,13 +280,17 @@ refuses() { # status, what is in the words, arguments of draw.py before the outp
     refused=$((refused + 1))
 }
 said_by() { "$command" "$@" 2>&1 >"$made/out" || true; }
-printf '       1       2       3       0\n       0      20      10       1\n' >"$made/speeds.sheet"
-printf '       1       2       1      17\n       0      20      10       1\n' >"$made/loading.sheet"
+printf '       1       2       3       0\n       0      20      10       1       0\n' >"$made/speeds.sheet"
+printf '       1       2       1      17\n       0      20      10       1       0\n' >"$made/loading.sheet"
+printf '       1       2       1       0\n       0      20      10       1       1\n' >"$made/promised.sheet"
+printf '       1       2       1       0\n       0      20      10       1\n' >"$made/before-promised.sheet"
 printf '       1       2       1\n       0      20      10       1\n' >"$made/before.sheet"
 refuses 1 "$(said_by plan --plain samples/p3.sheet)" samples/p3.sheet --row 1
 refuses 2 "$(said_by plan --plain "$made/speeds.sheet")" "$made/speeds.sheet" --row 1
 refuses 2 "$(said_by plan --plain "$made/loading.sheet")" "$made/loading.sheet" --row 1
 refuses 2 "$(said_by plan --plain "$made/before.sheet")" "$made/before.sheet" --row 1
+refuses 2 "$(said_by plan --plain "$made/promised.sheet")" "$made/promised.sheet" --row 1
+refuses 2 "$(said_by plan --plain "$made/before-promised.sheet")" "$made/before-promised.sheet" --row 1
 refuses 2 "$(said_by finishes --plain samples/p1.sheet 1,1,2,3)" samples/p1.sheet --order 1,1,2,3
 refuses 2 "number 8" samples/p1.sheet --supplies 2000001x1
 refuses 3 "$(said_by plan --plain "$made/missing.sheet")" "$made/missing.sheet"
@@ -259,6 +304,11 @@ refuses 3 "do not go with it" samples/p1.sheet --speeds --row 1
 refuses 3 "do not go with it" samples/p1.sheet --supplies 5 --speeds
 refuses 3 "is given twice" samples/p1.sheet --speeds --speeds
 refuses 3 "nothing follows --order" samples/p1.sheet --order --speeds
+refuses 3 "do not go with it" samples/promise.sheet --speeds --promise 2
+refuses 3 "do not go together" samples/promise.sheet --row 2 --promise 2
+refuses 3 "nothing is promised of row 1" samples/promise.sheet --promise 1
+refuses 3 "nothing is promised of row 3" samples/promise.sheet --promise 3
+refuses 3 "no row 5" samples/promise.sheet --promise 5
 refuses 3 "no row 5" samples/p1.sheet --row 5
 refuses 3 "no row number" samples/p1.sheet --row third
 refuses 3 "nothing follows --supplies" samples/p1.sheet --supplies

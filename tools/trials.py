@@ -1,5 +1,5 @@
 #!/usr/bin/env python3
-"""A trial divides nothing, and a planning works out each need once, before its trials: looks through the source, from the loop that tries
+"""A trial divides nothing, and a planning works out each need once, before its trials: looks through the source, from the loops that try
 the rows of a place, from the loop that fills the places and from the whole planning down through every crate that they call.
 
     trials.py              looks through crates/*/src, and lists the ways of calls from planning to needs
@@ -11,13 +11,13 @@ in what `use` brings, and that of a method to all in every crate. So more is loo
   - what a trial or the filling of a place comes to divides, takes a remainder or names NEED;
   - a name that is called, or a path, there or in what PLAN comes to, leads to nothing in these sources and is not among the operations
     built into the language, or leads to a function without a body;
-  - TRIAL, PLACES, PLAN, SWEEP or NEED is not one function, or TRIAL or PLACES has no loop;
-  - the loop of TRIAL calls nothing; TRIAL is called outside of the loops of PLACES, or not in them; SWEEP is called outside of TRIAL, or not
-    in it;
+  - TRIAL, LOW, PART, PLACES, PLAN, SWEEP, MOMENT or NEED is not one function, or TRIAL, LOW or PLACES has no loop;
+  - the loop of TRIAL calls nothing; LOW is called outside of the loops of PLACES, TRIAL outside of those of PLACES and LOW, PART outside of
+    those of LOW, or SWEEP outside of TRIAL; or one of these is not called in each of the places named; or PART does not call MOMENT;
   - PLAN does not come to PLACES;
-  - PLAN comes to NEED in a function that is not among ASKING, or in one of these by no way of calls or by more than one; or around
-    the calls of such a way there is no loop, or another besides the one over the rows; or what PLAN comes to calls itself: then ways have
-    no end;
+  - PLAN comes to NEED in a function that is not among ASKING, or in one of these for another column than it is for; or for one of these
+    columns by no way of calls or by more than one; or around the calls of such a way there is no loop, or another besides the one over the
+    rows; or what PLAN comes to calls itself: then ways have no end;
   - a function's end or a contract is not understood.
 
 That one loop takes each row once is not looked at here: contracts say what it leaves of each row.
@@ -37,15 +37,20 @@ sys.dont_write_bytecode = True
 
 from entries import after_group, blanked, copied, functions_of
 
-# Its loop tries the rows of a place; the loop of the second fills the places; the third is the whole planning.
+# The loop of the first tries the rows of a place at one speed; that of the second tries the LO rows and asks each for its promised part, by the
+# third; the loop of the fourth fills the places; the fifth is the whole planning.
 TRIAL = "planner::first_in_time"
+LOW = "planner::first_low"
+PART = "planner::part_in_time"
 PLACES = "planner::choose"
 PLAN = "planner::plan"
-# The pass over the rows left that finds a finish, and the need of a job.
+# The passes over the rows left that find finishes and a promised moment, and the need of a job.
 SWEEP = "planner::renew"
+MOMENT = "sweep::part_finish"
 NEED = "checks::need"
-# Where a planning works out needs: each row's at N, and a HI row's at G.
-ASKING = ("sweep::needs", "sweep::degraded_cap")
+# Where a planning works out needs, and what is handed over there to have its need worked out: each row's work (at N), each row's promised part
+# (at G), and a HI row's work (at G).
+ASKING = (("sweep::needs", "&t.work"), ("sweep::needs", "&t.promised"), ("sweep::degraded_cap", "work[i]"))
 
 # All that the language has besides functions of its crates; none of it divides.
 BUILT_IN = re.compile(r"[iu](8|16|32|64|size)::(MAX|MIN|leading_zeros|trailing_zeros|count_ones)|\.len")
@@ -141,6 +146,24 @@ def shown(way):
     return " > ".join(f"{part.name}:{part.line(at)}" for part, at in way)
 
 
+def said(asking):
+    return f"{asking[0]} for {asking[1]}"
+
+
+def handed(way):
+    """What the last but one call of a way hands over to the function that calls the need."""
+    if len(way) < 2:
+        return []
+    part, at = way[-2]
+    start = part.code.index("(", at)
+    return [value.strip() for value in part.code[start + 1 : after_group(part.code, start) - 1].split(",")]
+
+
+def asking(way):
+    """Which of ASKING a way comes to, if any."""
+    return [(name, column) for name, column in ASKING if way[-1][0].name == name and column in handed(way)]
+
+
 class Trials:
     """The sources, the parts that trials come to, the ways from planning to the need, and the faults found so far."""
 
@@ -170,23 +193,31 @@ class Trials:
         return found[0] if len(found) == 1 else None
 
     def check(self):
-        trial, places, plan, sweep, need = [self.named(name) for name in (TRIAL, PLACES, PLAN, SWEEP, NEED)]
-        if None not in (trial, places, plan, sweep, need):
-            self.check_starts(trial, places, sweep)
-            self.check_trials([trial, *places.loops()])
-            self.check_planning(plan, places)
-            self.check_needs(plan)
+        named = {name: self.named(name) for name in (TRIAL, LOW, PART, PLACES, PLAN, SWEEP, MOMENT, NEED)}
+        if None not in named.values():
+            self.check_starts(named)
+            self.check_trials([named[TRIAL], named[LOW], named[PART], *named[PLACES].loops()])
+            self.check_planning(named[PLAN], named[PLACES])
+            self.check_needs(named[PLAN])
         return self.faults
 
-    def check_starts(self, trial, places, sweep):
+    def check_starts(self, named):
         """The trials are where this search starts, and nowhere else."""
-        for part in (trial, places):
-            if not part.loops():
-                self.fault(part.where(part.start), f"{part.name} has no loop")
+        trial, low, part, places = named[TRIAL], named[LOW], named[PART], named[PLACES]
+        for looping in (trial, low, places):
+            if not looping.loops():
+                self.fault(looping.where(looping.start), f"{looping.name} has no loop")
         if trial.loops() and not any(self.next(loop) for loop in trial.loops()):
             self.fault(trial.where(trial.start), f"the loop of {TRIAL} calls nothing")
-        self.check_callers(trial, places.loops(), f"the loops of {PLACES}")
-        self.check_callers(sweep, [trial], TRIAL)
+        self.check_callers(low, places.loops(), f"the loops of {PLACES}")
+        self.check_callers(trial, [*places.loops(), *low.loops()], f"the loops of {PLACES} and {LOW}")
+        for looping in (places, low):
+            if looping.loops() and not any(self.calls(loop, trial) for loop in looping.loops()):
+                self.fault(looping.where(looping.start), f"{TRIAL} is not called in the loops of {looping.name}")
+        self.check_callers(part, low.loops(), f"the loops of {LOW}")
+        self.check_callers(named[SWEEP], [trial], TRIAL)
+        if not self.calls(part, named[MOMENT]):
+            self.fault(part.where(part.start), f"{MOMENT} is not called in {PART}")
 
     def check_callers(self, called, callers, said):
         """A function is called in these parts, and nowhere else."""
@@ -228,15 +259,16 @@ class Trials:
         self.needs = list(self.ways(plan, (plan,), ()))
         for way in self.needs:
             part, at = way[-1]
-            if part.name not in ASKING:
-                self.fault(part.where(at), f"{part.name} works out needs of a planning besides {' and '.join(ASKING)}: {shown(way)}")
+            if not asking(way):
+                known = ", ".join(said(each) for each in ASKING)
+                self.fault(part.where(at), f"{part.name} works out needs of a planning besides {known}: {shown(way)}")
             loops = sum(loop.start <= at < loop.end for part, at in way for loop in part.loops())
             if loops != 1:
                 self.fault(part.where(at), f"{loops} loops, not one, are around a need: {shown(way)}")
-        for name in ASKING:
-            ways = [shown(way) for way in self.needs if way[-1][0].name == name]
+        for each in ASKING:
+            ways = [shown(way) for way in self.needs if each in asking(way)]
             if len(ways) != 1:
-                self.fault("crates", f"{len(ways)} ways, not one, lead from {PLAN} to {NEED} in {name}: {'; '.join(ways) or 'none'}")
+                self.fault("crates", f"{len(ways)} ways, not one, lead from {PLAN} to {NEED} in {said(each)}: {'; '.join(ways) or 'none'}")
 
     def followed(self, starts):
         """Every part that these may come to, they among them, each with the names on the way there."""
@@ -356,7 +388,8 @@ def edits():
     """Name of a fault, what puts it into a copy, and the pieces of what must be said of it."""
     crate, sweep = SWEEP.split("::")
     planner, trial = TRIAL.split("::")
-    rows, high = ASKING
+    (rows, _), _, (high, _) = ASKING
+    works, parts, highs = map(said, ASKING)
     hidden = "fn hidden(work: u32) -> u32\n    ensures { λ r. ⌜ r ≡ r ⌝ }\n{\n    checks::need(0, work, 1)\n}"
     halved = "impl Table { fn halved(self) -> u32 { self.n / 2 } }"
     return [
@@ -395,24 +428,43 @@ def edits():
         ("the trial under another name", [changed(TRIAL, lambda a, body, b: a.replace(f"fn {trial}", "fn other") + body + b)],
          f"there are 0 functions {TRIAL}, not one"),
         ("two trials of one name", [added(planner, f"mod more {{ fn {trial}() {{}} }}")], f"there are 2 functions {TRIAL}, not one"),
+        ("a need in the question for a part", [first(PART, "checks::need(0, 1, 1);")],
+         f"a trial works out a need (checks::need): {PART}"),
+        ("a division in the pass for a moment", [first(MOMENT, "let a = 7 / 2;")], f"a trial divides (/): .. > {MOMENT}"),
+        ("a remainder beside the question for parts", [looped(LOW, "let a = 7 % 2;")], f"a trial divides (%): {LOW}"),
+        ("needs of all parts in a trial", [looped(LOW, "sweep::needs(n, 0, promised, 1);")],
+         f"a trial works out a need (checks::need): {LOW} > {rows}"),
+        ("parts that no pass is made for", [becomes(PART, "{ true }")], f"{MOMENT} is not called in {PART}"),
+        ("parts that are not asked for", [becomes(LOW, "{ while true { first_in_time(t); } }")], f"{PART} is not called in the loops of {LOW}"),
+        ("a part asked for elsewhere", [looped(PLACES, "part_in_time(t);")], f"{PLACES} calls {PART} outside of the loops of {LOW}"),
+        ("LO rows tried elsewhere", [first(PLAN, "first_low(t);")], f"{PLAN} calls {LOW} outside of the loops of {PLACES}"),
+        ("LO rows without a loop", [becomes(LOW, "{ }")], f"{LOW} has no loop"),
+        ("LO rows that are not tried", [becomes(LOW, "{ while true { part_in_time(t); } }")], f"{TRIAL} is not called in the loops of {LOW}"),
         ("a trial without a loop", [becomes(TRIAL, "{ checks::and_then() }")], f"{TRIAL} has no loop"),
         ("a trial that calls nothing", [becomes(TRIAL, "{ while true { rules::Check::Passed; } }")], f"the loop of {TRIAL} calls nothing"),
         ("a trial that does not sweep", [becomes(TRIAL, "{ while true { checks::and_then(); } }")], f"{SWEEP} is not called in {TRIAL}"),
         ("a sweep elsewhere", [looped(PLACES, f"{sweep}(t);")], f"{PLACES} calls {SWEEP} outside of {TRIAL}"),
         ("a sweep from another crate", [first("judge::timed", f"{crate}::{sweep}(t);")], f"judge::timed calls {SWEEP} outside of {TRIAL}"),
-        ("a trial elsewhere", [first(PLAN, f"{trial}(t);")], f"{PLAN} calls {TRIAL} outside of the loops of {PLACES}"),
-        ("a trial before the places", [first(PLACES, f"{trial}(t);")], f"{PLACES} calls {TRIAL} outside of the loops of {PLACES}"),
+        ("a trial elsewhere", [first(PLAN, f"{trial}(t);")], f"{PLAN} calls {TRIAL} outside of the loops of {PLACES} and {LOW}"),
+        ("a trial before the places", [first(PLACES, f"{trial}(t);")], f"{PLACES} calls {TRIAL} outside of the loops of {PLACES} and {LOW}"),
         ("places without trials", [becomes(PLACES, "{ while true {} }")], f"{TRIAL} is not called in the loops of {PLACES}"),
         ("places without a loop", [becomes(PLACES, "{ }")], f"{PLACES} has no loop"),
         ("a planning without places", [becomes(PLAN, "{ }")], f"{PLAN} does not come to {PLACES}"),
-        ("a planning without needs", [becomes(PLAN, "{ }")], f"0 ways, not one, lead from {PLAN} to {NEED} in {rows}"),
-        ("needs at N twice", [first(PREPARE, "let a = sweep::needs(1);")], f"2 ways, not one, lead from {PLAN} to {NEED} in {rows}"),
-        ("a preparation twice", [first(PLACES, "let a = prepare(t);")], f"2 ways, not one, lead from {PLAN} to {NEED} in {high}"),
-        ("a row's need twice", [looped(rows, "checks::need(0, 1, 1);")], f"2 ways, not one, lead from {PLAN} to {NEED} in {rows}"),
-        ("a HI row's need twice", [first(high, "checks::need(0, 1, 1);")], f"2 ways, not one, lead from {PLAN} to {NEED} in {high}"),
+        ("a planning without needs", [becomes(PLAN, "{ }")], f"0 ways, not one, lead from {PLAN} to {NEED} in {works}"),
+        ("needs of works twice", [first(PREPARE, "let a = sweep::needs(t.n, t.loading, &t.work, t.normal);")],
+         f"2 ways, not one, lead from {PLAN} to {NEED} in {works}"),
+        ("needs of works at G too", [first(PREPARE, "let a = sweep::needs(t.n, t.loading, &t.work, t.degraded);")],
+         f"2 ways, not one, lead from {PLAN} to {NEED} in {works}"),
+        ("needs of parts twice", [first(PREPARE, "let a = sweep::needs(t.n, t.loading, &t.promised, t.degraded);")],
+         f"2 ways, not one, lead from {PLAN} to {NEED} in {parts}"),
+        ("needs of another column", [first(PREPARE, "let a = sweep::needs(t.n, t.loading, &t.deadline, t.normal);")],
+         f"{rows} works out needs of a planning besides {works}, {parts}, {highs}: {PLAN}"),
+        ("a preparation twice", [first(PLACES, "let a = prepare(t);")], f"2 ways, not one, lead from {PLAN} to {NEED} in {highs}"),
+        ("a row's need twice", [looped(rows, "checks::need(0, 1, 1);")], f"2 ways, not one, lead from {PLAN} to {NEED} in {works}"),
+        ("a HI row's need twice", [first(high, "checks::need(0, 1, 1);")], f"2 ways, not one, lead from {PLAN} to {NEED} in {highs}"),
         ("a need in the preparation", [first(PREPARE, "checks::need(0, 1, 1);")],
-         f"{PREPARE} works out needs of a planning besides {rows} and {high}: {PLAN}"),
-        ("needs at N in a loop", [becomes(PREPARE, "{ while true { sweep::needs(1); } sweep::degraded_caps(1) }")],
+         f"{PREPARE} works out needs of a planning besides {works}, {parts}, {highs}: {PLAN}"),
+        ("needs of works in a loop", [becomes(PREPARE, "{ while true { sweep::needs(1, 0, &t.work, 1); } sweep::degraded_caps(1) }")],
          f"2 loops, not one, are around a need: {PLAN} .. {rows}"),
         ("a need of one row", [becomes(rows, "{ checks::need(0, 1, 1) }")], f"0 loops, not one, are around a need: {PLAN} .. {rows}"),
         ("a planning that calls itself", [first(PREPARE, "plan(t);")], f"planning comes back to {PLAN}: {PLAN} .. {PREPARE}"),
@@ -476,7 +528,7 @@ def main():
     if not faults:
         names = sorted({part.name for part in trials.reached})
         print(f"trials: no division, no need and nothing unknown in {', '.join(names)}")
-        print(f"trials: {len(trials.needs)} ways of calls lead from {PLAN} to a need, one to each place where it is worked out")
+        print(f"trials: {len(trials.needs)} ways of calls lead from {PLAN} to a need, one for each figure whose need it is")
         for way in trials.needs:
             print(f"  {shown(way)}")
     return 1 if faults else 0

@@ -13,10 +13,11 @@ LAST_DEADLINE = 1_000_000  # slots; no sheet has a later one
 AT_DEADLINE = "dropped at deadline"
 CLOSED = {1: "done", 2: "dropped", 3: "late", 4: AT_DEADLINE, 5: AT_DEADLINE}
 
-# Slots, work units, slots, HI or not.
-Row = namedtuple("Row", "release work deadline high")
-# How a row closed: at which slot (0 while it is open), and "done", "late", "dropped" (its slots used up), AT_DEADLINE or "open".
-Outcome = namedtuple("Outcome", "closing how")
+# Slots, work units, slots, HI or not, work units.
+Row = namedtuple("Row", "release work deadline high promised")
+# What became of a row: at which clock it closed (0 while it is open), how: "done", "late", "dropped" (its slots used up), AT_DEADLINE or
+# "open"; and the clock at which it got its promised part (0: it did not, or has none).
+Outcome = namedtuple("Outcome", "closing how promised")
 
 
 class Stopped(Exception):
@@ -71,7 +72,7 @@ class Command:
         """N, G, K and the rows of a sheet that the command has accepted."""
         first, *rows = self.lines()
         _, normal, degraded, loading = fields(first)
-        rows = {number: Row(a, c, d, level == 1) for number, (a, c, d, level) in enumerate(map(fields, rows), 1)}
+        rows = {number: Row(a, c, d, level == 1, r) for number, (a, c, d, level, r) in enumerate(map(fields, rows), 1)}
         return normal, degraded, loading, rows
 
     def planned(self):
@@ -86,13 +87,15 @@ class Command:
         return taken, by_speed
 
     def stretches(self, order, supplies):
-        """The stretches of rows in a run, and how each row closed."""
-        ran, outcome = [], {row: Outcome(0, "open") for row in places(order)}
-        for first, count, row, how, loading in self.ask("run", "--order", order, "--stretches", *supplies):
+        """The stretches of rows in a run, and what became of each row."""
+        ran, outcome = [], {row: Outcome(0, "open", 0) for row in places(order)}
+        for first, count, row, how, loading, promised in self.ask("run", "--order", order, "--stretches", *supplies):
             if count:
                 ran.append(Ran(first, first + count, row, loading))
             if how:
-                outcome[row] = Outcome(first + count, CLOSED[how])
+                outcome[row] = outcome[row]._replace(closing=first + count, how=CLOSED[how])
+            if promised:
+                outcome[row] = outcome[row]._replace(promised=promised)
         return ran, outcome
 
 

@@ -2,15 +2,15 @@
 
 from collections import namedtuple
 
-from pictures.asking import AT_DEADLINE, LAST_DEADLINE, NOT_USABLE, Outcome, Stopped, places
+from pictures.asking import AT_DEADLINE, LAST_DEADLINE, NOT_USABLE, Stopped, places
 from pictures.measures import many
 from pictures.stretches import Supplied, merged
 
 LAST_CLOCK = 2_000_000  # slots; no run is longer
 
-# A run: speeds in work units per slot, K in slots, rows by number, order, worst finish and slack by row in slots, outcome by row,
-# stretches of rows and of supplies, slots worked.
-Run = namedtuple("Run", "normal degraded loading rows order finish slack outcome ran supplied slots")
+# A run: speeds in work units per slot, K in slots, rows by number, order, worst finish, slack and clock of the promised part at exactly G (0:
+# none) by row in slots, outcome by row, stretches of rows and of supplies, slots worked.
+Run = namedtuple("Run", "normal degraded loading rows order finish slack moment outcome ran supplied slots")
 
 
 def supplied_by(words):
@@ -59,7 +59,7 @@ def worst_run(command, order, supply, slots):
 def late_by(deadline, closed):
     """How a row closed, seen from its own deadline, where the command knew a later one."""
     if closed.how == AT_DEADLINE:
-        return Outcome(0, "open")
+        return closed._replace(closing=0, how="open")
     return closed._replace(how="late") if closed.how == "done" and closed.closing > deadline else closed
 
 
@@ -67,21 +67,31 @@ def run_of(command, given):
     """The run that the command line asks for, with its title."""
     order = given.order or command.planned()
     finishes = command.ask("finishes", order)
-    finish = {row: worst for row, worst, _, _, _ in finishes}
-    slack = {row: before - after for row, _, _, before, after in finishes}
+    finish = {row: worst for row, worst, *_ in finishes}
+    slack = {row: before - after for row, _, _, before, after, _ in finishes}
+    moment = {row: promised for row, *_, promised in finishes}
     normal, degraded, loading, rows = command.table()
     if given.row and given.row not in rows:
         raise Stopped(NOT_USABLE, f"the sheet has no row {given.row}; its rows are 1 to {len(rows)}")
+    if given.promise and not rows[given.row].promised:
+        raise Stopped(NOT_USABLE, f"nothing is promised of row {given.row}: its promised part is 0 work units")
     if given.supplies:
         title = "The run with the supplies given"
         ran, outcome, supplied = own_run(command, order, given.supplies)
     else:
-        name, speed = ("G", degraded) if given.row and rows[given.row].high else ("N", normal)
+        at_degraded = given.promise or (given.row and rows[given.row].high)
+        name, speed = ("G", degraded) if at_degraded else ("N", normal)
         title = f"Worst run of row {given.row}" if given.row else "The run at normal speed"
+        title += " for its promised part" if given.promise else ""
         title += f": every slot supplies exactly {name} = {many(speed, 'work unit')}"
         steady = worst_run if given.row else steady_run
         ran, outcome, supplied = steady(command, order, speed, max(finish.values()))
-    return Run(normal, degraded, loading, rows, places(order), finish, slack, outcome, ran, supplied, supplied[-1].after), title
+    slots = supplied[-1].after
+    return Run(normal, degraded, loading, rows, places(order), finish, slack, moment, outcome, ran, supplied, slots), title
+
+
+def any_promised(run):
+    return any(row.promised for row in run.rows.values())
 
 
 def highest(run):

@@ -5,7 +5,7 @@ from collections import namedtuple
 from pictures.asking import AT_DEADLINE
 from pictures.drawing import Drawing
 from pictures.measures import GAP, HEADING, MARGIN, TICK, figure, layout, tick_step, width_of
-from pictures.run import highest
+from pictures.run import any_promised, highest
 from pictures.words import closing, level
 
 PANEL = 72  # height of the supplies
@@ -14,18 +14,22 @@ PANEL = 72  # height of the supplies
 Column = namedtuple("Column", "heading cell right_aligned bad", defaults=[lambda run, row: False])
 
 
-def columns_before():
+def columns_before(run):
+    promised = Column(["promised,", "work", "units"], lambda run, place, row: figure(run.rows[row].promised), True)
     return [
         Column(["place"], lambda run, place, row: str(place), True),
         Column(["row"], lambda run, place, row: str(row), True),
         Column(["level"], lambda run, place, row: level(run.rows[row]), False),
         Column(["work,", "work", "units"], lambda run, place, row: figure(run.rows[row].work), True),
+        *([promised] if any_promised(run) else []),
         Column(["release,", "slots"], lambda run, place, row: figure(run.rows[row].release), True),
         Column(["deadline,", "slots"], lambda run, place, row: figure(run.rows[row].deadline), True),
     ]
 
 
-def columns_after():
+def columns_after(run):
+    moment = Column(["promised", "at G,", "slots"], lambda run, place, row: figure(run.moment[row]) if run.moment[row] else "\u2013", True)
+
     def lost(run, row):
         return run.outcome[row].how in ("late", "dropped", AT_DEADLINE)
 
@@ -36,6 +40,7 @@ def columns_after():
         Column(["closing,", "slots"], lambda run, place, row: closing(run.outcome[row]), True),
         Column(["in this", "run"], lambda run, place, row: run.outcome[row].how, False, lost),
         Column(["worst", "finish,", "slots"], lambda run, place, row: figure(run.finish[row]), True),
+        *([moment] if any_promised(run) else []),
         Column(["slack,", "slots"], lambda run, place, row: figure(run.slack[row]), True, below_zero),
     ]
 
@@ -64,7 +69,7 @@ class RunLayout(Drawing):
     def place_columns(self):
         """Column edges from left to right; the plot stands between the two groups of columns."""
         x = MARGIN + 14
-        self.before, x = self.placed(columns_before(), x)
+        self.before, x = self.placed(columns_before(self.run), x)
         self.left = x + 4
         self.right = self.left + self.plot
         x = self.right + max(GAP, width_of(figure(self.slots)) / 2 + 4)
@@ -72,7 +77,7 @@ class RunLayout(Drawing):
         if self.beyond:
             widths = [width_of(words, bold=True) for words in ["deadline", *map(figure, self.beyond)]]
             x = max(x, self.beyond_left + max(widths) + GAP)
-        self.after, x = self.placed(columns_after(), x)
+        self.after, x = self.placed(columns_after(self.run), x)
         self.width = round(x - GAP + MARGIN)
 
     def placed(self, columns, x):

@@ -4,7 +4,7 @@ from html import escape
 
 from pictures.asking import AT_DEADLINE
 from pictures.measures import HEADING, MARGIN, figure, many, short, width_of
-from pictures.run import highest, lowest
+from pictures.run import any_promised, highest, lowest
 from pictures.run_layout import PANEL, RunLayout
 from pictures.styles import (
     ASKED,
@@ -17,6 +17,7 @@ from pictures.styles import (
     INK,
     LOW_PATTERN,
     PAPER,
+    PROMISED,
     SOFT,
     SUPPLY,
     WINDOW,
@@ -26,6 +27,7 @@ from pictures.styles import (
 from pictures.words import level, sentence, slots_told, supplies_told
 
 STEPS = 1200  # supplies that are still drawn one by one; more are drawn as a band
+PROMISED_EDGE = f'fill="none" stroke="{PROMISED}" stroke-width="1.8" stroke-dasharray="4 2"'
 ASKED_LANE = f'fill="{ASKED}" stroke="{ASKED_EDGE}" stroke-width="1.4"'
 
 
@@ -68,6 +70,16 @@ class RunPicture(RunLayout):
             self.path(corners, f'fill="{WRONG}" stroke="{PAPER}" stroke-width="1"')
             self.cross(x, y, 3.4 * size, f'stroke="{PAPER}" stroke-width="{short(2 * size)}" stroke-linecap="round"')
 
+    def promise_mark(self, x, y):
+        """A flag whose pole stands at the clock."""
+        half, size = self.lane / 2 - 1, 3.6 * self.mark
+        self.line(x, y - half, x, y + half, f'stroke="{PROMISED}" stroke-width="{short(2 * self.mark)}"')
+        self.path([(x, y - half), (x + 2 * size, y - half + size), (x, y - half + 2 * size)], f'fill="{PROMISED}"')
+
+    def promised_edge(self, x1, x2, y):
+        low, high = y - self.bar / 2 - 2, y + self.bar / 2 + 2
+        self.path([(x1, low), (x2, low), (x2, high), (x1, high)], PROMISED_EDGE)
+
     def cross(self, x, y, reach, style):
         self.line(x - reach, y - reach, x + reach, y + reach, style)
         self.line(x - reach, y + reach, x + reach, y - reach, style)
@@ -79,6 +91,16 @@ class RunPicture(RunLayout):
             self.bar_rect(self.x(first), self.x(working), y, kind + " loading")
         if working < after:
             self.bar_rect(self.x(working), self.x(after), y, kind)
+
+    def promised_part(self, stretches, outcome, y):
+        """A dashed edge around the slots that bring a row its promised part, and the flag where it has it."""
+        end = outcome.promised or self.slots
+        for stretch in stretches:
+            working, after = stretch.first + stretch.loading, min(stretch.after, end)
+            if working < after:
+                self.promised_edge(self.x(working), self.x(after), y)
+        if outcome.promised:
+            self.promise_mark(self.x(outcome.promised), y)
 
     def loading_mark(self, x, y):
         self.bar_rect(x, x + 12, y, "HI loading")
@@ -188,6 +210,8 @@ class RunPicture(RunLayout):
         for stretch in stretches:
             self.stretch_bars(stretch, y, level(row))
             self.slot_edges(stretch, y)
+        if row.promised:
+            self.promised_part(stretches, outcome, y)
         if row.release <= self.slots:
             self.release_mark(self.x(row.release), y)
         if row.deadline <= self.slots:
@@ -226,6 +250,9 @@ class RunPicture(RunLayout):
         ]
         if self.run.loading:
             entries.insert(2, (self.loading_mark, "loading: a row runs, and the slot brings no work"))
+        if any_promised(self.run):
+            entries.append((lambda x, y: self.promised_edge(x, x + 24, y), "slots that bring the promised part (work units: its column)"))
+            entries.append((lambda x, y: self.promise_mark(x + 12, y), "the promised part is got"))
         if any(outcome.how == AT_DEADLINE for outcome in self.run.outcome.values()):
             entries.append((lambda x, y: self.closing_mark(x + 12, y, AT_DEADLINE), "dropped at its deadline: LO, not done when the clock reached it"))
         if self.beyond:

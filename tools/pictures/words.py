@@ -37,6 +37,8 @@ def lines_of(run, asked, given):
             f"Row {asked}, marked: {level(row)}, {outcome_told(run.outcome[asked])}, deadline {many(row.deadline, 'slot')}; "
             f"its worst finish is {many(run.finish[asked], 'slot')}, its slack {many(run.slack[asked], 'slot')}."
         )
+        if row.promised:
+            lines.append(f"Its promised part: {promise_told(run, asked)}.")
     return lines
 
 
@@ -82,12 +84,20 @@ def outcome_told(outcome):
     return f"{words.get(outcome.how, outcome.how)} after {many(outcome.closing, 'slot')}"
 
 
+def promise_told(run, number):
+    """The promised part of a row that has one: when it has got it in this run, and when at the latest at exactly G."""
+    row, clock = run.rows[number], run.outcome[number].promised
+    got = f"got after {many(clock, 'slot')}" if clock else "not got in this run"
+    return f"{many(row.promised, 'work unit')}, {got}, at exactly G after {many(run.moment[number], 'slot')}"
+
+
 def sentence(run, place, number, stretches):
     row, outcome = run.rows[number], run.outcome[number]
     ran = ", ".join(slots_told(stretch) for stretch in stretches) or "no slot"
     loads = f"loads in {loading_told(stretches)}; " if run.loading else ""
+    promise = f"promised part {promise_told(run, number)}; " if row.promised else ""
     return (
         f"Place {place}: row {number}, {level(row)}, work {many(row.work, 'work unit')}, release {many(row.release, 'slot')}, "
-        f"deadline {many(row.deadline, 'slot')}; runs in {ran}; {loads}{outcome_told(outcome)}; "
+        f"deadline {many(row.deadline, 'slot')}; runs in {ran}; {loads}{promise}{outcome_told(outcome)}; "
         f"worst finish {many(run.finish[number], 'slot')}, slack {many(run.slack[number], 'slot')}."
     )
