@@ -1,17 +1,17 @@
-// The need of a job (rules 1.8, 1.10), checks 3, 4, 11, 5, 12 and 6 on tables and orders (section 5 of the rules), and check 10 on lent bytes
+// The need of a job (rules 1.8, 1.10), checks 3, 4, 11, 5, 12, 13 to 15 and 6 on tables and orders (section 5 of the rules), and check 10 on lent bytes
 // (rule 10.10).
 ghost use mathlib.Core.Path.{_≡_};
-ghost use mathlib.Core.Bool.{_&&_};
-ghost use Prim.Native.Nat.{ℕ, _≤_};
+ghost use mathlib.Core.Bool.{true, _&&_};
+ghost use Prim.Native.Nat.{ℕ, _≤_, _<_};
 ghost use lib.Dec.{eqb};
 ghost use lib.ListN.{length, getD, drop};
 ghost use Rattle.rules.specs.Lists.{all, allZero, count, rowsTo};
 ghost use Rattle.rules.specs.Need.{workSlots, need};
-ghost use Rattle.rules.specs.Rows.{rowsOf};
-ghost use Rattle.rules.specs.Tables.{countOk, speedsOk, loadingOk, rowOk, promiseOk, tailOk, checkTable};
-ghost use Rattle.rules.specs.Orders.{checkOrder, andThen, checkBoth};
+ghost use Rattle.rules.specs.Tables.{countOk, speedsOk, loadingOk, andThen, checkTable};
+ghost use Rattle.rules.specs.Orders.{checkBoth};
 ghost use Rattle.rules.specs.Lent.{checkRoom};
-ghost use Rattle.checks.specs.Limits.{limitsOk, partOk};
+ghost use Rattle.checks.specs.Limits.{limitsOk, limitsIn, partOk, partIn, tailIn, waitAt};
+ghost use Rattle.checks.specs.Keeping.{waitsTo, Numbered, keptTo, arranged, orderAt};
 use rules::Check;
 use rules::Refusal;
 use rules::Table;
@@ -70,15 +70,20 @@ fn row_ok(release: u32, work: u32, deadline: u32, level: u32) -> bool
     1 <= work && work <= 1000000 && deadline <= 1000000 && release < deadline && level <= 1
 }
 
-// Each of the first n rows is within its limits.
-fn rows_ok(t: Table) -> bool
-    requires { ⌜ t .n ≤ 64 ⌝ }
-    ensures { λ r. ⌜ r ≡ all (rowOk t) (rowsOf t) ⌝ }
+// Each of the first n rows is within its limits. Here and below columns are lent, so that no table is copied.
+fn rows_ok<'a>(
+    release: &'a [u32; 64],
+    work: &'a [u32; 64],
+    deadline: &'a [u32; 64],
+    level: &'a [u32; 64],
+    n: usize,
+) -> bool
+    requires { ⌜ n ≤ 64 ⌝ }
+    ensures { λ r. ⌜ r ≡ all (limitsIn (now (release .entry)) (now (work .entry)) (now (deadline .entry)) (now (level .entry))) (rowsTo n) ⌝ }
 {
-    let n = t.n as usize;
     let mut k: usize = 0;
     while k < n {
-        if !row_ok(t.release[k], t.work[k], t.deadline[k], t.level[k]) {
+        if !row_ok(release[k], work[k], deadline[k], level[k]) {
             return false;
         }
         k += 1;
@@ -97,19 +102,79 @@ fn promise_ok(work: u32, level: u32, promised: u32) -> bool
 }
 
 // Each of the first n rows promises what it may.
-fn promises_ok(t: Table) -> bool
-    requires { ⌜ t .n ≤ 64 ⌝ }
-    ensures { λ r. ⌜ r ≡ all (promiseOk t) (rowsOf t) ⌝ }
+fn promises_ok<'a>(
+    work: &'a [u32; 64],
+    level: &'a [u32; 64],
+    promised: &'a [u32; 64],
+    n: usize,
+) -> bool
+    requires { ⌜ n ≤ 64 ⌝ }
+    ensures { λ r. ⌜ r ≡ all (partIn (now (work .entry)) (now (level .entry)) (now (promised .entry))) (rowsTo n) ⌝ }
 {
-    let n = t.n as usize;
     let mut k: usize = 0;
     while k < n {
-        if !promise_ok(t.work[k], t.level[k], t.promised[k]) {
+        if !promise_ok(work[k], level[k], promised[k]) {
             return false;
         }
         k += 1;
     }
     true
+}
+
+// The wait of the row at index k, if it follows a row: that has a lower number, is released no later, and is HI if the row is.
+fn check_wait<'a>(
+    follows: &'a [u32; 64],
+    release: &'a [u32; 64],
+    level: &'a [u32; 64],
+    k: u32,
+) -> Check
+    requires { ⌜ k < 64 ⌝ }
+    ensures { λ r. ⌜ r ≡ waitAt (now (follows .entry)) (now (release .entry)) (now (level .entry)) k ⌝ }
+{
+    let i = k as usize;
+    let w = follows[i];
+    if w == 0 {
+        return Check::Passed;
+    }
+    if k < w {
+        return Check::Refused(Refusal::NotLower);
+    }
+    let above = (w - 1) as usize;
+    if release[i] < release[above] {
+        return Check::Refused(Refusal::ReleasedLater);
+    }
+    if level[i] == 0 {
+        return Check::Passed;
+    }
+    if level[above] == 0 {
+        return Check::Refused(Refusal::FollowsLow);
+    }
+    Check::Passed
+}
+
+// The waits of the first n rows, one row after the other. The columns are lent, so that no table is copied.
+fn check_waits<'a>(
+    follows: &'a [u32; 64],
+    release: &'a [u32; 64],
+    level: &'a [u32; 64],
+    n: u32,
+) -> Check
+    requires { ⌜ n ≤ 64 ⌝ }
+    ensures { λ r. ⌜ r ≡ waitsTo (now (follows .entry)) (now (release .entry)) (now (level .entry)) n ⌝ }
+{
+    let mut k: u32 = 0;
+    while k < n {
+        let check = check_wait(follows, release, level, k);
+        match check {
+            Check::Refused(why) => {
+                return Check::Refused(why);
+            }
+            Check::Passed => {
+                k += 1;
+            }
+        }
+    }
+    Check::Passed
 }
 
 // Whether the column's entries after row n are all zero.
@@ -128,26 +193,39 @@ pub fn zero_after(n: u32, column: &[u32; 64]) -> bool
 }
 
 // No figure stands after row n (rule 5.4).
-fn tail_ok(t: Table) -> bool
-    ensures { λ r. ⌜ r ≡ tailOk t ⌝ }
+fn tail_ok<'a>(
+    release: &'a [u32; 64],
+    work: &'a [u32; 64],
+    deadline: &'a [u32; 64],
+    level: &'a [u32; 64],
+    promised: &'a [u32; 64],
+    follows: &'a [u32; 64],
+    n: u32,
+) -> bool
+    requires { ⌜ (length (now release) ≡ 64) × (length (now work) ≡ 64) × (length (now deadline) ≡ 64) × (length (now level) ≡ 64)
+        × (length (now promised) ≡ 64) × (length (now follows) ≡ 64) ⌝ }
+    ensures { λ r. ⌜ r ≡ tailIn (now (release .entry)) (now (work .entry)) (now (deadline .entry)) (now (level .entry)) (now (promised .entry))
+        (now (follows .entry)) n ⌝ }
 {
-    let n = t.n;
-    if !zero_after(n, &t.release) {
+    if !zero_after(n, release) {
         return false;
     }
-    if !zero_after(n, &t.work) {
+    if !zero_after(n, work) {
         return false;
     }
-    if !zero_after(n, &t.deadline) {
+    if !zero_after(n, deadline) {
         return false;
     }
-    if !zero_after(n, &t.level) {
+    if !zero_after(n, level) {
         return false;
     }
-    zero_after(n, &t.promised)
+    if !zero_after(n, promised) {
+        return false;
+    }
+    zero_after(n, follows)
 }
 
-// Checks 3, 4, 11, 5 and 12 on any table.
+// Checks 3, 4, 11, 5, 12 and 13 to 15 on any table.
 pub fn check_table(t: Table) -> Check
     ensures { λ r. ⌜ r ≡ checkTable t ⌝ }
 {
@@ -160,16 +238,25 @@ pub fn check_table(t: Table) -> Check
     if !loading_ok(t.loading) {
         return Check::Refused(Refusal::Loading);
     }
-    if !rows_ok(t) {
+    let n = t.n as usize;
+    if !rows_ok(&t.release, &t.work, &t.deadline, &t.level, n) {
         return Check::Refused(Refusal::RowLimits);
     }
-    if !tail_ok(t) {
+    if !tail_ok(
+        &t.release,
+        &t.work,
+        &t.deadline,
+        &t.level,
+        &t.promised,
+        &t.follows,
+        t.n,
+    ) {
         return Check::Refused(Refusal::RowLimits);
     }
-    if !promises_ok(t) {
+    if !promises_ok(&t.work, &t.level, &t.promised, n) {
         return Check::Refused(Refusal::Promised);
     }
-    Check::Passed
+    check_waits(&t.follows, &t.release, &t.level, t.n)
 }
 
 // How often each number from 0 to 64 stands in the order.
@@ -219,16 +306,39 @@ fn empty_from(order: [u8; 64], k: usize) -> bool
     true
 }
 
-// Check 6: the order holds each of the table's rows once, and zeros after.
-fn check_order(t: Table, order: [u8; 64]) -> Check
-    requires { ⌜ t .n ≤ 64 ⌝ }
-    ensures { λ r. ⌜ r ≡ checkOrder t order ⌝ }
+// Each row at the first n places follows none, or one at a place above it.
+fn keeps_waits(follows: &[u32; 64], order: [u8; 64], n: usize) -> bool
+    requires { ⌜ (n ≤ 64) × Numbered (now follows) order n ⌝ }
+    ensures { λ r. ⌜ r ≡ keptTo (now (follows .entry)) order n ⌝ }
 {
-    let n = t.n as usize;
+    let mut seen = [0u8; 65];
+    let mut k: usize = 0;
+    while k < n {
+        let row = order[k] as usize;
+        let w = follows[row - 1] as usize;
+        if w != 0 {
+            if seen[w] == 0 {
+                return false;
+            }
+        }
+        seen[row] = 1;
+        k += 1;
+    }
+    true
+}
+
+// Check 6 for a table of n rows: the order holds each of them once, and zeros after, and every row that is followed stands above its followers.
+fn check_order(follows: &[u32; 64], order: [u8; 64], n: usize) -> Check
+    requires { ⌜ (n ≤ 64) × (arranged order n ≡ true → Numbered (now follows) order n) ⌝ }
+    ensures { λ r. ⌜ r ≡ orderAt (now (follows .entry)) order n ⌝ }
+{
     if !each_once(order, n) {
         return Check::Refused(Refusal::NotAnOrder);
     }
     if !empty_from(order, n) {
+        return Check::Refused(Refusal::NotAnOrder);
+    }
+    if !keeps_waits(follows, order, n) {
         return Check::Refused(Refusal::NotAnOrder);
     }
     Check::Passed
@@ -241,7 +351,7 @@ pub fn check_both(t: Table, order: [u8; 64]) -> Check
     let table = check_table(t);
     match table {
         Check::Refused(why) => Check::Refused(why),
-        Check::Passed => check_order(t, order),
+        Check::Passed => check_order(&t.follows, order, t.n as usize),
     }
 }
 

@@ -156,18 +156,18 @@ pub row-next : (normal degraded loading clock : ℕ) (work deadline level promis
     ≡ soundAt (getD work i 0) (getD deadline i 0) (getD level i 0) (getD promised i 0) normal degraded loading clock (getD got i 0) (getD used i 0) (getD closing i 0)
 row-next normal degraded loading clock work deadline level promised got used closing i = let e : i + 1 - 1 ≡ i = omega arith in rw e
 
--- row i of n is ready: released at the clock, and open (rule 2.2)
-abbrev pub readyAt : ℕ → ℕ → List ℕ → List ℕ → ℕ → Bool
-readyAt n clock release closing i = (ltb 0 i && leb i n) && leb (at release i) clock && eqb (at closing i) 0
+-- row i of n is released at the clock, and open (rule 2.2)
+abbrev pub pendingAt : ℕ → ℕ → List ℕ → List ℕ → ℕ → Bool
+pendingAt n clock release closing i = (ltb 0 i && leb i n) && leb (at release i) clock && eqb (at closing i) 0
 
 -- row i of n is due at this clock: LO, with its deadline reached (rule 19.2)
 abbrev pub dueAt : ℕ → ℕ → List ℕ → List ℕ → ℕ → Bool
 dueAt n clock deadline level i = (ltb 0 i && leb i n) && (eqb (at level i) 0 && leb (at deadline i) clock)
 
 -- of a row, that is its release and its closing slot alone
-pub ready-row : (n clock : ℕ) (release closing : List ℕ) (i : ℕ) → 1 ≤ i → i ≤ n
-    → readyAt n clock release closing i ≡ (leb (at release i) clock && eqb (at closing i) 0)
-ready-row n clock release closing i l h = rw (lt-ltb 0 i l, le-leb i n h)
+pub pending-row : (n clock : ℕ) (release closing : List ℕ) (i : ℕ) → 1 ≤ i → i ≤ n
+    → pendingAt n clock release closing i ≡ (leb (at release i) clock && eqb (at closing i) 0)
+pending-row n clock release closing i l h = rw (lt-ltb 0 i l, le-leb i n h)
 
 -- and whether a row is due is its level and its deadline alone
 pub due-row : (n clock : ℕ) (deadline level : List ℕ) (i : ℕ) → 1 ≤ i → i ≤ n

@@ -8,10 +8,10 @@ use lib.Dec.{eqb}
 use lib.ListN.{getD, take, drop}
 use lib.Seq.{getD-take}
 use Rattle.rules.specs.Lists.{all, allZero, count}
-use Rattle.rules.specs.Orders.{isOrder}
+use Rattle.rules.specs.Orders.{isArrangement, keepsWait, isOrder}
 use Rattle.rules.specs.Rows.{rowsOf}
 use Rattle.rules.specs.declared.Table.{Table}
-use Rattle.theory.specs.Tests.{and-right}
+use Rattle.theory.specs.Tests.{and-left, and-right}
 use Rattle.theory.specs.Counts.{same-size, in-entry}
 use Rattle.theory.specs.Facts.{Row, rows-in}
 use Rattle.theory.specs.Places.{order-rows, length-rows}
@@ -31,8 +31,10 @@ module _ (t : Table) (o : List ℕ) (few : t .n ≤ 64) (e : isOrder t o ≡ tru
       rw (getD-take (t .n) o k 0 h) at (rows-in t (getD (take (t .n) o) k 0) (omega (arith, same (getD (take (t .n) o) k 0))))
 
   tail : allZero (drop (t .n) o) ≡ true
-  unfolding isOrder
-  tail = and-right (all (λ i. eqb (count i o) 1) (rowsOf t)) (allZero (drop (t .n) o)) e
+  unfolding isArrangement isOrder
+  tail =
+      and-right (all (λ i. eqb (count i o) 1) (rowsOf t)) (allZero (drop (t .n) o))
+      (and-left (isArrangement t o) (all (keepsWait t o) (rowsOf t)) e)
 
   pub placed : Placed (t .n) o
   placed = record { most = few; low = λ k h. in-place k h .from; high = λ k h. in-place k h .upTo; after = tail }

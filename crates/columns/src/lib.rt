@@ -10,7 +10,7 @@ ghost use Rattle.rules.specs.Lists.{rowsTo, all, first};
 ghost use Rattle.rules.specs.Need.{need};
 ghost use Rattle.rules.specs.Running.{closedFrom};
 ghost use Rattle.rules.specs.Slots.{brought};
-ghost use Rattle.columns.specs.Figures.{over, soundAt, rowSoundAt, readyAt, dueAt};
+ghost use Rattle.columns.specs.Figures.{over, soundAt, rowSoundAt, pendingAt, dueAt};
 ghost use Rattle.columns.specs.Dues.{dueClock, firstDue};
 ghost use Rattle.columns.specs.Places.{Placed};
 
@@ -190,8 +190,8 @@ pub fn rows_sound<'a>(
     true
 }
 
-// Whether a row with this release and closing slot is ready: released at the clock, and open (rule 2.2).
-fn is_ready(release: u32, closing: u32, clock: u32) -> bool
+// Whether a row with this release and closing slot is released at the clock, and open (rule 2.2).
+fn is_pending(release: u32, closing: u32, clock: u32) -> bool
     ensures { λ b. ⌜ b ≡ (leb release clock && eqb closing 0) ⌝ }
 {
     if release <= clock {
@@ -209,8 +209,9 @@ fn place(order: &[u8; 64], k: usize) -> u8
     order[k]
 }
 
-// The row that the slot at the clock runs: the highest in the order that is ready, 0 if none is (rule 2.3). The first n places
-// hold rows from 1 to n, n is at most 64, and zeros stand after them.
+// The row that the slot at the clock runs: the highest in the order that is released and open, 0 if none is (rule 2.3). It is not asked what a row follows:
+// under an order that passes check 6 the highest such row never waits (rule 21.2). The first n places hold rows from 1 to n, n is at most 64, and zeros
+// stand after them.
 pub fn chosen_row<'a>(
     n: u32,
     clock: u32,
@@ -219,13 +220,13 @@ pub fn chosen_row<'a>(
     closing: &'a [u32; 64],
 ) -> u8
     requires { ⌜ Placed n (now order) ⌝ }
-    ensures { λ row. ⌜ row ≡ first (readyAt n clock (now (release .entry)) (now (closing .entry))) (now (order .entry)) ⌝ }
+    ensures { λ row. ⌜ row ≡ first (pendingAt n clock (now (release .entry)) (now (closing .entry))) (now (order .entry)) ⌝ }
 {
     let mut k: u32 = 0;
     while k < n {
         let row = place(order, k as usize);
         let i = row as usize - 1;
-        if is_ready(release[i], closing[i], clock) {
+        if is_pending(release[i], closing[i], clock) {
             return row;
         }
         k = k + 1;

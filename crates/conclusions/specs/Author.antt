@@ -1,46 +1,43 @@
 -- The table author's conclusion, from the reader's definition, check by check.
-use Prim.Native.Nat.{ℕ, zero, suc, _+_, _-_, _*_, _≤_}
+use Prim.Native.Nat.{ℕ, _+_, _-_, _*_, _≤_, _<_}
 use mathlib.Core.Bool.{Bool, true, false, cond, _&&_}
-use mathlib.Core.List.{List, [], _∷_}
-use mathlib.Core.Logic.{_⊎_, inl, inr}
-use mathlib.Core.Path.{_≡_, refl, sym, _∙_}
-use native.Mathlib.Numerals.{add-one}
+use mathlib.Core.List.{List}
+use mathlib.Core.Logic.{_⊎_, inl, inr, ⊎-elim}
+use mathlib.Core.Path.{_≡_, refl, sym, ap, _∙_}
 use native.Mathlib.Omega.{arith}
-use borrow.Author.Tests.{le-ltb, eq-eqb, le-leb, lt-ltb, leb-true, ltb-true, eqb-true}
+use borrow.Author.Tests.{le-ltb, eq-eqb, ne-eqb, le-leb, leb-true, eqb-true}
 use lib.Dec.{ltb, leb, eqb}
 use lib.ListN.{length, drop, replicate}
-use lib.Seq.{drop-set-lt}
 use Rattle.rules.specs.declared.Table.{Table}
 use Rattle.rules.specs.declared.Check.{Check}
 use Rattle.rules.specs.declared.Check.the-variants.{Passed, Refused}
 use Rattle.rules.specs.Lists.{all, allZero, rowsTo}
 use Rattle.rules.specs.Numbers.{refusalNumber, checkNumber}
-use Rattle.rules.specs.Rows.{at}
+use Rattle.rules.specs.Rows.{at, followsOf, isHigh}
 use Rattle.rules.specs.Sheets as Sheets
 use Rattle.rules.specs.Sheets.{isLine, numberAt, lineOf, columnOf, checkSheet, readChecked, readOf}
-use Rattle.rules.specs.Tables.{countOk, speedsOk, loadingOk, rowOk, promiseOk, tailOk, checkTable, Accepted, FullTable}
-use Rattle.theory.specs.Facts.{facts}
-use Rattle.theory.specs.Tests.{by-bool, by-eqb, not-both, and-left, and-right, and-both}
+use Rattle.rules.specs.Tables.{countOk, speedsOk, loadingOk, rowOk, promiseOk, checkWait, tailOk, checkTable, Accepted, FullTable}
+use Rattle.theory.specs.Facts.{facts, Follows, follows}
+use Rattle.theory.specs.Tests.{not-both, and-left, and-right, and-both}
 use Rattle.checks.specs.Limits.{limitsOk, partOk}
-use Rattle.columns.specs.AllRows.{zeros-of, all-each, all-of}
+use Rattle.columns.specs.AllRows.{all-each, all-of}
 use Rattle.planner.specs.Promise.{refusal-number}
-use Rattle.sheet.specs.Lines.{column-more, column-start, lines-line}
-use Rattle.sheet.specs.SheetsDiffer.{Accepts, accepts, column-long, column-at}
+use Rattle.sheet.specs.Lines.{lines-line}
+use Rattle.sheet.specs.SheetsDiffer.{Accepts, accepts, column-long, column-at, column-zero}
 use Rattle.words.specs.Words.{wordsOf}
 use Rattle.words.specs.Words as Words
 use Rattle.words.specs.Inverse.{table-in-words-of}
-use Rattle.conclusions.specs.Conclusions.{figureAt, RowWithin, PartWithin, RowFits, PartFits, RowTaken, Taken, TableAuthor}
+use Rattle.conclusions.specs.Conclusions.{figureAt, RowFits, PartFits, WaitFits, FirstWait, NotLower, ReleasedLater, FollowsLow, WaitTaken, RowTaken, RowEmpty, Taken, TableAuthor}
 use Rattle.conclusions.specs.Entries.{TableWords, table-words}
+use Rattle.conclusions.specs.Limits.{limits-within, within-limits, part-within, within-part}
+use Rattle.conclusions.specs.Places.{each-tail}
+use Rattle.conclusions.specs.Refusals.{number-cond, WaitSays, row-says, Refusing, ofWaits, first-refused, says-waits, TableSays, table-says}
 
 -- ---- the numbers of the checks, one test after another
 
--- a table's: the row count, the speeds, the loading, the rows, the promised parts
-abbrev tableNumber : Bool → Bool → Bool → Bool → Bool → ℕ
-tableNumber count speeds loading rows parts = cond count (cond speeds (cond loading (cond rows (cond parts 0 12) 5) 11) 4) 3
-
 -- what a reader may answer
 abbrev Known : ℕ → Type 0
-Known k = (k ≤ 5) ⊎ (k ≡ 11) ⊎ (k ≡ 12)
+Known k = (k ≤ 5) ⊎ ((11 ≤ k) × (k ≤ 15))
 
 -- a sheet's: under 33 bytes, the first line, the row count, the length, the row lines, and the table's
 abbrev sheetNumber : Bool → Bool → Bool → Bool → Bool → ℕ → ℕ
@@ -83,111 +80,10 @@ module _ (k : ℕ) where
   known false true true true false h = inl (omega arith)
   known false true true true true h = h
 
-table-known : (count speeds loading rows parts : Bool) → Known (tableNumber count speeds loading rows parts)
-table-known false speeds loading rows parts = inl (omega arith)
-table-known true false loading rows parts = inl (omega arith)
-table-known true true false rows parts = inr (inl refl)
-table-known true true true false parts = inl (omega arith)
-table-known true true true true false = inr (inr refl)
-table-known true true true true true = inl (omega arith)
-
-table-not-one : (count speeds loading rows parts : Bool)
-    → (tableNumber count speeds loading rows parts ≡ 1 → ⊥) × (tableNumber count speeds loading rows parts ≡ 2 → ⊥)
-table-not-one false speeds loading rows parts = (λ e. omega arith, λ e. omega arith)
-table-not-one true false loading rows parts = (λ e. omega arith, λ e. omega arith)
-table-not-one true true false rows parts = (λ e. omega arith, λ e. omega arith)
-table-not-one true true true false parts = (λ e. omega arith, λ e. omega arith)
-table-not-one true true true true false = (λ e. omega arith, λ e. omega arith)
-table-not-one true true true true true = (λ e. omega arith, λ e. omega arith)
-
-table-not-three : (speeds loading rows parts : Bool) → tableNumber true speeds loading rows parts ≡ 3 → ⊥
-table-not-three false loading rows parts e = omega arith
-table-not-three true false rows parts e = omega arith
-table-not-three true true false parts e = omega arith
-table-not-three true true true false e = omega arith
-table-not-three true true true true e = omega arith
-
-table-not-four : (count loading rows parts : Bool) → tableNumber count true loading rows parts ≡ 4 → ⊥
-table-not-four false loading rows parts e = omega arith
-table-not-four true false rows parts e = omega arith
-table-not-four true true false parts e = omega arith
-table-not-four true true true false e = omega arith
-table-not-four true true true true e = omega arith
-
-table-not-eleven : (count speeds rows parts : Bool) → tableNumber count speeds true rows parts ≡ 11 → ⊥
-table-not-eleven false speeds rows parts e = omega arith
-table-not-eleven true false rows parts e = omega arith
-table-not-eleven true true false parts e = omega arith
-table-not-eleven true true true false e = omega arith
-table-not-eleven true true true true e = omega arith
-
-table-five : (count speeds loading rows parts : Bool) → tableNumber count speeds loading rows parts ≡ 5 → (count ≡ true) × (rows ≡ false)
-table-five false speeds loading rows parts e = absurd (omega arith)
-table-five true false loading rows parts e = absurd (omega arith)
-table-five true true false rows parts e = absurd (omega arith)
-table-five true true true false parts e = (refl, refl)
-table-five true true true true false e = absurd (omega arith)
-table-five true true true true true e = absurd (omega arith)
-
-table-twelve : (count speeds loading rows parts : Bool) → tableNumber count speeds loading rows parts ≡ 12
-    → (count ≡ true) × (rows ≡ true) × (parts ≡ false)
-table-twelve false speeds loading rows parts e = absurd (omega arith)
-table-twelve true false loading rows parts e = absurd (omega arith)
-table-twelve true true false rows parts e = absurd (omega arith)
-table-twelve true true true false parts e = absurd (omega arith)
-table-twelve true true true true false e = (refl, refl, refl)
-table-twelve true true true true true e = absurd (omega arith)
-
--- ---- a row's limits over its figures
-
-limits-within : (a c d level : ℕ) → limitsOk a c d level ≡ true → RowWithin a c d level
-limits-within a c d level e =
-    let some = leb 1 c in
-    let most = leb c 1000000 in
-    let latest = leb d 1000000 in
-    let before = ltb a d in
-    let four : some && most && latest && before ≡ true = and-left (some && most && latest && before) (leb level 1) e in
-    let three : some && most && latest ≡ true = and-left (some && most && latest) before four in
-    let two : some && most ≡ true = and-left (some && most) latest three in
-    record {
-      some = leb-true 1 c (and-left some most two);
-      most = leb-true c 1000000 (and-right some most two);
-      latest = leb-true d 1000000 (and-right (some && most) latest three);
-      before = ltb-true a d (and-right (some && most && latest) before four);
-      low-or-high = leb-true level 1 (and-right (some && most && latest && before) (leb level 1) e);
-    }
-
-within-limits : (a c d level : ℕ) → RowWithin a c d level → limitsOk a c d level ≡ true
-within-limits a c d level w =
-    rw (
-      le-leb 1 c (w .some),
-      le-leb c 1000000 (w .most),
-      le-leb d 1000000 (w .latest),
-      lt-ltb a d (w .before),
-      le-leb level 1 (w .low-or-high),
-    )
-
-within-part : (c level r : ℕ) → PartWithin c level r → partOk c level r ≡ true
-within-part c level r w =
-    rw (le-leb r c (w .most))
-    (by-eqb r 0
-    (λ e _. by-bool (eqb level 0) (λ l. rw l) (λ l. rw (l, e)))
-    (λ _ n. rw (eq-eqb level 0 (w .low (omega arith)))))
-
 -- ---- the columns that are read
 
--- what is zero from an entry on is zero from the next on
-zero-later : (xs : List ℕ) (k : ℕ) → allZero (drop k xs) ≡ true → allZero (drop (suc k) xs) ≡ true
-zero-later [] zero e = refl
-zero-later [] (suc k) e = refl
-zero-later (x ∷ xs) zero e = and-right (eqb x 0) (allZero xs) e
-zero-later (x ∷ xs) (suc k) e = zero-later xs k e
-
-column-tail : (sheet : List ℕ) (j n : ℕ) → n ≤ 64 → allZero (drop n (columnOf sheet n j)) ≡ true
-column-tail sheet j zero h = rw (← column-start sheet j) (zeros-of 64 0)
-column-tail sheet j (suc m) h =
-    rw (← add-one m, column-more sheet m j (omega arith), drop-set-lt (m + 1) (columnOf sheet m j) m (numberAt sheet (33 + 41 * m) j) (omega arith), add-one m)
-    (zero-later (columnOf sheet m j) m (column-tail sheet j m (omega arith)))
+column-tail : (sheet : List ℕ) (j n : ℕ) → allZero (drop n (columnOf sheet n j)) ≡ true
+column-tail sheet j n = each-tail (columnOf sheet n j) n (column-long sheet n j) (λ i h few. column-zero sheet n j (i - 1) (omega arith) (omega arith))
 
 -- ---- a sheet, and the table that it states
 
@@ -196,10 +92,6 @@ pub passed-check : (c : Check) → checkNumber c ≡ 0 → c ≡ Passed
 unfolding checkNumber refusalNumber
 passed-check Passed e = refl
 passed-check (Refused r) e = absurd (refusal-number r .0 e)
-
-number-cond : (b : Bool) (x y : Check) → checkNumber (cond b x y) ≡ cond b (checkNumber x) (checkNumber y)
-number-cond true x y = refl
-number-cond false x y = refl
 
 module _ (sheet : List ℕ) where
   abbrev n : ℕ
@@ -214,12 +106,6 @@ module _ (sheet : List ℕ) where
   abbrev parts : Bool
   parts = all (promiseOk t) (rowsTo n)
 
-  abbrev speeds : Bool
-  speeds = speedsOk (numberAt sheet 0 2) (numberAt sheet 0 3)
-
-  abbrev loads : Bool
-  loads = loadingOk (numberAt sheet 0 4)
-
   abbrev short : Bool
   short = ltb (length sheet) 33
 
@@ -227,25 +113,29 @@ module _ (sheet : List ℕ) where
   first = isLine sheet 0 4
 
   abbrev long : Bool
-  long = eqb (length sheet) (33 + 41 * n)
+  long = eqb (length sheet) (33 + 49 * n)
 
   abbrev lines : Bool
-  lines = all (λ i. isLine sheet (lineOf i) 5) (rowsTo n)
+  lines = all (λ i. isLine sheet (lineOf i) 6) (rowsTo n)
 
   abbrev ofTable : ℕ
-  ofTable = tableNumber (countOk n) speeds loads rows parts
+  ofTable = checkNumber (checkTable t)
 
   numbered : checkNumber (checkSheet sheet) ≡ sheetNumber short first (countOk n) long lines ofTable
-  unfolding checkSheet checkTable checkNumber refusalNumber Sheets.tableIn
+  unfolding checkSheet checkNumber refusalNumber
   numbered = simp number-cond
+
+  -- what the table's number says
+  says : TableSays t ofTable
+  says = table-says t
 
   -- the j-th figure of row i
   figure : (j i : ℕ) → n ≤ 64 → 1 ≤ i → i ≤ n → at (columnOf sheet n j) i ≡ figureAt sheet i j
   figure j i few l h = column-at sheet n j (i - 1) few (omega arith)
 
-  tail : n ≤ 64 → tailOk t ≡ true
+  tail : tailOk t ≡ true
   unfolding tailOk Sheets.tableIn
-  tail few = rw (column-tail sheet 1 n few, column-tail sheet 2 n few, column-tail sheet 3 n few, column-tail sheet 4 n few, column-tail sheet 5 n few)
+  tail = rw (column-tail sheet 1 n, column-tail sheet 2 n, column-tail sheet 3 n, column-tail sheet 4 n, column-tail sheet 5 n, column-tail sheet 6 n)
 
   -- checks 5 and 12 of row i, over the figures of its line
   limits-are : n ≤ 64 → (i : ℕ) → 1 ≤ i → i ≤ n → rowOk t i ≡ limitsOk (figureAt sheet i 1) (figureAt sheet i 2) (figureAt sheet i 3) (figureAt sheet i 4)
@@ -265,11 +155,28 @@ module _ (sheet : List ℕ) where
         deadline = column-long sheet n 3;
         level = column-long sheet n 4;
         promised = column-long sheet n 5;
+        follows = column-long sheet n 6;
       }
 
   -- row i of the table's words
   words : (i : ℕ) → 1 ≤ i → i ≤ 64 → TableWords (wordsOf t) t i
   words i l h = rw (table-in-words-of t full) at (table-words (wordsOf t) i l h)
+
+  wait-taken : Accepts sheet → (i : ℕ) → 1 ≤ i → i ≤ n → WaitTaken (wordsOf t) i
+  unfolding Sheets.tableIn
+  wait-taken a i l h =
+      let few = a .few in
+      let w = words i l (omega arith) in
+      let k = followsOf t i in
+      let f : 1 ≤ k → Follows t i = λ some. follows t (a .accepted) i (record { from = l; upTo = h }) some in
+      let v : 1 ≤ k → TableWords (wordsOf t) t k = λ some. words k some (omega (arith, f some .lower)) in
+      rw (w .follows)
+      (record {
+        lower = λ some. f some .lower;
+        no-later = λ some. omega (arith, w .release, v some .release, f some .earlier);
+        high = λ some n z. not-both (isHigh t k) (f some .level (rw (ne-eqb (at (t .level) i) 0 (λ y. n (w .level ∙ y)))))
+            (rw (eq-eqb (at (t .level) k) 0 (sym (v some .level) ∙ z)));
+      })
 
   row-taken : Accepts sheet → (i : ℕ) → 1 ≤ i → i ≤ n → RowTaken sheet (wordsOf t) i
   unfolding Sheets.tableIn
@@ -285,6 +192,7 @@ module _ (sheet : List ℕ) where
         deadline = w .deadline ∙ figure 3 i few l h;
         level = w .level ∙ figure 4 i few l h;
         promised = w .promised ∙ figure 5 i few l h;
+        follows = w .follows ∙ figure 6 i few l h;
         formed = lines-line sheet (i - 1) n (a .lines) (omega arith);
         within = record {
           some = omega (arith, w .work, f .works);
@@ -297,6 +205,21 @@ module _ (sheet : List ℕ) where
           most = omega (arith, w .work, w .promised, p .within);
           low = λ some. w .level ∙ eqb-true (at (t .level) i) 0 (p .low (omega (arith, w .promised)));
         };
+        wait = wait-taken a i l h;
+      }
+
+  row-empty : (i : ℕ) → n < i → i ≤ 64 → RowEmpty (wordsOf t) i
+  unfolding Sheets.tableIn
+  row-empty i h few =
+      let w = words i (omega arith) few in
+      let none : (j : ℕ) → at (columnOf sheet n j) i ≡ 0 = λ j. column-zero sheet n j (i - 1) (omega arith) (omega arith) in
+      record {
+        release = w .release ∙ none 1;
+        work = w .work ∙ none 2;
+        deadline = w .deadline ∙ none 3;
+        level = w .level ∙ none 4;
+        promised = w .promised ∙ none 5;
+        follows = w .follows ∙ none 6;
       }
 
   words-accepted : Accepts sheet → Accepted (Words.tableIn (wordsOf t))
@@ -321,10 +244,11 @@ module _ (sheet : List ℕ) where
         loading = refl;
         loads = f .loads;
         row = λ i l h. row-taken a i l h;
+        none-after = row-empty;
         accepted = words-accepted a;
       }
 
-  refused-words : (c : Check) → (checkNumber c ≡ 0 → ⊥) → wordsOf (readChecked c t .table) ≡ replicate 324 0
+  refused-words : (c : Check) → (checkNumber c ≡ 0 → ⊥) → wordsOf (readChecked c t .table) ≡ replicate 388 0
   unfolding wordsOf checkNumber
   refused-words Passed m = absurd (m refl)
   refused-words (Refused r) m = refl
@@ -350,7 +274,7 @@ module _ (sheet : List ℕ) where
   unfolding readOf
   read-as p = rw p (taken p)
 
-  all-zero : (checkNumber (readOf sheet .check) ≡ 0 → ⊥) → wordsOf (readOf sheet .table) ≡ replicate 324 0
+  all-zero : (checkNumber (readOf sheet .check) ≡ 0 → ⊥) → wordsOf (readOf sheet .table) ≡ replicate 388 0
   unfolding readOf
   all-zero m = refused-words (checkSheet sheet) (λ z. m (read-number ∙ z))
 
@@ -361,7 +285,7 @@ module _ (sheet : List ℕ) where
   some-row-out f g =
       let few = few-rows (g .0) in
       let each = all-of (rowOk t) n (λ i l h. limits-are few i l h ∙ within-limits _ _ _ _ (f i l h)) in
-      not-both rows (and-both (all (rowOk t) (rowsTo n)) (tailOk t) each (tail few)) (g .1)
+      not-both rows (and-both (all (rowOk t) (rowsTo n)) (tailOk t) each tail) (g .1)
 
   some-part-out : ((i : ℕ) → 1 ≤ i → i ≤ n → PartFits sheet i) → (countOk n ≡ true) × (parts ≡ false) → ⊥
   some-part-out f g =
@@ -373,31 +297,113 @@ module _ (sheet : List ℕ) where
       let e = all-each (rowOk t) n (and-left (all (rowOk t) (rowsTo n)) (tailOk t) r) i l h in
       limits-within _ _ _ _ (sym (limits-are (few-rows c) i l h) ∙ e)
 
-  at-twelve : checkNumber (readOf sheet .check) ≡ 12 → (countOk n ≡ true) × (rows ≡ true) × (parts ≡ false)
-  at-twelve e = table-twelve (countOk n) speeds loads rows parts (from-table 12 (omega arith) e)
+  every-part-in : countOk n ≡ true → parts ≡ true → (i : ℕ) → 1 ≤ i → i ≤ n → PartFits sheet i
+  every-part-in c r i l h = part-within _ _ _ (sym (part-is (few-rows c) i l h) ∙ all-each (promiseOk t) n r i l h)
+
+  -- ---- the first row whose wait is refused
+
+  -- a wait that passes, over the figures of its line
+  wait-fits : n ≤ 64 → (i : ℕ) → 1 ≤ i → i ≤ n → checkWait t i ≡ Passed → WaitFits sheet i
+  unfolding Sheets.tableIn checkNumber
+  wait-fits few i l h e =
+      let w = figureAt sheet i 6 in
+      let p = rw (figure 6 i few l h) at (row-says t i .within (ap checkNumber e)) in
+      record {
+        lower = p .lower;
+        no-later = λ some. omega (arith, p .no-later some, figure 1 i few l h, figure 1 w few some (omega (arith, p .lower some)));
+        high = λ some n z. p .high some (λ y. n (sym (figure 4 i few l h) ∙ y)) (figure 4 w few some (omega (arith, p .lower some)) ∙ z);
+      }
+
+  module _ (h : 13 ≤ ofTable) where
+    reached : (countOk n ≡ true) × (rows ≡ true) × (parts ≡ true) × (ofTable ≡ ofWaits t)
+    unfolding Sheets.tableIn
+    reached = says .waits h
+
+    few : n ≤ 64
+    few = few-rows (reached .0)
+
+    stop : Refusing t n
+    unfolding Sheets.tableIn
+    stop = first-refused t (omega (arith, reached .3))
+
+    abbrev i : ℕ
+    i = stop .row
+
+    abbrev w : ℕ
+    w = figureAt sheet i 6
+
+    -- the figures of the row and of the one that it follows
+    own : (j : ℕ) → at (columnOf sheet n j) i ≡ figureAt sheet i j
+    own j = figure j i few (stop .from) (stop .upTo)
+
+    followed : (j : ℕ) → 1 ≤ w → w < i → at (columnOf sheet n j) w ≡ figureAt sheet w j
+    followed j some lower = figure j w few some (omega (arith, stop .upTo))
+
+    told : WaitSays i w (at (columnOf sheet n 1) i) (at (columnOf sheet n 1) w) (at (columnOf sheet n 4) i) (at (columnOf sheet n 4) w) ofTable
+    unfolding Sheets.tableIn
+    told = rw (reached .3) (rw (own 6) at (says-waits t stop))
+
+    first-wait : 1 ≤ w → FirstWait sheet i
+    first-wait some =
+        record {
+          from = stop .from;
+          upTo = stop .upTo;
+          follows = some;
+          before = λ j l b. wait-fits few j l (omega (arith, stop .upTo)) (stop .before j l b);
+        }
+
+    not-lower : ofTable ≡ 13 → NotLower sheet i
+    not-lower e = let q = told .thirteen e in (first-wait (q .0), q .1)
+
+    released-later : ofTable ≡ 14 → ReleasedLater sheet i
+    released-later e = let q = told .fourteen e in (first-wait (q .0), q .1, omega (arith, q .2, own 1, followed 1 (q .0) (q .1)))
+
+    follows-low : ofTable ≡ 15 → FollowsLow sheet i
+    follows-low e =
+        let q = told .fifteen e in (
+          first-wait (q .0),
+          q .1,
+          omega (arith, q .2, own 1, followed 1 (q .0) (q .1)),
+          λ z. q .3 (own 4 ∙ z),
+          sym (followed 4 (q .0) (q .1)) ∙ q .4,
+        )
 
   pub authored : TableAuthor sheet (checkNumber (readOf sheet .check)) (wordsOf (readOf sheet .table))
+  unfolding Sheets.tableIn
   authored =
       record {
         taken = λ e. let p = passed-check (checkSheet sheet) (sym read-number ∙ e) in read-as p;
         refused = λ m. all-zero m;
-        known = rw chain (known ofTable short first (countOk n) long lines (table-known (countOk n) speeds loads rows parts));
-        one = λ e l h. not-one ofTable first (countOk n) lines (table-not-one (countOk n) speeds loads rows parts .0)
-            (rw (le-ltb (length sheet) 33 h, eq-eqb (length sheet) (33 + 41 * n) l) at (sym chain ∙ e));
-        three = λ e l h. not-three (tableNumber true speeds loads rows parts) short first long lines
-            (table-not-three speeds loads rows parts)
-            (rw (le-leb 1 n l, le-leb n 64 h) at (sym chain ∙ e));
-        four = λ e l h m. table-not-four (countOk n) loads rows parts
-            (rw (
+        known = rw chain (known ofTable short first (countOk n) long lines (of-known (says .known)));
+        one = λ e l h. not-one ofTable first (countOk n) lines (λ z. not-reader 1 (omega arith) (omega arith) z)
+            (rw (le-ltb (length sheet) 33 h, eq-eqb (length sheet) (33 + 49 * n) l) at (sym chain ∙ e));
+        three = λ e l h. let ok : countOk n ≡ true = rw (le-leb 1 n l, le-leb n 64 h) in
+            not-three ofTable short first long lines (λ z. not-both (countOk n) ok (says .three z)) (rw ok at (sym chain ∙ e));
+        four = λ e l h m. let ok : speedsOk (numberAt sheet 0 2) (numberAt sheet 0 3) ≡ true =
+            rw (
               le-leb 1 (numberAt sheet 0 2) (omega arith),
               le-leb (numberAt sheet 0 2) 1000 m,
               le-leb 1 (numberAt sheet 0 3) l,
               le-leb (numberAt sheet 0 3) (numberAt sheet 0 2) h,
-            ) at (from-table 4 (omega arith) e));
-        two = λ e l f. not-two ofTable short (countOk n) long (table-not-one (countOk n) speeds loads rows parts .1)
-            (rw (l, all-of (λ i. isLine sheet (lineOf i) 5) n f) at (sym chain ∙ e));
-        eleven = λ e l. table-not-eleven (countOk n) speeds rows parts (rw (le-leb (numberAt sheet 0 4) 16 l) at (from-table 11 (omega arith) e));
-        five = λ e f. some-row-out f (table-five (countOk n) speeds loads rows parts (from-table 5 (omega arith) e));
-        twelve = λ e f. let g = at-twelve e in some-part-out f (g .0, g .2);
-        after-five = λ e. let g = at-twelve e in every-row-in (g .0) (g .1);
+            ) in
+            not-both (speedsOk (numberAt sheet 0 2) (numberAt sheet 0 3)) ok (says .four (from-table 4 (omega arith) e));
+        two = λ e l f. not-two ofTable short (countOk n) long (λ z. not-reader 2 (omega arith) (omega arith) z)
+            (rw (l, all-of (λ i. isLine sheet (lineOf i) 6) n f) at (sym chain ∙ e));
+        eleven = λ e l. not-both (loadingOk (numberAt sheet 0 4)) (le-leb (numberAt sheet 0 4) 16 l) (says .eleven (from-table 11 (omega arith) e));
+        five = λ e f. some-row-out f (says .five (from-table 5 (omega arith) e));
+        twelve = λ e f. let g = says .twelve (from-table 12 (omega arith) e) in some-part-out f (g .0, g .2);
+        after-five = λ e. let g = says .twelve (from-table 12 (omega arith) e) in every-row-in (g .0) (g .1);
+        thirteen = λ e. let z = from-table 13 (omega arith) e in let h : 13 ≤ ofTable = omega arith in (i h, not-lower h z);
+        fourteen = λ e. let z = from-table 14 (omega arith) e in let h : 13 ≤ ofTable = omega arith in (i h, released-later h z);
+        fifteen = λ e. let z = from-table 15 (omega arith) e in let h : 13 ≤ ofTable = omega arith in (i h, follows-low h z);
+        after-twelve = λ h j l b.
+            let r = reached (omega (arith, from-table (checkNumber (readOf sheet .check)) (omega arith) refl)) in
+            (every-row-in (r .0) (r .1) j l b, every-part-in (r .0) (r .2) j l b);
       }
+    where
+      -- of the table's numbers
+      of-known : (ofTable ≡ 0) ⊎ ((3 ≤ ofTable) × (ofTable ≤ 5)) ⊎ ((11 ≤ ofTable) × (ofTable ≤ 15)) → Known ofTable
+      of-known = ⊎-elim (λ z. inl (omega arith)) (⊎-elim (λ w. inl (w .1)) (λ w. inr w))
+
+      not-reader : (k : ℕ) → 1 ≤ k → k ≤ 2 → ofTable ≡ k → ⊥
+      not-reader k l h z = ⊎-elim (λ w. omega arith) (⊎-elim (λ w. omega (arith, w .0)) (λ w. omega (arith, w .0))) (says .known)

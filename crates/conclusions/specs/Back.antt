@@ -1,6 +1,5 @@
 -- The table author's conclusions about the writer, from its definition and the theorems on reading and writing.
 use Prim.Native.Nat.{ℕ, _+_}
-use mathlib.Core.Bool.{_&&_}
 use mathlib.Core.List.{List, _++_}
 use mathlib.Core.Path.{_≡_, refl, sym, ap, _∙_}
 use native.Mathlib.Omega.{arith}
@@ -14,13 +13,11 @@ use Rattle.rules.specs.declared.Check.the-variants.{Passed, Refused}
 use Rattle.rules.specs.declared.Reading.{Reading}
 use Rattle.rules.specs.Fields.{fitsField, written}
 use Rattle.rules.specs.Lent.{WrittenBack, writeChecked}
-use Rattle.rules.specs.Lists.{all}
 use Rattle.rules.specs.Numbers.{refusalNumber, checkNumber}
-use Rattle.rules.specs.Rows.{rowsOf}
 use Rattle.rules.specs.Sheets as Sheets
 use Rattle.rules.specs.Sheets.{numberAt, checkSheet, readChecked, readOf, sheetOf, checkWrite, writeOf}
-use Rattle.rules.specs.Tables.{countOk, speedsOk, loadingOk, rowOk, promiseOk, tailOk, checkTable, Accepted, FullTable, zeroTable}
-use Rattle.theory.specs.Tests.{by-bool, by-ltb}
+use Rattle.rules.specs.Tables.{checkTable, Accepted, FullTable, zeroTable}
+use Rattle.theory.specs.Tests.{by-ltb}
 use Rattle.fields.specs.Values.{value-written, field-written, last-digits}
 use Rattle.fields.specs.Lengths.{written-long}
 use Rattle.planner.specs.Promise.{refusal-number}
@@ -33,29 +30,14 @@ use Rattle.words.specs.Inverse.{words-of-table-in, table-in-words-of}
 use Rattle.conclusions.specs.declared.Again.{Again}
 use Rattle.conclusions.specs.Author.{passed-check}
 use Rattle.conclusions.specs.Entries.{full-table}
+use Rattle.conclusions.specs.Refusals.{not-later}
 use Rattle.conclusions.specs.Rooms.{ten-is, own-is}
 use Rattle.conclusions.specs.Conclusions.{SheetBack, SheetAgain, NumberField}
 
 -- ---- the numbers of the writer's checks
 -- the table's own refusals are not 10
 pub table-not-ten : (t : Table) → checkNumber (checkTable t) ≡ 10 → ⊥
-unfolding checkTable checkNumber refusalNumber
-table-not-ten t e =
-    by-bool (countOk (t .n))
-    (λ a.
-    by-bool (speedsOk (t .normal) (t .degraded))
-    (λ b.
-    by-bool (loadingOk (t .loading))
-    (λ c.
-    by-bool (all (rowOk t) (rowsOf t) && tailOk t)
-    (λ d.
-    by-bool (all (promiseOk t) (rowsOf t))
-    (λ p. let z : _≡_ {A = ℕ} 0 10 = rw (a, b, c, d, p) at e in omega arith)
-    (λ p. let z : _≡_ {A = ℕ} 12 10 = rw (a, b, c, d, p) at e in omega arith))
-    (λ d. let z : _≡_ {A = ℕ} 5 10 = rw (a, b, c, d) at e in omega arith))
-    (λ c. let z : _≡_ {A = ℕ} 11 10 = rw (a, b, c) at e in omega arith))
-    (λ b. let z : _≡_ {A = ℕ} 4 10 = rw (a, b) at e in omega arith))
-    (λ a. let z : _≡_ {A = ℕ} 3 10 = rw a at e in omega arith)
+table-not-ten t = not-later t 10 (omega arith) (omega arith)
 
 not-passed : (r : Refusal) → checkNumber (Refused r) ≡ 0 → ⊥
 unfolding checkNumber
@@ -69,13 +51,13 @@ read-full bytes = go (checkSheet bytes)
   where
     go : (c : Check) → FullTable (readChecked c (Sheets.tableIn bytes) .table)
     go Passed = table-full bytes
-    go (Refused r) = record { release = refl; work = refl; deadline = refl; level = refl; promised = refl }
+    go (Refused r) = record { release = refl; work = refl; deadline = refl; level = refl; promised = refl; follows = refl }
 
 -- an answer by its two parts
 both-parts : (r : Reading) (t : Table) → r .check ≡ Passed → r .table ≡ t → r ≡ record { check = Passed; table = t }
 both-parts r t p e = let f : _≡_ {A = Reading} (record { check = r .check; table = r .table }) (record { check = Passed; table = t }) = rw (p, e) in f
 
-module _ (table : List ℕ) (words : length table ≡ 324) where
+module _ (table : List ℕ) (words : length table ≡ 388) where
   abbrev t : Table
   t = tableIn table
 
@@ -94,7 +76,7 @@ module _ (table : List ℕ) (words : length table ≡ 324) where
       only-sheet bytes t (both-parts (readOf bytes) t p same)
 
 -- ---- a table in words, written back
-module _ (table lent : List ℕ) (words : length table ≡ 324) where
+module _ (table lent : List ℕ) (words : length table ≡ 388) where
   abbrev u : Table
   u = tableIn table
 
@@ -147,7 +129,7 @@ module _ (table lent : List ℕ) (words : length table ≡ 324) where
   written-back = by-check (checkWrite u (length lent)) refl
 
 -- ---- a sheet, read and written back
-module _ (sheet lent : List ℕ) (long : length lent ≡ 2657) where
+module _ (sheet lent : List ℕ) (long : length lent ≡ 3169) where
   abbrev read : Reading
   read = readOf sheet
 
@@ -166,7 +148,7 @@ module _ (sheet lent : List ℕ) (long : length lent ≡ 2657) where
   table-count = refl
 
   zeros-full : FullTable zeroTable
-  zeros-full = record { release = refl; work = refl; deadline = refl; level = refl; promised = refl }
+  zeros-full = record { release = refl; work = refl; deadline = refl; level = refl; promised = refl; follows = refl }
 
   zeros-refused : checkWrite zeroTable (length lent) ≡ Refused RowCount
   unfolding checkWrite checkTable

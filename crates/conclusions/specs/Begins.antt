@@ -2,7 +2,7 @@
 use Prim.Native.Nat.{ℕ}
 use mathlib.Core.Bool.{true}
 use mathlib.Core.List.{List}
-use mathlib.Core.Path.{_≡_, refl}
+use mathlib.Core.Path.{_≡_, refl, sym, ap, _∙_}
 use native.Mathlib.Omega.{arith}
 use lib.ListN.{length}
 use Rattle.rules.specs.declared.Refusal.{Refusal}
@@ -21,12 +21,13 @@ use Rattle.words.specs.Words.{tableIn, wordsOf, stateWords}
 use Rattle.words.specs.Inverse.{words-of-table-in}
 use Rattle.conclusions.specs.declared.Begun.{Begun}
 use Rattle.conclusions.specs.Conclusions.{FreshRecord}
+use Rattle.conclusions.specs.Ordered.{order-words, words-order, six-words, words-six}
 
 -- the answer over the words
 abbrev saidOf : FreshRun → Begun
 saidOf f = record { number = checkNumber (f .check); table = wordsOf (f .run .table); order = f .run .order; state = stateWords (f .run) }
 
-module _ (table order : List ℕ) (tables : length table ≡ 324) where
+module _ (table order : List ℕ) (tables : length table ≡ 388) where
   abbrev Begins : Type 0
   Begins = FreshRecord table order (saidOf (freshOf (tableIn table) order))
 
@@ -38,6 +39,10 @@ module _ (table order : List ℕ) (tables : length table ≡ 324) where
       (record {
         passed = λ _. (c .accepted, c .order);
         passes = λ _ _. refl;
+        order-plain = λ _. order-words table order (c .accepted) (c .order);
+        plain-order = λ _ _. refl;
+        six = λ z. absurd (omega arith);
+        no-order = λ _ n. absurd (n (order-words table order (c .accepted) (c .order)));
         held = λ _. (words-of-table-in table tables, refl);
         refused = λ n. absurd (n refl);
         zeros = refl;
@@ -56,6 +61,10 @@ module _ (table order : List ℕ) (tables : length table ≡ 324) where
       (record {
         passed = λ z. absurd (n z);
         passes = λ a k. absurd (not-refused r e a k);
+        order-plain = λ z. absurd (n z);
+        plain-order = λ a k. absurd (not-refused r e a (words-order table order a k));
+        six = λ z. six-words table order (ap checkNumber e ∙ z);
+        no-order = λ a k. ap checkNumber (sym e) ∙ words-six table order a k;
         held = λ z. absurd (n z);
         refused = λ _. (refl, refl);
         zeros = refl;

@@ -1,7 +1,7 @@
 -- What each caller may rely on, in plain terms and down to the words that the exported functions are lent. One section for each caller.
--- A table's words are n, N, G, K and then release, work, deadline, level and promised part of row 1 to 64; a state's words are the clock and then three
--- figures of row 1 to 64: its work got, its slots used, its closing slot. Times and K are in slots, work and supplies in work units, speeds in
--- work units per slot.
+-- A table's words are n, N, G, K and then release, work, deadline, level, promised part and followed row (0 for none) of row 1 to 64; a state's words
+-- are the clock and then three figures of row 1 to 64: its work got, its slots used, its closing slot. Times and K are in slots, work and supplies in
+-- work units, speeds in work units per slot.
 use Prim.Native.Nat.{ℕ, _+_, _-_, _*_, _/_, _%_, _^_, _≤_, _<_, max, min}
 use mathlib.Core.Bool.{true, false, cond}
 use mathlib.Core.Logic.{_⊎_}
@@ -37,11 +37,11 @@ use Rattle.conclusions.specs.declared.Opinion.{Opinion}
 use Rattle.conclusions.specs.declared.Slots.{Slots}
 
 -- ---- The table author: a sheet that is taken states its table (rules 6.5 to 6.8), and a refusal means what it says (rules 10.1 to 10.5,
--- 10.11, 10.12).
+-- 10.11 to 10.15).
 
 -- the j-th figure of row i's line (rule 6.6)
 abbrev pub figureAt : List ℕ → ℕ → ℕ → ℕ
-figureAt sheet i j = numberAt sheet (33 + 41 * (i - 1)) j
+figureAt sheet i j = numberAt sheet (33 + 49 * (i - 1)) j
 
 -- a row's release, work, deadline and level are within their limits (rule 5.3)
 pub record RowWithin (a c d level : ℕ) : Type 0 where
@@ -56,16 +56,40 @@ pub record PartWithin (c level r : ℕ) : Type 0 where
   pub most : r ≤ c
   pub low : 1 ≤ r → level ≡ 0
 
--- row i's figures are those of the five fields of its line (rule 6.6), and within their limits (rules 5.3, 5.9)
+-- Row i's wait is within its limits (rule 5.10): the row w that it follows, if it follows one, has a lower number, is released no later (b and a are the
+-- releases of rows w and i), and is of a level other than 0 if row i is.
+pub record WaitWithin (i w a b level followed : ℕ) : Type 0 where
+  pub lower : 1 ≤ w → w < i
+  pub no-later : 1 ≤ w → b ≤ a
+  pub high : 1 ≤ w → (level ≡ 0 → ⊥) → followed ≡ 0 → ⊥
+
+-- row i's wait in a table's words
+abbrev pub WaitTaken : List ℕ → ℕ → Type 0
+WaitTaken table i =
+    let w = getD table (323 + i) 0 in
+    WaitWithin i w (getD table (3 + i) 0) (getD table (3 + w) 0) (getD table (195 + i) 0) (getD table (195 + w) 0)
+
+-- row i's figures are those of the six fields of its line (rule 6.6), and within their limits (rules 5.3, 5.9, 5.10)
 pub record RowTaken (sheet table : List ℕ) (i : ℕ) : Type 0 where
   pub release : getD table (3 + i) 0 ≡ figureAt sheet i 1
   pub work : getD table (67 + i) 0 ≡ figureAt sheet i 2
   pub deadline : getD table (131 + i) 0 ≡ figureAt sheet i 3
   pub level : getD table (195 + i) 0 ≡ figureAt sheet i 4
   pub promised : getD table (259 + i) 0 ≡ figureAt sheet i 5
-  pub formed : isLine sheet (33 + 41 * (i - 1)) 5 ≡ true
+  pub follows : getD table (323 + i) 0 ≡ figureAt sheet i 6
+  pub formed : isLine sheet (33 + 49 * (i - 1)) 6 ≡ true
   pub within : RowWithin (getD table (3 + i) 0) (getD table (67 + i) 0) (getD table (131 + i) 0) (getD table (195 + i) 0)
   pub part : PartWithin (getD table (67 + i) 0) (getD table (195 + i) 0) (getD table (259 + i) 0)
+  pub wait : WaitTaken table i
+
+-- no figure of row i (rule 5.4)
+pub record RowEmpty (table : List ℕ) (i : ℕ) : Type 0 where
+  pub release : getD table (3 + i) 0 ≡ 0
+  pub work : getD table (67 + i) 0 ≡ 0
+  pub deadline : getD table (131 + i) 0 ≡ 0
+  pub level : getD table (195 + i) 0 ≡ 0
+  pub promised : getD table (259 + i) 0 ≡ 0
+  pub follows : getD table (323 + i) 0 ≡ 0
 
 -- row i's figures in the sheet are within their limits (rule 5.3)
 abbrev pub RowFits : List ℕ → ℕ → Type 0
@@ -75,12 +99,41 @@ RowFits sheet i = RowWithin (figureAt sheet i 1) (figureAt sheet i 2) (figureAt 
 abbrev pub PartFits : List ℕ → ℕ → Type 0
 PartFits sheet i = PartWithin (figureAt sheet i 2) (figureAt sheet i 4) (figureAt sheet i 5)
 
--- the sheet has the length of its row count (rule 6.7), its first line (rule 6.5) is well formed, and the table is within its limits (rules 5.1 to 5.3,
--- 5.8, 5.9)
+-- and its wait, over the figures of its own line and of the line of the row that it follows (rule 5.10)
+abbrev pub WaitFits : List ℕ → ℕ → Type 0
+WaitFits sheet i =
+    let w = figureAt sheet i 6 in
+    WaitWithin i w (figureAt sheet i 1) (figureAt sheet w 1) (figureAt sheet i 4) (figureAt sheet w 4)
+
+-- row i follows a row, and no row before it has a wait beyond its limits (rule 5.10)
+pub record FirstWait (sheet : List ℕ) (i : ℕ) : Type 0 where
+  pub from : 1 ≤ i
+  pub upTo : i ≤ numberAt sheet 0 1
+  pub follows : 1 ≤ figureAt sheet i 6
+  pub before : (j : ℕ) → 1 ≤ j → j < i → WaitFits sheet j
+
+-- what is wrong with the first wait that is refused: row i follows a row of no lower number (rule 10.13)
+abbrev pub NotLower : List ℕ → ℕ → Type 0
+NotLower sheet i = FirstWait sheet i × (i ≤ figureAt sheet i 6)
+
+-- or a row of a lower number that is released later (rule 10.14)
+abbrev pub ReleasedLater : List ℕ → ℕ → Type 0
+ReleasedLater sheet i =
+    let w = figureAt sheet i 6 in
+    FirstWait sheet i × (w < i) × (figureAt sheet i 1 < figureAt sheet w 1)
+
+-- or a row of a lower number that is released no later, but is LO while row i is not (rule 10.15)
+abbrev pub FollowsLow : List ℕ → ℕ → Type 0
+FollowsLow sheet i =
+    let w = figureAt sheet i 6 in
+    FirstWait sheet i × (w < i) × (figureAt sheet w 1 ≤ figureAt sheet i 1) × (figureAt sheet i 4 ≡ 0 → ⊥) × (figureAt sheet w 4 ≡ 0)
+
+-- the sheet has the length of its row count (rule 6.7), its first line (rule 6.5) is well formed, and the table is within its limits (rules 5.1 to 5.4,
+-- 5.8 to 5.10)
 pub record Taken (sheet table : List ℕ) : Type 0 where
   pub some : 1 ≤ getD table 0 0
   pub few : getD table 0 0 ≤ 64
-  pub length : length sheet ≡ 33 + 41 * getD table 0 0
+  pub length : length sheet ≡ 33 + 49 * getD table 0 0
   pub formed : isLine sheet 0 4 ≡ true
   pub count : getD table 0 0 ≡ numberAt sheet 0 1
   pub normal : getD table 1 0 ≡ numberAt sheet 0 2
@@ -91,20 +144,21 @@ pub record Taken (sheet table : List ℕ) : Type 0 where
   pub loading : getD table 3 0 ≡ numberAt sheet 0 4
   pub loads : getD table 3 0 ≤ 16
   pub row : (i : ℕ) → 1 ≤ i → i ≤ getD table 0 0 → RowTaken sheet table i
+  pub none-after : (i : ℕ) → getD table 0 0 < i → i ≤ 64 → RowEmpty table i
   -- the table is accepted as it stands in the words, with nothing after its last row
   pub accepted : Accepted (tableIn table)
 
 -- with 0 the sheet is taken, with any other number the table is that of zeros (rule 6.8)
 pub record TableAuthor (sheet : List ℕ) (number : ℕ) (table : List ℕ) : Type 0 where
   pub taken : number ≡ 0 → Taken sheet table
-  pub refused : (number ≡ 0 → ⊥) → table ≡ replicate 324 0
-  pub known : (number ≤ 5) ⊎ (number ≡ 11) ⊎ (number ≡ 12)
+  pub refused : (number ≡ 0 → ⊥) → table ≡ replicate 388 0
+  pub known : (number ≤ 5) ⊎ ((11 ≤ number) × (number ≤ 15))
   -- with 1 the length is wrong, with 3 the row count, with 4 a speed (rules 10.1, 10.3, 10.4)
-  pub one : number ≡ 1 → length sheet ≡ 33 + 41 * numberAt sheet 0 1 → 33 ≤ length sheet → ⊥
+  pub one : number ≡ 1 → length sheet ≡ 33 + 49 * numberAt sheet 0 1 → 33 ≤ length sheet → ⊥
   pub three : number ≡ 3 → 1 ≤ numberAt sheet 0 1 → numberAt sheet 0 1 ≤ 64 → ⊥
   pub four : number ≡ 4 → 1 ≤ numberAt sheet 0 3 → numberAt sheet 0 3 ≤ numberAt sheet 0 2 → numberAt sheet 0 2 ≤ 1000 → ⊥
   -- with 2 some line is not well formed (rule 10.2)
-  pub two : number ≡ 2 → isLine sheet 0 4 ≡ true → ((i : ℕ) → 1 ≤ i → i ≤ numberAt sheet 0 1 → isLine sheet (33 + 41 * (i - 1)) 5 ≡ true) → ⊥
+  pub two : number ≡ 2 → isLine sheet 0 4 ≡ true → ((i : ℕ) → 1 ≤ i → i ≤ numberAt sheet 0 1 → isLine sheet (33 + 49 * (i - 1)) 6 ≡ true) → ⊥
   -- with 11 the loading is beyond its limit (rule 10.11)
   pub eleven : number ≡ 11 → numberAt sheet 0 4 ≤ 16 → ⊥
   -- with 5 some row is beyond its limits (rule 10.5)
@@ -112,14 +166,20 @@ pub record TableAuthor (sheet : List ℕ) (number : ℕ) (table : List ℕ) : Ty
   -- with 12 some row promises what it may not, and no row is beyond the limits of 5 (rules 10.12, 11.2)
   pub twelve : number ≡ 12 → ((i : ℕ) → 1 ≤ i → i ≤ numberAt sheet 0 1 → PartFits sheet i) → ⊥
   pub after-five : number ≡ 12 → (i : ℕ) → 1 ≤ i → i ≤ numberAt sheet 0 1 → RowFits sheet i
+  -- with 13, 14 and 15 the first row with a wait beyond its limits counts, and of it the first limit; and no row is beyond the limits of 5 or 12
+  -- (rules 10.13 to 10.15, 11.2)
+  pub thirteen : number ≡ 13 → (i : ℕ) × NotLower sheet i
+  pub fourteen : number ≡ 14 → (i : ℕ) × ReleasedLater sheet i
+  pub fifteen : number ≡ 15 → (i : ℕ) × FollowsLow sheet i
+  pub after-twelve : 13 ≤ number → (i : ℕ) → 1 ≤ i → i ≤ numberAt sheet 0 1 → RowFits sheet i × PartFits sheet i
 
 -- What a table author gets who has a table written back (section 15 of the rules): the lent bytes as they were and as they are afterwards.
 pub record SheetBack (table lent : List ℕ) (number size : ℕ) (after : List ℕ) : Type 0 where
-  -- 0 exactly if the table is accepted and its sheet fits: 33 bytes, and 41 for each row (rules 15.4, 15.8)
+  -- 0 exactly if the table is accepted and its sheet fits: 33 bytes, and 49 for each row (rules 15.4, 15.8)
   pub accepted : number ≡ 0 → Accepted (tableIn table)
-  pub fits : number ≡ 0 → 33 + 41 * getD table 0 0 ≤ length lent
-  pub passes : Accepted (tableIn table) → 33 + 41 * getD table 0 0 ≤ length lent → number ≡ 0
-  pub long : number ≡ 0 → size ≡ 33 + 41 * getD table 0 0
+  pub fits : number ≡ 0 → 33 + 49 * getD table 0 0 ≤ length lent
+  pub passes : Accepted (tableIn table) → 33 + 49 * getD table 0 0 ≤ length lent → number ≡ 0
+  pub long : number ≡ 0 → size ≡ 33 + 49 * getD table 0 0
   -- the first bytes, as many as the length says, read as the table, and no other bytes do (rules 15.6, 15.7)
   pub reads : number ≡ 0 → (checkNumber (readOf (take size after) .check) ≡ 0) × (wordsOf (readOf (take size after) .table) ≡ table)
   pub only : number ≡ 0 → (bytes : List ℕ) → checkNumber (readOf bytes .check) ≡ 0 → wordsOf (readOf bytes .table) ≡ table → bytes ≡ take size after
@@ -129,7 +189,7 @@ pub record SheetBack (table lent : List ℕ) (number size : ℕ) (after : List �
   -- a refusal has the length 0 and writes no byte (rule 15.5)
   pub refused : (number ≡ 0 → ⊥) → (size ≡ 0) × (after ≡ lent)
   -- it is 10 if only the room is missing, and else what the table is refused for (rules 10.10, 11.6)
-  pub ten : number ≡ 10 → Accepted (tableIn table) × (length lent < 33 + 41 * getD table 0 0)
+  pub ten : number ≡ 10 → Accepted (tableIn table) × (length lent < 33 + 49 * getD table 0 0)
   pub own : (number ≡ 10 → ⊥) → number ≡ checkNumber (checkTable (tableIn table))
 
 -- A sheet is read and its table written back: a sheet that was taken comes out byte for byte, with the bytes after it as they were
@@ -155,20 +215,28 @@ pub record Text (input : List ℕ) (size : ℕ) (text : List ℕ) : Type 0 where
 
 -- ---- The planner: the order serves under every course of speed, and 7 is said only if none does (rules 4.10, 9.9).
 
+-- Sixty-four numbers are an order of a table of n rows (rules 5.7, 5.11): each row stands among them once, zeros stand after the first n places, and where
+-- the row at one place follows the row at another, it is the followed row that has the earlier place, which is the higher one.
+pub record AnOrder (n : ℕ) (follows : ℕ → ℕ) (o : List ℕ) : Type 0 where
+  pub each-once : (i : ℕ) → 1 ≤ i → i ≤ n → count i o ≡ 1
+  pub zeros-after : (k : ℕ) → n ≤ k → getD o k 0 ≡ 0
+  pub waits : (p q : ℕ) → 1 ≤ getD o p 0 → 1 ≤ getD o q 0 → follows (getD o q 0) ≡ getD o p 0 → p < q
+
 pub record Planner (t : Table) (number : ℕ) (order : List ℕ) (left : ℕ) : Type 0 where
-  -- of an accepted table the answer is 0 or 7, and 0 exactly if some order serves (rule 4.10)
+  -- of an accepted table the answer is 0 or 7, and 0 exactly if some order serves, where an order passes check 6 and so keeps all waits (rules 4.10,
+  -- 5.11)
   pub either : Accepted t → (number ≡ 0) ⊎ (number ≡ 7)
   pub exists : Accepted t → (o : List ℕ) → isOrder t o ≡ true → Serves t o → number ≡ 0
   pub accepted : (number ≡ 0) ⊎ (number ≡ 7) → Accepted t
   -- with 0 the order is the one that the choice makes, passes check 6 and serves, and no row is left (rule 10.0)
   pub made : number ≡ 0 → (order ≡ padded (choice t .placed)) × (isOrder t order ≡ true) × Serves t order × (left ≡ 0)
-  -- each row stands in it once, and zeros stand after them (rule 5.7)
-  pub each-once : number ≡ 0 → (i : ℕ) → 1 ≤ i → i ≤ t .n → count i order ≡ 1
-  pub zeros-after : number ≡ 0 → (k : ℕ) → t .n ≤ k → getD order k 0 ≡ 0
-  -- with 7 no order serves, the order is zeros, and the word is that of the rows which the choice leaves (rules 4.6, 10.7)
+  -- what check 6 asks of it, in plain terms: each row once, zeros after them, and each followed row above its follower (rules 5.7, 5.11)
+  pub order-plain : number ≡ 0 → AnOrder (t .n) (at (t .follows)) order
+  -- With 7 no order serves that passes check 6: none that keeps all waits, whatever one that breaks a wait would do (rule 21.4). The order is zeros, and
+  -- the word is that of the rows which the choice leaves (rules 4.6, 10.7).
   pub none : number ≡ 7
       → ((o : List ℕ) → isOrder t o ≡ true → Serves t o → ⊥) × (order ≡ replicate 64 0) × (left ≡ word (choice t .left)) × (choice t .left ≡ [] → ⊥)
-  -- with any other number all is zero (rules 10.3 to 10.5, 10.11, 10.12)
+  -- with any other number all is zero (rules 10.3 to 10.5, 10.11 to 10.15)
   pub refused : (number ≡ 0 → ⊥) → (number ≡ 7 → ⊥) → (order ≡ replicate 64 0) × (left ≡ 0)
 
 -- ---- The maker who buys a cooler: the least workable speed is the least at which some order serves (section 18 of the rules).
@@ -205,18 +273,36 @@ pub record LeastRead (sheet : List ℕ) (read : ℕ) (table : List ℕ) (index f
 
 -- ---- The firmware writer: the row is known before the supply (rules 2.4, 8.15), and a slot changes just what it says (rules 8.9 to 8.14).
 
+-- the sixty-four numbers are an order of the table that the words hold (rules 5.7, 5.11)
+abbrev pub OrderIn : List ℕ → List ℕ → Type 0
+OrderIn table order = AnOrder (getD table 0 0) (λ i. getD table (323 + i) 0) order
+
 -- A fresh record (rule 8.2): 0 exactly if the table is accepted and the order is one of its orders, and then the table's words and the order
 -- as they were handed in; a refusal leaves zeros in both. The state is zeros either way.
 pub record FreshRecord (table order : List ℕ) (said : Begun) : Type 0 where
   pub passed : said .number ≡ 0 → Accepted (tableIn table) × (isOrder (tableIn table) order ≡ true)
   pub passes : Accepted (tableIn table) → isOrder (tableIn table) order ≡ true → said .number ≡ 0
+  -- An order of an accepted table in plain terms: 0 exactly if the numbers are one, and 6 exactly if they are none, as where a follower stands above the
+  -- row that it follows (rules 5.7, 5.11, 10.6).
+  pub order-plain : said .number ≡ 0 → OrderIn table order
+  pub plain-order : Accepted (tableIn table) → OrderIn table order → said .number ≡ 0
+  pub six : said .number ≡ 6 → Accepted (tableIn table) × (OrderIn table order → ⊥)
+  pub no-order : Accepted (tableIn table) → (OrderIn table order → ⊥) → said .number ≡ 6
   pub held : said .number ≡ 0 → (said .table ≡ table) × (said .order ≡ order)
-  pub refused : (said .number ≡ 0 → ⊥) → (said .table ≡ replicate 324 0) × (said .order ≡ replicate 64 0)
+  pub refused : (said .number ≡ 0 → ⊥) → (said .table ≡ replicate 388 0) × (said .order ≡ replicate 64 0)
   pub zeros : said .state ≡ replicate 193 0
 
--- row i is released at the clock and open (rule 2.2)
+-- row i is released at the clock and open (rules 1.5, 2.2)
+abbrev pub PendingIn : List ℕ → List ℕ → ℕ → Type 0
+PendingIn table state i = (1 ≤ i) × (i ≤ getD table 0 0) × (getD table (3 + i) 0 ≤ getD state 0 0) × (getD state (128 + i) 0 ≡ 0)
+
+-- row i follows no row, or one that has a closing slot, done or dropped (rule 2.15)
+abbrev pub FreeIn : List ℕ → List ℕ → ℕ → Type 0
+FreeIn table state i = (getD table (323 + i) 0 ≡ 0) ⊎ (1 ≤ getD state (128 + getD table (323 + i) 0) 0)
+
+-- row i is ready: released at the clock and open, and it does not wait (rules 2.2, 2.15)
 abbrev pub ReadyIn : List ℕ → List ℕ → ℕ → Type 0
-ReadyIn table state i = (1 ≤ i) × (i ≤ getD table 0 0) × (getD table (3 + i) 0 ≤ getD state 0 0) × (getD state (128 + i) 0 ≡ 0)
+ReadyIn table state i = PendingIn table state i × FreeIn table state i
 
 -- row j has the same work got, the same slots used and the same closing slot in two states
 abbrev pub SameRow : List ℕ → List ℕ → ℕ → Type 0
@@ -229,7 +315,7 @@ DueIn table clock j = (1 ≤ j) × (j ≤ getD table 0 0) × (getD table (195 + 
 
 -- row j does not run in the slot: its work got and its slots used stay, and so does its closing slot if it has one; if it is open it is closed
 -- by the clock after the slot just if it is due then (rules 2.12, 19.2)
-pub record RowWaits (table state next : List ℕ) (j : ℕ) : Type 0 where
+pub record RowRests (table state next : List ℕ) (j : ℕ) : Type 0 where
   pub got : getD next j 0 ≡ getD state j 0
   pub used : getD next (64 + j) 0 ≡ getD state (64 + j) 0
   pub closed : (getD state (128 + j) 0 ≡ 0 → ⊥) → getD next (128 + j) 0 ≡ getD state (128 + j) 0
@@ -249,6 +335,9 @@ pub record RowRuns (table order state : List ℕ) (supply i : ℕ) (next : List 
   pub place : ℕ
   pub stands : getD order place 0 ≡ i
   pub highest : (p : ℕ) → p < place → ReadyIn table state (getD order p 0) → ⊥
+  -- Waits change no slot of a sound record (rule 21.2): no row of a higher place is even released and open. So the row that runs is the highest in the
+  -- order that is released and open, and no follower has to be looked for.
+  pub highest-open : (p : ℕ) → p < place → PendingIn table state (getD order p 0) → ⊥
   -- a row that has used fewer than K slots loads and gets nothing, whatever the supply; any other gets the supply, up to its work
   pub loads : getD state (64 + i) 0 < getD table 3 0 → getD next i 0 ≡ getD state i 0
   pub got : getD table 3 0 ≤ getD state (64 + i) 0 → getD next i 0 ≡ min (getD table (67 + i) 0) (getD state i 0 + supply)
@@ -262,7 +351,7 @@ pub record RowRuns (table order state : List ℕ) (supply i : ℕ) (next : List 
       → (getD table (195 + i) 0 ≡ 0 → (getD next (64 + i) 0 < allowedSlots table i)
       × (getD state 0 0 + 1 < getD table (131 + i) 0))
       → getD next (128 + i) 0 ≡ 0
-  pub others : (j : ℕ) → 1 ≤ j → j ≤ 64 → (j ≡ i → ⊥) → RowWaits table state next j
+  pub others : (j : ℕ) → 1 ≤ j → j ≤ 64 → (j ≡ i → ⊥) → RowRests table state next j
 
 pub record FirmwareWriter (table order state : List ℕ) (supply : ℕ) (said : Slots) : Type 0 where
   -- the coming slot was told as it came, whatever the supply (rule 8.15)
@@ -280,6 +369,8 @@ pub record FirmwareWriter (table order state : List ℕ) (supply : ℕ) (said : 
   pub clock : said .number ≡ 0 → getD (said .next) 0 0 ≡ getD state 0 0 + 1
   -- an idle slot: no row is ready, and only the clock moves; a row that it would drop would have been ready (rules 2.3, 2.12, 19.7)
   pub idle : said .number ≡ 0 → said .row ≡ 0 → ((i : ℕ) → ReadyIn table state i → ⊥) × ((k : ℕ) → 1 ≤ k → getD (said .next) k 0 ≡ getD state k 0)
+  -- nor is any row released and open, whether it waits or not: no slot is idle beside such a row (rule 21.2)
+  pub none-open : said .number ≡ 0 → said .row ≡ 0 → (i : ℕ) → PendingIn table state i → ⊥
   pub runs : said .number ≡ 0 → (said .row ≡ 0 → ⊥) → RowRuns table order state supply (said .row) (said .next)
 
 -- the state's words after one slot with a supply, as `FirmwareWriter` has them, and after one slot for each supply in turn (rules 8.9, 8.10)
@@ -303,7 +394,8 @@ pub record Forwarding (table order state supplies : List ℕ) (said : Forwards) 
   pub room : isSound (runIn table order state) ≡ true → getD state 0 0 + length supplies ≤ 2000000 → said .number ≡ 0
   pub no-room : isSound (runIn table order state) ≡ true → 2000000 < getD state 0 0 + length supplies → said .number ≡ 8
 
--- ---- The pen engineer: deadlines are kept through every list of calls that the firmware makes (rules 9.5 to 9.15).
+-- ---- The pen engineer: deadlines are kept through every list of calls that the firmware makes (rules 9.5 to 9.15), and no follower runs before the
+-- row that it follows is closed (rule 9.19).
 
 -- What one call of the archive says and leaves over the words: `jb_slot` with a supply (rule 8.9), or `jb_forward` with a list of
 -- them (rule 8.10).
@@ -339,14 +431,24 @@ pub record KeptWords (table state : List ℕ) (i : ℕ) : Type 0 where
   pub from : 1 ≤ getD state (128 + i) 0
   pub upTo : getD state (128 + i) 0 ≤ getD table (131 + i) 0
 
+-- In the words of a state, a row that has used a slot follows none, or one that is closed, and all slots that it has used came after that closing slot; and
+-- what a row of a level other than 0 follows has then got all its work (rule 9.19).
+pub record WaitedWords (table state : List ℕ) : Type 0 where
+  pub closed : (i : ℕ) → 1 ≤ i → i ≤ getD table 0 0 → (getD table (323 + i) 0 ≡ 0 → ⊥) → 1 ≤ getD state (64 + i) 0
+      → 1 ≤ getD state (128 + getD table (323 + i) 0) 0
+  pub after : (i : ℕ) → 1 ≤ i → i ≤ getD table 0 0 → (getD table (323 + i) 0 ≡ 0 → ⊥) → 1 ≤ getD state (64 + i) 0
+      → getD state (128 + getD table (323 + i) 0) 0 + getD state (64 + i) 0 ≤ getD state 0 0
+  pub done : (i : ℕ) → 1 ≤ i → i ≤ getD table 0 0 → (getD table (323 + i) 0 ≡ 0 → ⊥) → (getD table (195 + i) 0 ≡ 0 → ⊥) → 1 ≤ getD state (64 + i) 0
+      → getD state (getD table (323 + i) 0) 0 ≡ getD table (67 + getD table (323 + i) 0) 0
+
 -- the words of the fresh record's state (rule 8.2)
 abbrev pub startOf : List ℕ → List ℕ → List ℕ
 startOf table order = stateWords (freshRun (tableIn table) order)
 
 -- From the start on, the answers are those of the run on paper, and each row whose deadline the clock has reached has kept it: a HI row if its
 -- slots supplied at least G, a LO row if they supplied at least N (rules 9.10, 9.12); and a LO row has got its promised part if they supplied at
--- least G (rule 9.18). Whatever they supplied, a LO row is open only while its
--- deadline is to come and was else closed by then, and a HI row is closed only when it is done (rules 19.2, 19.4).
+-- least G (rule 9.18). Whatever they supplied, a LO row is open only while its deadline is to come and was else closed by then, a HI row is closed only
+-- when it is done (rules 19.2, 19.4), and no follower has run before the row that it follows was closed (rule 9.19).
 pub record PenEngineer (table order start : List ℕ) (cs : List Call) : Type 0 where
   pub said : listWords table order cs start .said ≡ tellAll (tableIn table) order cs fresh .said
   pub clock : getD (listWords table order cs start .state) 0 0 ≡ tellAll (tableIn table) order cs fresh .state .clock
@@ -361,6 +463,7 @@ pub record PenEngineer (table order start : List ℕ) (cs : List Call) : Type 0 
       × (getD (listWords table order cs start .state) (128 + i) 0 ≤ getD table (131 + i) 0)
   pub pen : (i : ℕ) → 1 ≤ i → i ≤ getD table 0 0 → (getD table (195 + i) 0 ≡ 0 → ⊥) → 1 ≤ getD (listWords table order cs start .state) (128 + i) 0
       → getD (listWords table order cs start .state) i 0 ≡ getD table (67 + i) 0
+  pub waits : WaitedWords table (listWords table order cs start .state)
 
 -- a number and a value as an answer (rules 9.7, 9.8)
 abbrev pub told : ℕ → ℕ → Said
@@ -398,6 +501,10 @@ pub record SalesDesk (t : Table) (o : List ℕ) (said : Opinion) (least : ℤ) (
   -- the checks passed exactly if the table is accepted and the order is one of its orders (rule 11.4); else all is zero (rules 7.4, 7.5)
   pub passed : said .number ≡ 0 → Accepted t × (isOrder t o ≡ true)
   pub passes : Accepted t → isOrder t o ≡ true → said .number ≡ 0
+  -- 6 exactly if only the order is at fault: a row missing or twice, a number after the last, or a follower above the row that it follows (rules 5.7,
+  -- 5.11, 10.6)
+  pub six : said .number ≡ 6 → Accepted t × (AnOrder (t .n) (at (t .follows)) o → ⊥)
+  pub no-order : Accepted t → (AnOrder (t .n) (at (t .follows)) o → ⊥) → said .number ≡ 6
   pub refused : (said .number ≡ 0 → ⊥) → (said .yes ≡ 0) × (said .row ≡ 0) × (least ≡ pos 0) × (finishes ≡ replicate 64 0)
   -- yes exactly if the order serves under every course of speed (rule 7.2)
   pub yes-serves : said .yes ≡ 1 → Serves t o

@@ -50,6 +50,7 @@ words-at : (table : List ℕ) (index s : ℕ) → index < 4
       deadline = tableIn table .deadline;
       level = tableIn table .level;
       promised = tableIn table .promised;
+      follows = tableIn table .follows;
     }
 unfolding tableIn
 words-at table index s h =
@@ -59,10 +60,11 @@ words-at table index s h =
       drop-set-lt 132 table index s (omega arith),
       drop-set-lt 196 table index s (omega arith),
       drop-set-lt 260 table index s (omega arith),
+      drop-set-lt 324 table index s (omega arith),
     )
 
 -- the words with another speed hold the table at that speed
-pub at-word : (f : Sought) (table : List ℕ) (s : ℕ) → length table ≡ 324 → speedAt table (indexOf f) s ≡ atSpeed f (tableIn table) s
+pub at-word : (f : Sought) (table : List ℕ) (s : ℕ) → length table ≡ 388 → speedAt table (indexOf f) s ≡ atSpeed f (tableIn table) s
 unfolding tableIn
 at-word Degraded table s long =
     words-at table 2 s (omega arith)
@@ -118,7 +120,7 @@ number-accepted f t = go (checkTable t)
     go (Refused why) h = absurd (⊎-elim (λ n. refusal-number why .0 n) (λ n. refusal-number why .1 n) h)
 
 -- whatever a search promises of its answer, as numbers over the words
-module _ (f : Sought) (table : List ℕ) (long : length table ≡ 324) (r : Searching) (p : Promise f (tableIn table) r) where
+module _ (f : Sought) (table : List ℕ) (long : length table ≡ 388) (r : Searching) (p : Promise f (tableIn table) r) where
   abbrev t : Table
   t = tableIn table
 
@@ -165,12 +167,12 @@ module _ (f : Sought) (table : List ℕ) (long : length table ≡ 324) (r : Sear
       }
 
 -- the two searches over the words, and the range of each
-pub cooled-degraded : (table : List ℕ) → length table ≡ 324 → let r = searchOf Degraded (tableIn table) in
+pub cooled-degraded : (table : List ℕ) → length table ≡ 388 → let r = searchOf Degraded (tableIn table) in
     LeastFound table 2 1 (getD table 1 0) (searchedNumber (r .answer)) (searchedSpeed (r .answer)) (r .order)
 unfolding tableIn
 cooled-degraded table long = cooled Degraded table long (searchOf Degraded (tableIn table)) (promised-search Degraded (tableIn table) _ refl)
 
-pub cooled-normal : (table : List ℕ) → length table ≡ 324 → let r = searchOf Normal (tableIn table) in
+pub cooled-normal : (table : List ℕ) → length table ≡ 388 → let r = searchOf Normal (tableIn table) in
     LeastFound table 1 (getD table 2 0) 1000 (searchedNumber (r .answer)) (searchedSpeed (r .answer)) (r .order)
 unfolding tableIn
 cooled-normal table long = cooled Normal table long (searchOf Normal (tableIn table)) (promised-search Normal (tableIn table) _ refl)
@@ -196,20 +198,22 @@ read-promise f bytes z =
     subst (λ (t : Table). Promise f t (searchSheet f bytes)) (sym (table-in-words-of (readOf bytes .table) (read-full bytes)))
     (promised-sheet f bytes (searchSheet f bytes) refl .table (passed-check (readOf bytes .check) z))
 
-words-long : (t : Table) → FullTable t → length (wordsOf t) ≡ 324
+words-long : (t : Table) → FullTable t → length (wordsOf t) ≡ 388
 unfolding wordsOf
 words-long t f =
     omega (
       arith,
-      length-append (t .release) (t .work ++ (t .deadline ++ (t .level ++ t .promised))),
-      length-append (t .work) (t .deadline ++ (t .level ++ t .promised)),
-      length-append (t .deadline) (t .level ++ t .promised),
-      length-append (t .level) (t .promised),
+      length-append (t .release) (t .work ++ (t .deadline ++ (t .level ++ (t .promised ++ t .follows)))),
+      length-append (t .work) (t .deadline ++ (t .level ++ (t .promised ++ t .follows))),
+      length-append (t .deadline) (t .level ++ (t .promised ++ t .follows)),
+      length-append (t .level) (t .promised ++ t .follows),
+      length-append (t .promised) (t .follows),
       f .release,
       f .work,
       f .deadline,
       f .level,
       f .promised,
+      f .follows,
     )
 
 -- what the two calls answer

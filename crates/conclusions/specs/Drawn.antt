@@ -16,9 +16,9 @@ use Rattle.rules.specs.Rows.{at}
 use Rattle.rules.specs.Running.{runAfter}
 use Rattle.rules.specs.Slots.{State}
 use Rattle.rules.specs.Tables.{Accepted}
-use Rattle.theory.specs.Facts.{facts, is-row}
+use Rattle.theory.specs.Facts.{Row, facts, is-row, followed-row}
 use Rattle.theory.specs.Results.{running-low, running-high}
-use Rattle.theory.specs.Tests.{by-bool}
+use Rattle.theory.specs.Tests.{by-bool, by-eqb}
 use Rattle.rules.specs.declared.Check.the-variants.{Passed}
 use Rattle.rules.specs.Choice.{planOf}
 use Rattle.rules.specs.Numbers.{checkNumber, plannedNumber}
@@ -28,13 +28,13 @@ use Rattle.record.specs.Fresh.{fresh-sized}
 use Rattle.record.specs.Kept.{Sized, sized-kept}
 use Rattle.record.specs.Records.{freshRun, freshOf, isSound, nextRun, oneSlot, workOn, forwardOver}
 use Rattle.guarantee.specs.Claim.{paper, RunRight, Claim}
-use Rattle.guarantee.specs.Concluded.{Supplied, Done, Deadlines, concluded}
+use Rattle.guarantee.specs.Concluded.{Supplied, Done, Deadlines, Waited, concluded}
 use Rattle.guarantee.specs.Playing.{make, makeAll}
 use Rattle.guarantee.specs.Proved.{demand-3}
 use Rattle.words.specs.Inverse.{words-of-table-in}
 use Rattle.words.specs.Words.{tableIn, wordsOf, runIn, stateWords}
 use Rattle.conclusions.specs.declared.Drawing.{Drawing}
-use Rattle.conclusions.specs.Conclusions.{callWords, ListTold, listWords, SuppliedIn, KeptWords, startOf, PenEngineer, told, Drawn}
+use Rattle.conclusions.specs.Conclusions.{callWords, ListTold, listWords, SuppliedIn, KeptWords, WaitedWords, startOf, PenEngineer, told, Drawn}
 use Rattle.conclusions.specs.Entries.{table-words, StateWords, state-words}
 use Rattle.conclusions.specs.Firmware.{held}
 use Rattle.conclusions.specs.Forwarded.{clock-word}
@@ -69,7 +69,7 @@ module _ (t : Table) (o : List ℕ) where
   alike-all [] q a = a
   alike-all (c ∷ cs) q a = alike-all cs (make c q .run) (alike-made c q a)
 
-module _ (table order : List ℕ) (tables : length table ≡ 324) where
+module _ (table order : List ℕ) (tables : length table ≡ 388) where
   abbrev t : Table
   t = tableIn table
 
@@ -92,7 +92,7 @@ module _ (table order : List ℕ) (tables : length table ≡ 324) where
   alike-fresh : Alike t order (freshRun t order)
   alike-fresh = record { table = refl; order = refl; sized = fresh-sized t order }
 
-  module _ (accepted : Accepted t) (passes : isOrder t order ≡ true) (serves : Serves t order) (cs : List Call) where
+  module _ (accepted : Accepted t) (passes : isOrder t order ≡ true) (cs : List Call) where
     abbrev start : List ℕ
     start = stateWords (freshRun t order)
 
@@ -163,9 +163,64 @@ module _ (table order : List ℕ) (tables : length table ≡ 324) where
         (paper t order cs .state .clock) (omega (arith, c, e .closing, closing-end i)) in
         e .got ∙ got-end i ∙ done ∙ sym (w .work)
 
-    pub penned : PenEngineer table order start cs
+    -- ---- what any order of the table keeps of waits, whether it serves or not
+    waited : Waited t (makeAll cs (freshRun t order))
+    waited = rw (claim .started order passes) at (concluded demand-3 t accepted cs .waits order passes)
+
+    -- a follower that has used a slot, and the row that it follows
+    module _ (i : ℕ) (l : 1 ≤ i) (h : i ≤ t .n) (n : getD table (323 + i) 0 ≡ 0 → ⊥) (used : 1 ≤ getD (stateWords end) (64 + i) 0) where
+      abbrev w : ℕ
+      w = at (t .follows) i
+
+      w-is : getD table (323 + i) 0 ≡ w
+      w-is = table-words table i l (few i h) .follows
+
+      some : 1 ≤ w
+      some = by-eqb w 0 (λ _ z. absurd (n (w-is ∙ z))) (λ _ z. omega arith)
+
+      row : Row t w
+      row = followed-row t (facts t accepted) i (record { from = l; upTo = h }) some
+
+      used-end : 1 ≤ at (end .used) i
+      used-end = omega (arith, used, end-words i l (few i h) .used)
+
+      followed-closed : 1 ≤ getD (stateWords end) (128 + getD table (323 + i) 0) 0
+      followed-closed =
+          rw w-is (omega (arith, end-words w some (few w (row .upTo)) .closing, waited .closed i l h (λ z. n (w-is ∙ z)) used-end))
+
+      followed-before : getD (stateWords end) (128 + getD table (323 + i) 0) 0 + getD (stateWords end) (64 + i) 0 ≤ getD (stateWords end) 0 0
+      followed-before =
+          rw w-is
+          (omega (
+            arith,
+            end-words w some (few w (row .upTo)) .closing,
+            end-words i l (few i h) .used,
+            clock-word end,
+            waited .after i l h (λ z. n (w-is ∙ z)) used-end,
+          ))
+
+      followed-done : (getD table (195 + i) 0 ≡ 0 → ⊥) → getD (stateWords end) (getD table (323 + i) 0) 0 ≡ getD table (67 + getD table (323 + i) 0) 0
+      followed-done high =
+          let v = table-words table w some (few w (row .upTo)) in
+          rw w-is
+          (end-words w some (few w (row .upTo)) .got
+          ∙ waited .done i l h (λ z. n (w-is ∙ z)) (λ z. high (table-words table i l (few i h) .level ∙ z)) used-end
+          ∙ sym (v .work))
+
+    -- so it is through every list of calls, by a planned order or any other
+    pub waited-words : WaitedWords table (listWords table order cs start .state)
     unfolding tableIn
-    penned =
+    waited-words =
+        rw listed
+        (record {
+          closed = λ i l h n used. followed-closed i l h n used;
+          after = λ i l h n used. followed-before i l h n used;
+          done = λ i l h n high used. followed-done i l h n used high;
+        })
+
+    pub penned : Serves t order → PenEngineer table order start cs
+    unfolding tableIn
+    penned serves =
         record {
           said = ap (λ (x : ListTold). x .said) listed ∙ right .said;
           clock = rw listed (clock-word end ∙ right .clock);
@@ -176,6 +231,7 @@ module _ (table order : List ℕ) (tables : length table ≡ 324) where
           part = λ i l h n d w. rw listed (part-words i l h (deadlines .part serves i l h (sym (table-words table i l (few i h) .level) ∙ n) (reached i l h d) (supplied i _ l h w)));
           preview = λ i l h n. rw listed (previewed i l h (sym (table-words table i l (few i h) .level) ∙ n));
           pen = λ i l h n. rw listed (pens i l h (λ z. n (table-words table i l (few i h) .level ∙ z)));
+          waits = waited-words;
         }
 
 -- ---- planned, started afresh and worked forward through the exported functions
@@ -192,7 +248,7 @@ pub record Drew (table supplies runTable runOrder runState : List ℕ) (said : D
   pub worked : said .worked ≡ forwardSaid (forwardOver (runIn runTable runOrder runState) supplies .answer) .value
   pub state : said .state ≡ stateWords (forwardOver (runIn runTable runOrder runState) supplies .run)
 
-module _ (table supplies runTable runOrder runState : List ℕ) (tables : length table ≡ 324) (said : Drawing)
+module _ (table supplies runTable runOrder runState : List ℕ) (tables : length table ≡ 388) (said : Drawing)
     (d : Drew table supplies runTable runOrder runState said) where
   module _ (n : said .planned ≡ 0) where
     made : plannedNumber (planOf (tableIn table) .answer) ≡ 0
@@ -224,6 +280,6 @@ module _ (table supplies runTable runOrder runState : List ℕ) (tables : length
       record {
         fresh = λ n. d .fresh ∙ rw (begun-is n);
         answer = answer-is;
-        kept = λ n. penned table (said .order) tables (accepted n) (passes n) (serves n) (forward supplies ∷ []);
+        kept = λ n. penned table (said .order) tables (accepted n) (passes n) (forward supplies ∷ []) (serves n);
         left = left-is;
       }

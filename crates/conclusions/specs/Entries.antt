@@ -15,11 +15,11 @@ use Rattle.words.specs.Words.{columnAt, tableIn, runIn}
 pub entry : (words : List ℕ) (from i : ℕ) → 1 ≤ i → i ≤ 64 → at (columnAt from words) i ≡ getD words (from + (i - 1)) 0
 entry words from i l h = getD-take 64 (drop from words) (i - 1) 0 (omega arith) ∙ getD-drop from words (i - 1) 0
 
--- 324 words hold a table with full columns
+-- 388 words hold a table with full columns
 pub column-full : (words : List ℕ) (from : ℕ) → from + 64 ≤ length words → length (columnAt from words) ≡ 64
 column-full words from h = omega (arith, length-take 64 (drop from words), length-drop from words)
 
-pub full-table : (table : List ℕ) → length table ≡ 324 → FullTable (tableIn table)
+pub full-table : (table : List ℕ) → length table ≡ 388 → FullTable (tableIn table)
 unfolding tableIn
 full-table table e =
     record {
@@ -28,6 +28,7 @@ full-table table e =
       deadline = column-full table 132 (omega arith);
       level = column-full table 196 (omega arith);
       promised = column-full table 260 (omega arith);
+      follows = column-full table 324 (omega arith);
     }
 
 -- the words of a table, row by row
@@ -37,6 +38,7 @@ pub record TableWords (words : List ℕ) (t : Table) (i : ℕ) : Type 0 where
   pub deadline : getD words (131 + i) 0 ≡ at (t .deadline) i
   pub level : getD words (195 + i) 0 ≡ at (t .level) i
   pub promised : getD words (259 + i) 0 ≡ at (t .promised) i
+  pub follows : getD words (323 + i) 0 ≡ at (t .follows) i
 
 -- the word at a place, where the place is written in two ways
 same-word : (words : List ℕ) (p q v : ℕ) → p ≡ q → v ≡ getD words q 0 → getD words p 0 ≡ v
@@ -51,6 +53,7 @@ table-words words i l h =
       deadline = same-word words (131 + i) (132 + (i - 1)) _ (omega arith) (entry words 132 i l h);
       level = same-word words (195 + i) (196 + (i - 1)) _ (omega arith) (entry words 196 i l h);
       promised = same-word words (259 + i) (260 + (i - 1)) _ (omega arith) (entry words 260 i l h);
+      follows = same-word words (323 + i) (324 + (i - 1)) _ (omega arith) (entry words 324 i l h);
     }
 
 -- the words of a state, row by row

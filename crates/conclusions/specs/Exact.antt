@@ -32,7 +32,7 @@ use Rattle.conclusions.specs.Back.{again}
 use Rattle.conclusions.specs.Conclusions.{SheetBack, SheetAgain, NumberField}
 
 -- ---- a table written back
-module _ (table lent : List ℕ) (number size : ℕ) (after : List ℕ) (words : length table ≡ 324) (s : SheetBack table lent number size after) where
+module _ (table lent : List ℕ) (number size : ℕ) (after : List ℕ) (words : length table ≡ 388) (s : SheetBack table lent number size after) where
   abbrev u : Table
   u = tableIn table
 
@@ -83,7 +83,7 @@ module _ (table lent : List ℕ) (number size : ℕ) (after : List ℕ) (words :
       (λ _ n. by-eqb number 10 (λ _ z. refused NoRoom (full z) z n) (λ _ m. own-check (checkTable u) refl (s .own m) n))
 
 -- ---- a sheet read and written back
-pub again-exact : (sheet lent : List ℕ) (said : Again) (after : List ℕ) → length lent ≡ 2657
+pub again-exact : (sheet lent : List ℕ) (said : Again) (after : List ℕ) → length lent ≡ 3169
     → said .read ≡ checkNumber (readOf sheet .check)
     → SheetAgain sheet lent said after
     → let b = writeOf (tableIn (wordsOf (readOf sheet .table))) lent in

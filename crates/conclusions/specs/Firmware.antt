@@ -2,23 +2,25 @@
 use Prim.Native.Nat.{ℕ, zero, suc, _+_, _-_, _≤_, _<_, min, max}
 use mathlib.Core.Bool.{Bool, true, false, cond, _&&_}
 use mathlib.Core.Logic.{inl, inr}
-use mathlib.Core.List.{List, [], _∷_, _++_}
+use mathlib.Core.List.{List}
 use mathlib.Core.Path.{_≡_, refl, sym, ap, _∙_}
 use native.Mathlib.Omega.{arith}
 use borrow.Author.Tests.{ltb-true, ltb-false, lt-ltb, le-leb, lt-leb, eq-eqb, ne-eqb}
 use lib.Dec.{ltb, eqb}
-use lib.ListN.{length, getD, take, drop, take-append-drop}
+use lib.ListN.{length, getD}
 use Rattle.rules.specs.Calls.{lastClock}
 use Rattle.rules.specs.Lists.{first}
 use Rattle.rules.specs.Need.{need}
 use Rattle.rules.specs.Numbers.{refusalNumber}
-use Rattle.rules.specs.Rows.{at}
+use Rattle.rules.specs.Orders.{isOrder}
+use Rattle.rules.specs.Rows.{at, followsOf}
 use Rattle.rules.specs.Running.{closeLate}
-use Rattle.rules.specs.Slots.{isReady, chosen}
-use Rattle.theory.specs.Cells.{brought-none, brought-all, Ready, ready-is, chosen-ready}
-use Rattle.theory.specs.Facts.{Row, both-order, is-row}
+use Rattle.rules.specs.Slots.{isPending}
+use Rattle.theory.specs.Cells.{brought-none, brought-all, is-pending, Ready, chosen-ready}
+use Rattle.theory.specs.Facts.{Row, TableFacts, both-accepted, both-order, is-row}
 use Rattle.theory.specs.Late.{closed-at}
-use Rattle.theory.specs.Runs.{none-ready}
+use Rattle.theory.specs.Results.{first-pending}
+use Rattle.theory.specs.Runs.{none-pending}
 use Rattle.theory.specs.Tests.{by-bool, by-eqb, by-leb, not-both}
 use Rattle.columns.specs.Entries.{put-same, put-other}
 use Rattle.columns.specs.Figures.{over, sound-facts, dueAt}
@@ -34,28 +36,9 @@ use Rattle.rules.specs.Tables.{FullTable}
 use Rattle.words.specs.Words.{tableIn, wordsOf, runIn, stateWords}
 use Rattle.words.specs.Inverse.{words-of-table-in, state-words-of-run-in, run-in-words}
 use Rattle.conclusions.specs.declared.Slots.{Slots}
-use Rattle.conclusions.specs.Conclusions.{ReadyIn, DueIn, RowWaits, RowRuns, FirmwareWriter, allowedSlots}
+use Rattle.conclusions.specs.Conclusions.{PendingIn, FreeIn, DueIn, RowRests, RowRuns, FirmwareWriter, allowedSlots}
 use Rattle.conclusions.specs.Entries.{column-full, full-table, TableWords, table-words, StateWords, state-words}
-
--- ---- the first that passes stands at a place, and none before it passes
-pub record FirstAt (p : ℕ → Bool) (xs : List ℕ) (i : ℕ) : Type 0 where
-  pub place : ℕ
-  pub stands : getD xs place 0 ≡ i
-  pub before : (k : ℕ) → k < place → p (getD xs k 0) ≡ false
-
-first-at : (p : ℕ → Bool) (xs : List ℕ) → (first p xs ≡ 0 → ⊥) → FirstAt p xs (first p xs)
-first-at p [] h = absurd (h refl)
-first-at p (x ∷ xs) h =
-    by-bool (p x)
-    (λ e. rw e (record { place = 0; stands = refl; before = λ k l. absurd (omega arith) }))
-    (λ e. rw e (later e (first-at p xs (rw e at h))))
-  where
-    later : p x ≡ false → FirstAt p xs (first p xs) → FirstAt p (x ∷ xs) (first p xs)
-    later e f = record { place = suc (f .place); stands = f .stands; before = earlier }
-      where
-        earlier : (k : ℕ) → k < suc (f .place) → p (getD (x ∷ xs) k 0) ≡ false
-        earlier zero l = e
-        earlier (suc k) l = f .before k (omega arith)
+use Rattle.conclusions.specs.Places.{FirstAt, first-at}
 
 -- ---- when a row is over, one way after another
 module _ (work level promised normal degraded loading got used : ℕ) where
@@ -78,8 +61,8 @@ module _ (work level promised normal degraded loading got used : ℕ) where
       (λ e z. rw (ne-eqb got work n, e, lt-leb most used (h z)))
       (λ e z. rw (ne-eqb got work n, e))
 
--- ---- the words lent: 324 of a table and 193 of a state
-module _ (table order : List ℕ) (tables : length table ≡ 324) where
+-- ---- the words lent: 388 of a table and 193 of a state
+module _ (table order : List ℕ) (tables : length table ≡ 388) where
   -- a record of the same table and order with full columns is the one that its words hold
   pub held : (q : Run) → q .table ≡ tableIn table → q .order ≡ order → Sized q → runIn table order (stateWords q) ≡ q
   held q t o z =
@@ -88,7 +71,7 @@ module _ (table order : List ℕ) (tables : length table ≡ 324) where
       let w : table ≡ wordsOf (q .table) = sym (words-of-table-in table tables) ∙ ap wordsOf (sym t) in
       ap (λ (x : List ℕ). runIn x order (stateWords q)) w ∙ ap (λ (x : List ℕ). runIn (wordsOf (q .table)) x (stateWords q)) (sym o) ∙ e
 
-module _ (table order state : List ℕ) (tables : length table ≡ 324) (states : length state ≡ 193) where
+module _ (table order state : List ℕ) (tables : length table ≡ 388) (states : length state ≡ 193) where
   abbrev r : Run
   r = runIn table order state
 
@@ -96,29 +79,15 @@ module _ (table order state : List ℕ) (tables : length table ≡ 324) (states 
   unfolding runIn
   sized = record { got = column-full state 1 (omega arith); used = column-full state 65 (omega arith); closing = column-full state 129 (omega arith) }
 
-  -- ---- which row is ready, over the words and over the record
-  words-ready : (i : ℕ) → ReadyIn table state i → i ≤ 64 → isReady (r .table) (stateOf r) i ≡ true
-  unfolding isReady runIn tableIn
-  words-ready i h few =
+  -- ---- a row that is released and open over the words is so in the record
+  words-pending : (i : ℕ) → PendingIn table state i → i ≤ 64 → isPending (r .table) (stateOf r) i ≡ true
+  unfolding runIn tableIn
+  words-pending i h few =
       let w = table-words table i (h .0) few in
       let s = state-words table order state i (h .0) few in
-      rw (is-row (tableIn table) i (record { from = h .0; upTo = h .1 }), le-leb _ _ (ready-release w), eq-eqb _ 0 (ready-closing s))
-    where
-      ready-release : TableWords table (tableIn table) i → at (tableIn table .release) i ≤ getD state 0 0
-      ready-release w = omega (arith, w .release, h .2)
+      is-pending (r .table) (stateOf r) i (record { from = h .0; upTo = h .1 }) (omega (arith, w .release, h .2)) (sym (s .closing) ∙ h .3)
 
-      ready-closing : StateWords state r i → at (r .closing) i ≡ 0
-      ready-closing s = sym (s .closing) ∙ h .3
-
-  ready-words : (i : ℕ) → i ≤ 64 → isReady (r .table) (stateOf r) i ≡ true → ReadyIn table state i
-  unfolding runIn tableIn
-  ready-words i few e =
-      let f = ready-is (r .table) (stateOf r) i e in
-      let w = table-words table i (f .row .from) few in
-      let s = state-words table order state i (f .row .from) few in
-      (f .row .from, f .row .upTo, omega (arith, w .release, f .released), s .closing ∙ f .still)
-
-  row-of : (i : ℕ) → ReadyIn table state i → Row (r .table) i
+  row-of : (i : ℕ) → PendingIn table state i → Row (r .table) i
   unfolding runIn tableIn
   row-of i h = record { from = h .0; upTo = h .1 }
 
@@ -127,8 +96,17 @@ module _ (table order state : List ℕ) (tables : length table ≡ 324) (states 
     abbrev next : List ℕ
     next = stateWords (nextRun r v)
 
+    known : TableFacts (r .table)
+    known = limits (r .table) (r .order) (sound-so r sound .checked)
+
     few : r .table .n ≤ 64
-    few = limits (r .table) (r .order) (sound-so r sound .checked) .few
+    few = known .few
+
+    ordered : isOrder (r .table) (r .order) ≡ true
+    ordered = both-order (r .table) (r .order) (sound-so r sound .checked)
+
+    open-row : (i : ℕ) → PendingIn table state i → isPending (r .table) (stateOf r) i ≡ true
+    open-row i h = words-pending i h (omega (arith, few, row-of i h .upTo))
 
     -- the record that the words after the slot hold
     pub next-held : runIn table order next ≡ nextRun r v
@@ -139,12 +117,9 @@ module _ (table order state : List ℕ) (tables : length table ≡ 324) (states 
     after-words i l h = rw next-held at (state-words table order next i l h)
 
     -- an idle slot
-    not-ready : chosenRow r ≡ 0 → (i : ℕ) → ReadyIn table state i → ⊥
+    none-open : chosenRow r ≡ 0 → (i : ℕ) → PendingIn table state i → ⊥
     unfolding chosenRow
-    not-ready z i h =
-        let row : Row (r .table) i = row-of i h in
-        none-ready (r .table) (r .order) (both-order (r .table) (r .order) (sound-so r sound .checked)) (stateOf r) z i row
-        (words-ready i h (omega (arith, few, row .upTo)))
+    none-open z i h = none-pending (r .table) known (r .order) ordered (stateOf r) z i (open-row i h)
 
     -- after the clock the words of the next record stand as they stood
     later : (k : ℕ) → getD (stateWords (rested r)) (suc k) 0 ≡ getD (stateWords r) (suc k) 0
@@ -209,9 +184,9 @@ module _ (table order state : List ℕ) (tables : length table ≡ 324) (states 
         (λ e _. rw (lt-ltb 0 j l, e))
 
     -- a row whose figures the slot left as they were
-    waits : (j : ℕ) → 1 ≤ j → j ≤ 64 → at (half .got) j ≡ at (r .got) j → at (half .used) j ≡ at (r .used) j → at (half .closing) j ≡ at (r .closing) j
-        → RowWaits table state next j
-    waits j l h g u c =
+    rests : (j : ℕ) → 1 ≤ j → j ≤ 64 → at (half .got) j ≡ at (r .got) j → at (half .used) j ≡ at (r .used) j → at (half .closing) j ≡ at (r .closing) j
+        → RowRests table state next j
+    rests j l h g u c =
         let s = state-words table order state j l h in
         let k = closing-looked j l h in
         let same = c ∙ sym (s .closing) in
@@ -290,21 +265,38 @@ module _ (table order state : List ℕ) (tables : length table ≡ 324) (states 
           let c : at (half .closing) i ≡ 0 = closing-half ∙ rw o in
           closing-looked i low high ∙ rw (eq-eqb (at (half .closing) i) 0 c, words-due i low high n) c
 
-      other : (j : ℕ) → 1 ≤ j → j ≤ 64 → (j ≡ i → ⊥) → RowWaits table state next j
+      other : (j : ℕ) → 1 ≤ j → j ≤ 64 → (j ≡ i → ⊥) → RowRests table state next j
       other j l h n =
-          waits j l h
+          rests j l h
           (ap (λ (q : Run). at (q .got) j) served-is ∙ put-other (r .got) i j (gotNext r v i) low l n)
           (ap (λ (q : Run). at (q .used) j) served-is ∙ put-other (r .used) i j (at (r .used) i + 1) low l n)
           (ap (λ (q : Run). at (q .closing) j) served-is ∙ put-other (r .closing) i j (closingNext r v i) low l n)
 
-      first-place : FirstAt (isReady (r .table) (stateOf r)) order i
-      unfolding chosenRow chosen runIn
-      first-place = rw e (first-at (isReady (r .table) (stateOf r)) order (λ z. some (e ∙ z)))
+      -- the first row from the top that is released and open: waits change no slot
+      first-place : FirstAt (isPending (r .table) (stateOf r)) order i
+      unfolding chosenRow runIn
+      first-place =
+          let t = r .table in
+          let s = stateOf r in
+          let first-open : i ≡ first (isPending t s) order = e ∙ first-pending t (both-accepted t order (sound-so r sound .checked)) order ordered s in
+          rw first-open (first-at (isPending t s) order (λ z. some (first-open ∙ z)))
 
-      highest : (p : ℕ) → p < first-place .place → ReadyIn table state (getD order p 0) → ⊥
-      highest p h f =
-          let row = row-of (getD order p 0) f in
-          not-both (isReady (r .table) (stateOf r) (getD order p 0)) (words-ready (getD order p 0) f (omega (arith, few, row .upTo))) (first-place .before p h)
+      highest-open : (p : ℕ) → p < first-place .place → PendingIn table state (getD order p 0) → ⊥
+      highest-open p h f =
+          not-both (isPending (r .table) (stateOf r) (getD order p 0)) (open-row (getD order p 0) f) (first-place .before p h)
+
+      -- the row that it follows, if any, is closed
+      free : FreeIn table state i
+      free =
+          let w = followsOf (r .table) i in
+          by-eqb w 0
+          (λ _ z. inl (tw .follows ∙ z))
+          (λ _ n. let l : 1 ≤ w = omega arith in
+          inr (rw (tw .follows) (omega (
+            arith,
+            ready .free l,
+            state-words table order state w l (omega (arith, known .lower i (ready .row) l, high)) .closing,
+          ))))
 
       abbrev allowed : ℕ
       allowed = max (need (r .table .loading) (at (r .table .work) i) (r .table .normal)) (need (r .table .loading) (at (r .table .promised) i) (r .table .degraded))
@@ -334,10 +326,11 @@ module _ (table order state : List ℕ) (tables : length table ≡ 324) (states 
       unfolding runIn tableIn
       row-runs =
           record {
-            ready = (low, ready .row .upTo, omega (arith, tw .release, ready .released), sw .closing ∙ ready .still);
+            ready = ((low, ready .row .upTo, omega (arith, tw .release, ready .released), sw .closing ∙ ready .still), free);
             place = first-place .place;
             stands = first-place .stands;
-            highest = highest;
+            highest = λ p h f. highest-open p h (f .0);
+            highest-open = highest-open;
             loads = loads;
             got = gets;
             used = rw (sw .used) used-is;
@@ -385,7 +378,8 @@ module _ (table order state : List ℕ) (tables : length table ≡ 324) (states 
           sound-last = λ _ h. absurd (omega (arith, clock-below early));
           early = λ _. clock-below early;
           clock = λ _. moved v sound;
-          idle = λ _ z. (not-ready v sound z, idle-words v sound z);
+          idle = λ _ z. (λ i h. none-open v sound z i (h .0), idle-words v sound z);
+          none-open = λ _ z. none-open v sound z;
           runs = λ _ n. row-runs v sound (chosenRow r) refl n;
         })
 
@@ -405,6 +399,7 @@ module _ (table order state : List ℕ) (tables : length table ≡ 324) (states 
           early = λ e. absurd (omega arith);
           clock = λ e. absurd (omega arith);
           idle = λ e z. absurd (omega arith);
+          none-open = λ e z. absurd (omega arith);
           runs = λ e n. absurd (omega arith);
         })
 
@@ -424,6 +419,7 @@ module _ (table order state : List ℕ) (tables : length table ≡ 324) (states 
           early = λ e. absurd (omega arith);
           clock = λ e. absurd (omega arith);
           idle = λ e z. absurd (omega arith);
+          none-open = λ e z. absurd (omega arith);
           runs = λ e n. absurd (omega arith);
         })
 

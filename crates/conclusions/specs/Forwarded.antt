@@ -41,7 +41,7 @@ pub clock-word : (q : Run) → getD (stateWords q) 0 0 ≡ q .clock
 unfolding stateWords
 clock-word q = refl
 
-module _ (table order : List ℕ) (tables : length table ≡ 324) where
+module _ (table order : List ℕ) (tables : length table ≡ 388) where
   -- the slot of a sound record below clock 2,000,000 is the next record, over the words
   slot-is : (v : ℕ) (state : List ℕ) → isSound (runIn table order state) ≡ true → ltb (runIn table order state .clock) lastClock ≡ true
       → slotWords table order v state ≡ stateWords (nextRun (runIn table order state) v)

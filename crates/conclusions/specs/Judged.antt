@@ -3,7 +3,7 @@ use Prim.Native.Nat.{ℕ, zero, suc, _≤_, _<_, max}
 use mathlib.Core.Bool.{Bool, true, false, cond}
 use mathlib.Core.Logic.{_⊎_, inl, inr}
 use mathlib.Core.List.{List, [], _∷_, _++_}
-use mathlib.Core.Path.{_≡_, refl, sym, _∙_}
+use mathlib.Core.Path.{_≡_, refl, sym, ap, _∙_}
 use native.Mathlib.Omega.{arith}
 use borrow.Author.Tests.{ltb-true, ltb-false, lt-ltb, le-ltb}
 use lib.IntN.{ℤ, pos, negsuc}
@@ -33,6 +33,7 @@ use Rattle.jasminebrace.specs.Finishes.{finishesOf, yesWord, finishes-passed, f
 use Rattle.conclusions.specs.declared.Opinion.{Opinion}
 use Rattle.conclusions.specs.Conclusions.{WorstRun, SalesDesk, PartRun, slackOf}
 use Rattle.conclusions.specs.Moments.{momentOf, part-run, moment-slack}
+use Rattle.conclusions.specs.Ordered.{order-plain, six-said, say-six}
 
 -- ---- the least slack
 
@@ -194,6 +195,8 @@ module _ (t : Table) (o : List ℕ) where
           same-number = rw (e, number-is);
           passed = λ _. (checked t o e .accepted, checked t o e .order);
           passes = λ _ _. number-is;
+          six = λ z. absurd (omega (arith, number-is));
+          no-order = λ a n. absurd (n (order-plain t a o (at (t .follows)) (λ i r. refl) (checked t o e .order)));
           refused = λ n. absurd (n number-is);
           yes-serves = λ y. correct-serves t o (promised t o (judgeOf t o) refl .exact e .0 (yes-true (verdictYes (judgeOf t o)) y));
           serves-yes = λ _ s. rw (promised t o (judgeOf t o) refl .exact e .1 (serves-correct t o s));
@@ -216,6 +219,8 @@ module _ (t : Table) (o : List ℕ) where
         same-number = refl;
         passed = λ z. absurd (n z);
         passes = λ a k. absurd (not-refused a k);
+        six = λ z. six-said t o (at (t .follows)) (λ _ i r. refl) (ap checkNumber e ∙ z);
+        no-order = λ a k. ap checkNumber (sym e) ∙ say-six t o (at (t .follows)) (λ _ i r. refl) a k;
         refused = λ _. (refl, refl, refl, refl);
         yes-serves = λ y. absurd (omega arith);
         serves-yes = λ z _. absurd (n z);

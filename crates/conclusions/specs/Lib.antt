@@ -1,6 +1,10 @@
 pub mod Conclusions
 pub mod Moments
 pub mod Entries
+pub mod Places
+pub mod Limits
+pub mod Refusals
+pub mod Ordered
 pub mod Planned
 pub mod Author
 pub mod Rooms

@@ -18,12 +18,11 @@ use Rattle.rules.specs.Judge.{tightest, judgeOf}
 use Rattle.rules.specs.Lists.{rowsTo, joined}
 use Rattle.rules.specs.Meaning.{correct-serves, serves-correct}
 use Rattle.rules.specs.Numbers.{refusalNumber, checkNumber, verdictRow, verdictSlack}
-use Rattle.rules.specs.Orders.{isOrder, checkOrder, andThen, checkBoth}
+use Rattle.rules.specs.Orders.{isOrder, checkOrder, checkBoth}
 use Rattle.rules.specs.Reports.{figure, figures, jobLine, needsOf, lateRows, lastLine, reportText, checkReport, reportOf}
 use Rattle.rules.specs.Rows.{at, needOf}
-use Rattle.rules.specs.Tables.{checkTable}
+use Rattle.rules.specs.Tables.{andThen, checkTable}
 use Rattle.rules.specs.Worst.{horizon, worstSpeed, worstFinish, slack}
-use Rattle.theory.specs.Counts.{In}
 use Rattle.theory.specs.Facts.{Row, in-rows, both-pass, both-accepted, both-order}
 use Rattle.theory.specs.Places.{order-rows, order-long, place-row}
 use Rattle.theory.specs.Tests.{by-bool, by-eqb}
@@ -38,6 +37,7 @@ use Rattle.conclusions.specs.Judged.{worst-run, least-slack, row-is, sla
 use Rattle.conclusions.specs.Rooms.{ten-is, own-is}
 use Rattle.conclusions.specs.Conclusions.{tenAt, JobListed, Listing, WorstRun, slackOf}
 use Rattle.conclusions.specs.Moments.{momentOf, part-run, moment-slack}
+use Rattle.conclusions.specs.Places.{entry-of}
 
 -- ---- figures of a line
 -- the five figures of a place's line, and its end
@@ -225,14 +225,6 @@ module _ (t : Table) (o lent : List ℕ) where
   listing = by-check (checkReport t o (length lent)) refl
 
 -- ---- the judge's row and slack are in the report (rule 16.10)
--- a row that stands in a list stands at an index of it
-entry-of : (l : List ℕ) (i : ℕ) → In i l → (k : ℕ) × (k < length l) × (getD l k 0 ≡ i)
-entry-of [] i h = absurd (omega arith)
-entry-of (x ∷ l) i h =
-    by-eqb i x
-    (λ _ q. (0, omega arith, sym q))
-    (λ f _. let p = entry-of l i (rw f at h) in (suc (p .0), omega (arith, p .1), p .2))
-
 -- a row's place
 place-of : (t : Table) (o : List ℕ) → isOrder t o ≡ true → (i : ℕ) → Row t i → (k : ℕ) × (1 ≤ k) × (k ≤ t .n) × (at o k ≡ i)
 place-of t o e i r =

@@ -8,7 +8,7 @@ use lib.Dec.{leb}
 use borrow.Author.Tests.{leb-true}
 use Rattle.rules.specs.declared.Table.{Table}
 use Rattle.rules.specs.Lists.{rowsTo}
-use Rattle.rules.specs.Orders.{isOrder}
+use Rattle.rules.specs.Orders.{isArrangement, isOrder}
 use Rattle.rules.specs.Rows.{at, isPromised, promisedOf}
 use Rattle.rules.specs.Slots.{after}
 use Rattle.rules.specs.Tables.{Accepted}
@@ -42,12 +42,12 @@ module _ (t : Table) (accepted : Accepted t) (o : List ℕ) (order : isOrder t o
   module _ (x : isPromised t i ≡ true) where
     first-clock : (k : ℕ) → promisedOf t i ≤ at (after t o (λ _. t .degraded) k .got) i → promisedMoment t o i ≤ k
     first-clock k =
-        let q = placed t o order i r in
+        let q = placed t f o order i r in
         subst (λ (l : List ℕ). promisedOf t i ≤ at (after t l (λ _. t .degraded) k .got) i → promisedMoment t l i ≤ k) (sym (q .whole))
-        (λ h. moment-first t f i r (part-of t i x) (q .above) (q .below) (q .rows) (q .once) k h)
+        (λ h. moment-first t f i r (part-of t i x) (q .above) (q .below) (q .rows) (q .once) (q .stand) k h)
 
     some : promisedMoment t o i ≡ 0 → ⊥
-    unfolding isOrder
+    unfolding isArrangement isOrder
     some z =
         let p = partTable t i in
         let y = part-of t i x in

@@ -1,31 +1,26 @@
 -- The planner's conclusion, from what the planner promises.
-use Prim.Native.Nat.{ℕ, _≤_}
+use Prim.Native.Nat.{ℕ}
 use mathlib.Core.Logic.{_⊎_, inl, inr, ⊎-elim}
-use mathlib.Core.Path.{_≡_, refl, sym, ap}
+use mathlib.Core.Path.{_≡_, refl, ap}
 use mathlib.Core.List.{List, [], _∷_}
 use native.Mathlib.Omega.{arith}
-use mathlib.Core.Bool.{Bool, true}
-use borrow.Author.Tests.{eqb-true}
-use lib.Dec.{eqb}
+use mathlib.Core.Bool.{true}
 use lib.IntN.{pos, natAbs}
-use lib.ListN.{length, getD, drop}
+use lib.ListN.{length}
 use Rattle.rules.specs.declared.Table.{Table}
 use Rattle.rules.specs.declared.Check.{Check}
 use Rattle.rules.specs.declared.Check.the-variants.{Passed, Refused}
 use Rattle.rules.specs.Choice.{choice, planFrom, planChecked, planOf}
-use Rattle.rules.specs.Lists.{rowsTo, all, allZero, count}
-use Rattle.rules.specs.Orders.{isOrder}
 use Rattle.rules.specs.Meaning.{correct-serves, serves-correct}
 use Rattle.rules.specs.Numbers.{plannedNumber, rowsLeft}
-use Rattle.rules.specs.Rows.{isRow}
+use Rattle.rules.specs.Rows.{at, isRow}
 use Rattle.rules.specs.Tables.{checkTable, Accepted}
 use Rattle.rules.specs.Worst.{slack}
 use Rattle.planner.specs.Promise.{refusal-number, promised}
 use Rattle.theory.specs.Results.{verdict, natural-slack}
-use Rattle.theory.specs.Tests.{by-eqb, and-left, and-right}
-use Rattle.checks.specs.RowLists.{zero-at}
-use Rattle.columns.specs.AllRows.{all-each}
+use Rattle.theory.specs.Tests.{by-eqb}
 use Rattle.conclusions.specs.Conclusions.{Planner}
+use Rattle.conclusions.specs.Ordered.{order-plain}
 
 -- what the planner answers, as numbers
 abbrev Answered : Table → Check → Type 0
@@ -34,19 +29,6 @@ Answered t c = Planner t (plannedNumber (planChecked c t .answer)) (planChecked 
 none : (l : List ℕ) → length l ≡ 0 → l ≡ []
 none [] e = refl
 none (x ∷ l) e = absurd (omega arith)
-
--- an order under check 6, row by row and place by place
-module _ (t : Table) (o : List ℕ) (e : isOrder t o ≡ true) where
-  abbrev once : Bool
-  once = all (λ i. eqb (count i o) 1) (rowsTo (t .n))
-
-  placed-once : (i : ℕ) → 1 ≤ i → i ≤ t .n → count i o ≡ 1
-  unfolding isOrder
-  placed-once i l h = eqb-true (count i o) 1 (all-each (λ i. eqb (count i o) 1) (t .n) (and-left once (allZero (drop (t .n) o)) e) i l h)
-
-  placed-zero : (k : ℕ) → t .n ≤ k → getD o k 0 ≡ 0
-  unfolding isOrder
-  placed-zero k h = zero-at o (t .n) k (and-right once (allZero (drop (t .n) o)) e) h
 
 module _ (t : Table) where
   chosen : checkTable t ≡ Passed → Answered t Passed
@@ -59,8 +41,7 @@ module _ (t : Table) where
         exists = λ _ o k s. refl;
         accepted = λ _. e;
         made = λ n. (refl, (rw q at (p .right (rw q))) .0, correct-serves t _ ((rw q at (p .right (rw q))) .1), refl);
-        each-once = λ n i l h. placed-once t _ ((rw q at (p .right (rw q))) .0) i l h;
-        zeros-after = λ n k h. placed-zero t _ ((rw q at (p .right (rw q))) .0) k h;
+        order-plain = λ n. order-plain t e _ (at (t .follows)) (λ i r. refl) ((rw q at (p .right (rw q))) .0);
         none = λ n. absurd (omega arith);
         refused = λ n m. absurd (n refl);
       }))
@@ -69,8 +50,7 @@ module _ (t : Table) where
         exists = λ a o k s. absurd (p .none (rw q) o k (serves-correct t o s));
         accepted = λ _. e;
         made = λ n. absurd (omega arith);
-        each-once = λ n i l h. absurd (omega arith);
-        zeros-after = λ n k h. absurd (omega arith);
+        order-plain = λ n. absurd (omega arith);
         none = λ n. (λ o k s. p .none (rw q) o k (serves-correct t o s), refl, rw q at (p .left (rw q)), λ l. z (ap length l));
         refused = λ n m. absurd (m refl);
       }))
@@ -85,8 +65,7 @@ module _ (t : Table) where
         exists = λ a o k s. let z : _≡_ {A = ℕ} 0 1 = cc in absurd (omega arith);
         accepted = ⊎-elim (λ n. absurd (r .0 n)) (λ n. absurd (r .1 n));
         made = λ n. absurd (r .0 n);
-        each-once = λ n i l h. absurd (r .0 n);
-        zeros-after = λ n k h. absurd (r .0 n);
+        order-plain = λ n. absurd (r .0 n);
         none = λ n. absurd (r .1 n);
         refused = λ n m. (refl, refl);
       }

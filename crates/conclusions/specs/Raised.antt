@@ -18,7 +18,7 @@ use Rattle.theory.specs.Results.{larger-speeds, slack-larger}
 use Rattle.words.specs.Words.{tableIn}
 use Rattle.conclusions.specs.Cooled.{at-word}
 
-module _ (table : List ℕ) (long : length table ≡ 324) (accepted : Accepted (tableIn table)) (o : List ℕ) (e : isOrder (tableIn table) o ≡ true)
+module _ (table : List ℕ) (long : length table ≡ 388) (accepted : Accepted (tableIn table)) (o : List ℕ) (e : isOrder (tableIn table) o ≡ true)
     (n g : ℕ) (normal : getD table 1 0 ≤ n) (most : n ≤ 1000) (degraded : getD table 2 0 ≤ g) (slower : g ≤ n) where
   abbrev raised : Table
   raised = tableIn (set (set table 1 n) 2 g)

@@ -7,7 +7,7 @@ use Rattle.rules.specs.declared.Check.{Check}
 use Rattle.rules.specs.declared.Check.the-variants.{Passed, Refused}
 use Rattle.rules.specs.Lent.{checkRoom}
 use Rattle.rules.specs.Numbers.{refusalNumber, checkNumber}
-use Rattle.rules.specs.Orders.{andThen}
+use Rattle.rules.specs.Tables.{andThen}
 use Rattle.theory.specs.Room.{too-short, long-enough}
 use Rattle.theory.specs.Tests.{by-ltb}
 

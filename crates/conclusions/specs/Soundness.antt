@@ -1,19 +1,16 @@
 -- Check 9 in plain terms, over the words that C lends (rules 8.3 to 8.8): which records 9 refuses, and which not. Both directions, so that none
 -- of its clauses can be lost unseen. Works are in work units, clocks, slots used and closing slots in slots.
-use Prim.Native.Nat.{ℕ, zero, suc, _+_, _-_, _≤_, _<_, max}
+use Prim.Native.Nat.{ℕ, _+_, _≤_, _<_, max}
 use mathlib.Core.Bool.{Bool, true, false, _&&_, _||_}
-use mathlib.Core.List.{List, [], _∷_}
+use mathlib.Core.List.{List}
 use mathlib.Core.Logic.{_⊎_, inl, inr}
-use mathlib.Core.Path.{_≡_, refl, sym, ap, _∙_}
+use mathlib.Core.Path.{_≡_, refl, sym, _∙_}
 use native.Mathlib.Omega.{arith}
 use lib.Dec.{eqb, leb}
-use lib.ListN.{length, getD, drop, length-drop}
-use lib.Seq.{getD-drop}
+use lib.ListN.{length, getD, drop}
 use borrow.Author.Tests.{eq-eqb, ne-eqb, lt-leb, leb-true, eqb-true}
 use Rattle.rules.specs.Lists.{allZero}
 use Rattle.rules.specs.Need.{need}
-use Rattle.rules.specs.Orders.{isOrder}
-use Rattle.rules.specs.Rows.{at}
 use Rattle.rules.specs.Tables.{Accepted}
 use Rattle.theory.specs.Facts.{facts, both-pass, both-accepted, both-order}
 use Rattle.theory.specs.Tests.{by-bool, by-eqb, by-leb, and-left, and-right, not-both}
@@ -22,8 +19,11 @@ use Rattle.record.specs.declared.Run.{Run}
 use Rattle.record.specs.Records.{tailSound, isSound}
 use Rattle.record.specs.Sound.{sound-so, is-sound}
 use Rattle.words.specs.Words.{tableIn, runIn}
+use Rattle.conclusions.specs.Conclusions.{OrderIn}
 use Rattle.conclusions.specs.Entries.{column-full, table-words, state-words}
 use Rattle.conclusions.specs.Firmware.{over-done, over-dropped, over-open}
+use Rattle.conclusions.specs.Ordered.{order-words, words-order}
+use Rattle.conclusions.specs.Places.{tail-each, each-tail}
 
 -- the slots that a LO row may use: its need at N, or the need of its promised part at G if that is more (rule 1.9)
 abbrev pub mostSlots : ℕ → ℕ → ℕ → ℕ → ℕ → ℕ
@@ -47,11 +47,11 @@ RowSound table state i =
     (getD table 3 0)
     (getD state 0 0) (getD state i 0) (getD state (64 + i) 0) (getD state (128 + i) 0)
 
--- A record that 9 does not refuse: the table is accepted and the order is one of its orders (rule 8.4), the clock is at most 2,000,000 slots
+-- A record that 9 does not refuse: the table is accepted and the order is one of its orders, with all waits kept (rules 5.11, 8.4), the clock is at most 2,000,000 slots
 -- (rule 8.5), its rows are sound, and zeros stand after them (rule 8.8).
 pub record SoundWords (table order state : List ℕ) : Type 0 where
   pub accepted : Accepted (tableIn table)
-  pub passes : isOrder (tableIn table) order ≡ true
+  pub passes : OrderIn table order
   pub clock : getD state 0 0 ≤ 2000000
   pub rows : (i : ℕ) → 1 ≤ i → i ≤ getD table 0 0 → RowSound table state i
   pub tail : (i : ℕ) → getD table 0 0 < i → i ≤ 64 → (getD state i 0 ≡ 0) × (getD state (64 + i) 0 ≡ 0) × (getD state (128 + i) 0 ≡ 0)
@@ -124,28 +124,6 @@ module _ (work deadline level promised normal degraded loading clock got used cl
       go (inr (l, inl q)) = rw (over-dropped work level promised normal degraded loading got used l q)
       go (inr (l, inr q)) = by-bool ended (λ e. rw e) (λ e. rw (e, eq-eqb level 0 l, eq-eqb closing deadline q))
 
--- ---- zeros after the last row
-zeros-each : (xs : List ℕ) → allZero xs ≡ true → (k : ℕ) → getD xs k 0 ≡ 0
-zeros-each [] e k = refl
-zeros-each (x ∷ xs) e zero = eqb-true x 0 (and-left (eqb x 0) (allZero xs) e)
-zeros-each (x ∷ xs) e (suc k) = zeros-each xs (and-right (eqb x 0) (allZero xs) e) k
-
-each-zero : (xs : List ℕ) → ((k : ℕ) → k < length xs → getD xs k 0 ≡ 0) → allZero xs ≡ true
-each-zero [] h = refl
-each-zero (x ∷ xs) h = rw (eq-eqb x 0 (h 0 (omega arith)), each-zero xs (λ k l. h (suc k) (omega arith)))
-
--- a column of sixty-four entries, after row n
-tail-each : (xs : List ℕ) (n i : ℕ) → allZero (drop n xs) ≡ true → n < i → at xs i ≡ 0
-tail-each xs n i e h =
-    let k : n + (i - 1 - n) ≡ i - 1 = omega arith in
-    ap (λ (j : ℕ). getD xs j 0) (sym k) ∙ sym (getD-drop n xs (i - 1 - n) 0) ∙ zeros-each (drop n xs) e (i - 1 - n)
-
-each-tail : (xs : List ℕ) (n : ℕ) → length xs ≡ 64 → ((i : ℕ) → n < i → i ≤ 64 → at xs i ≡ 0) → allZero (drop n xs) ≡ true
-each-tail xs n long h =
-    each-zero (drop n xs) (λ k l.
-    let e : n + k + 1 - 1 ≡ n + k = omega arith in
-    getD-drop n xs k 0 ∙ ap (λ (j : ℕ). getD xs j 0) (sym e) ∙ h (n + k + 1) (omega arith) (omega (arith, l, length-drop n xs)))
-
 -- ---- the whole record
 module _ (table order state : List ℕ) (states : length state ≡ 193) where
   abbrev r : Run
@@ -168,7 +146,7 @@ module _ (table order state : List ℕ) (states : length state ≡ 193) where
       let two = and-left (z-got && z-used) z-closing (s .tail) in
       record {
         accepted = both-accepted t (r .order) (s .checked);
-        passes = both-order t (r .order) (s .checked);
+        passes = order-words table order (both-accepted t (r .order) (s .checked)) (both-order t (r .order) (s .checked));
         clock = s .clock;
         rows = λ i l h.
             let w = table-words table i l (omega (arith, f .few, h)) in
@@ -189,7 +167,7 @@ module _ (table order state : List ℕ) (states : length state ≡ 193) where
       let n = t .n in
       let f = facts t (s .accepted) in
       is-sound r (record {
-        checked = both-pass t (r .order) (s .accepted) (s .passes);
+        checked = both-pass t (r .order) (s .accepted) (words-order table order (s .accepted) (s .passes));
         clock = s .clock;
         rows = λ i l h.
             let w = table-words table i l (omega (arith, f .few, h)) in

@@ -15,7 +15,7 @@ pub struct Again {
 // What a fresh record was said to be: its number, and the words of its table, its order and its state.
 pub struct Begun {
     pub number: u32,
-    pub table: [u32; 324],
+    pub table: [u32; 388],
     pub order: [u8; 64],
     pub state: [u32; 193],
 }
@@ -58,28 +58,28 @@ pub struct Opinion {
 pub struct Reads {
     pub read: u32,
     pub number: u32,
-    pub table: [u32; 324],
+    pub table: [u32; 388],
 }
 
 // A table author hands in a sheet.
-pub fn table_author(sheet: &[u8], table: &mut [u32; 324]) -> u32
+pub fn table_author(sheet: &[u8], table: &mut [u32; 388]) -> u32
     ensures { λ r. ⌜ TableAuthor (now (sheet .entry)) r (now (table .exit)) ⌝ }
 {
     jasminebrace::jb_read(sheet, table)
 }
 
 // A table author has a table written back, into as many bytes as there are.
-pub fn sheet_back(table: [u32; 324], sheet: &mut [u8], size: &mut u32) -> u32
+pub fn sheet_back(table: [u32; 388], sheet: &mut [u8], size: &mut u32) -> u32
     ensures { λ r. ⌜ SheetBack table (now (sheet .entry)) r (now (size .exit)) (now (sheet .exit)) ⌝ }
 {
     jasminebrace::jb_write(&table, sheet, size)
 }
 
 // A table author hands in a sheet and wants it out again.
-pub fn sheet_again(sheet: &[u8], out: &mut [u8; 2657]) -> Again
+pub fn sheet_again(sheet: &[u8], out: &mut [u8; 3169]) -> Again
     ensures { λ r. ⌜ SheetAgain (now (sheet .entry)) (now (out .entry)) r (now (out .exit)) ⌝ }
 {
-    let mut table = [0u32; 324];
+    let mut table = [0u32; 388];
     let read = jasminebrace::jb_read(sheet, &mut table);
     let mut size: u32 = 0;
     let written = jasminebrace::jb_write(&table, out, &mut size);
@@ -105,21 +105,21 @@ pub fn program_text(input: &[u8], text: &mut [u8; 1617]) -> u32
 }
 
 // A planner asks for an order.
-pub fn planner(table: &[u32; 324], order: &mut [u8; 64], left: &mut u64) -> u32
+pub fn planner(table: &[u32; 388], order: &mut [u8; 64], left: &mut u64) -> u32
     ensures { λ r. ⌜ Planner (tableIn (now (table .entry))) r (now (order .exit)) (now (left .exit)) ⌝ }
 {
     jasminebrace::jb_plan(table, order, left)
 }
 
 // A maker who buys a cooler asks for the least degraded speed that is enough, in work units per slot.
-pub fn least_degraded(table: [u32; 324], speed: &mut u32, order: &mut [u8; 64]) -> u32
+pub fn least_degraded(table: [u32; 388], speed: &mut u32, order: &mut [u8; 64]) -> u32
     ensures { λ r. ⌜ LeastFound table 2 1 (getD table 1 0) r (now (speed .exit)) (now (order .exit)) ⌝ }
 {
     jasminebrace::jb_least_degraded(&table, speed, order)
 }
 
 // A maker who buys a processor asks for the least normal speed that is enough, in work units per slot.
-pub fn least_normal(table: [u32; 324], speed: &mut u32, order: &mut [u8; 64]) -> u32
+pub fn least_normal(table: [u32; 388], speed: &mut u32, order: &mut [u8; 64]) -> u32
     ensures { λ r. ⌜ LeastFound table 1 (getD table 2 0) 1000 r (now (speed .exit)) (now (order .exit)) ⌝ }
 {
     jasminebrace::jb_least_normal(&table, speed, order)
@@ -129,7 +129,7 @@ pub fn least_normal(table: [u32; 324], speed: &mut u32, order: &mut [u8; 64]) ->
 pub fn sheet_degraded(sheet: &[u8], speed: &mut u32, order: &mut [u8; 64]) -> Reads
     ensures { λ r. ⌜ LeastRead (now (sheet .entry)) (r .read) (r .table) 2 1 (getD (r .table) 1 0) (r .number) (now (speed .exit)) (now (order .exit)) ⌝ }
 {
-    let mut table = [0u32; 324];
+    let mut table = [0u32; 388];
     let read = jasminebrace::jb_read(sheet, &mut table);
     let number = jasminebrace::jb_read_least_degraded(sheet, speed, order);
     Reads {
@@ -143,7 +143,7 @@ pub fn sheet_degraded(sheet: &[u8], speed: &mut u32, order: &mut [u8; 64]) -> Re
 pub fn sheet_normal(sheet: &[u8], speed: &mut u32, order: &mut [u8; 64]) -> Reads
     ensures { λ r. ⌜ LeastRead (now (sheet .entry)) (r .read) (r .table) 1 (getD (r .table) 2 0) 1000 (r .number) (now (speed .exit)) (now (order .exit)) ⌝ }
 {
-    let mut table = [0u32; 324];
+    let mut table = [0u32; 388];
     let read = jasminebrace::jb_read(sheet, &mut table);
     let number = jasminebrace::jb_read_least_normal(sheet, speed, order);
     Reads {
@@ -154,10 +154,10 @@ pub fn sheet_normal(sheet: &[u8], speed: &mut u32, order: &mut [u8; 64]) -> Read
 }
 
 // A firmware writer makes a fresh record of a table and an order.
-pub fn firmware_fresh(table: [u32; 324], order: [u8; 64]) -> Begun
+pub fn firmware_fresh(table: [u32; 388], order: [u8; 64]) -> Begun
     ensures { λ r. ⌜ FreshRecord table order r ⌝ }
 {
-    let mut run_table = [0u32; 324];
+    let mut run_table = [0u32; 388];
     let mut run_order = [0u8; 64];
     let mut state = [0u32; 193];
     let number = jasminebrace::jb_fresh(&table, &order, &mut run_table, &mut run_order, &mut state);
@@ -170,7 +170,7 @@ pub fn firmware_fresh(table: [u32; 324], order: [u8; 64]) -> Begun
 }
 
 // A firmware writer asks for the coming row, starts it, and reports the slot's supply in work units afterwards.
-pub fn firmware_writer(table: [u32; 324], order: [u8; 64], state: [u32; 193], supply: u32) -> Slots
+pub fn firmware_writer(table: [u32; 388], order: [u8; 64], state: [u32; 193], supply: u32) -> Slots
     ensures { λ r. ⌜ FirmwareWriter table order state supply r ⌝ }
 {
     let mut coming_row: u32 = 0;
@@ -189,7 +189,7 @@ pub fn firmware_writer(table: [u32; 324], order: [u8; 64], state: [u32; 193], su
 
 // A firmware writer works a record forward over many supplies in work units.
 pub fn firmware_forward(
-    table: [u32; 324],
+    table: [u32; 388],
     order: [u8; 64],
     state: [u32; 193],
     supplies: &[u32],
@@ -207,13 +207,13 @@ pub fn firmware_forward(
 }
 
 // A pen engineer has a table planned, starts it afresh and works it forward over supplies in work units.
-pub fn pen_engineer(table: [u32; 324], supplies: &[u32]) -> Drawing
+pub fn pen_engineer(table: [u32; 388], supplies: &[u32]) -> Drawing
     ensures { λ r. ⌜ Drawn table (now (supplies .entry)) r ⌝ }
 {
     let mut order = [0u8; 64];
     let mut left: u64 = 0;
     let planned = jasminebrace::jb_plan(&table, &mut order, &mut left);
-    let mut run_table = [0u32; 324];
+    let mut run_table = [0u32; 388];
     let mut run_order = [0u8; 64];
     let mut state = [0u32; 193];
     let fresh = jasminebrace::jb_fresh(&table, &order, &mut run_table, &mut run_order, &mut state);
@@ -237,7 +237,7 @@ pub fn pen_engineer(table: [u32; 324], supplies: &[u32]) -> Drawing
 
 // The sales desk has an order judged, with the least slack in slots, and looks at every row's worst finish.
 pub fn sales_desk(
-    table: &[u32; 324],
+    table: &[u32; 388],
     order: &[u8; 64],
     slack: &mut i32,
     finishes: &mut [u32; 64],
@@ -257,7 +257,7 @@ pub fn sales_desk(
 }
 
 // The sales desk has every job listed under an order, into as many bytes as there are.
-pub fn job_list(table: [u32; 324], order: [u8; 64], report: &mut [u8], size: &mut u32) -> u32
+pub fn job_list(table: [u32; 388], order: [u8; 64], report: &mut [u8], size: &mut u32) -> u32
     ensures { λ r. ⌜ Listing (tableIn table) order (now (report .entry)) r (now (size .exit)) (now (report .exit)) ⌝ }
 {
     jasminebrace::jb_report(&table, &order, report, size)
@@ -265,7 +265,7 @@ pub fn job_list(table: [u32; 324], order: [u8; 64], report: &mut [u8], size: &mu
 
 // Whoever links the archive asks which interface it has.
 pub fn interface() -> u32
-    ensures { λ r. ⌜ r ≡ 4 ⌝ }
+    ensures { λ r. ⌜ r ≡ 5 ⌝ }
 {
     jasminebrace::jb_version()
 }

@@ -1,7 +1,7 @@
--- The claim about a table and a whole list of calls (rules 9.5 to 9.12, 9.18): one closed statement, `Demand3`, at the end of this file.
+-- The claim about a table and a whole list of calls (rules 9.5 to 9.12, 9.18, 9.19): one closed statement, `Demand3`, at the end of this file.
 -- Every name in it is a definition of the rules or what a contract equates a function's result with: `planOf` is what the planner answers,
 -- `freshOf` the fresh record, `oneSlot` and `forwardOver` (in `makeAll`) the two run calls.
-use Prim.Native.Nat.{ℕ, _≤_}
+use Prim.Native.Nat.{ℕ, _+_, _≤_}
 use mathlib.Core.Bool.{true, not}
 use mathlib.Core.Logic.{_↔_}
 use mathlib.Core.Path.{_≡_}
@@ -16,7 +16,7 @@ use Rattle.rules.specs.Choice.{choice, word, planFrom, planOf}
 use Rattle.rules.specs.Correct.{KeptIn, Correct, CorrectOrder, Window}
 use Rattle.rules.specs.Lists.{all}
 use Rattle.rules.specs.Orders.{isOrder}
-use Rattle.rules.specs.Rows.{at, isRow, isLow, deadlineOf, promisedOf}
+use Rattle.rules.specs.Rows.{at, isRow, isLow, isHigh, workOf, deadlineOf, promisedOf, followsOf}
 use Rattle.rules.specs.Numbers.{plannedNumber, rowsLeft}
 use Rattle.rules.specs.Running.{runAfter}
 use Rattle.rules.specs.Slots.{fresh}
@@ -31,7 +31,9 @@ paper t o cs = tellAll t o cs fresh
 -- With an order of the table, what the calls said and left is the run on paper's, field by field (rule 9.10); 9 never comes up (rule 9.11);
 -- and under a correct order each row whose deadline the clock has reached kept it, if each slot of its window supplied at least
 -- N (LO) or G (HI), whatever came before and later (rules 9.12, 19.5), and each LO row whose deadline the clock has reached has got its promised
--- part, if each slot of its window supplied at least G (rule 9.18): correct is meant by the planning rule, and the run is by the running rule.
+-- part, if each slot of its window supplied at least G (rule 9.18): correct is meant by the planning rule, and the run is by the running rule. Under
+-- every order, correct or not, a row that has used a slot follows none, or one that is closed, and all slots that it has used came after that; and one
+-- that is done if the row is HI (rule 9.19).
 pub record RunRight (t : Table) (o : List ℕ) (cs : List Call) (made : AllMade) : Type 0 where
   pub said : made .said ≡ paper t o cs .said
   -- slot u of the run on paper takes the supply `supplyAt cs u` (rule 9.15), and its steps are by the running rule (rules 9.6, 19.2)
@@ -47,8 +49,11 @@ pub record RunRight (t : Table) (o : List ℕ) (cs : List Call) (made : AllMade)
       → Window t (supplyAt cs) i (worstSpeed t i) → KeptIn t (stateOf (made .run)) i
   pub promised : Correct t o → (i : ℕ) → isRow t i ≡ true → isLow t i ≡ true → deadlineOf t i ≤ made .run .clock
       → Window t (supplyAt cs) i (t .degraded) → promisedOf t i ≤ at (made .run .got) i
+  pub waited : (i : ℕ) → isRow t i ≡ true → 1 ≤ followsOf t i → 1 ≤ at (made .run .used) i
+      → (1 ≤ at (made .run .closing) (followsOf t i)) × (at (made .run .closing) (followsOf t i) + at (made .run .used) i ≤ made .run .clock)
+      × (isHigh t i ≡ true → at (made .run .got) (followsOf t i) ≡ workOf t (followsOf t i))
 
--- The claim of one table and one list of calls (rules 9.9 to 9.12, 9.18).
+-- The claim of one table and one list of calls (rules 9.9 to 9.12, 9.18, 9.19).
 pub record Claim (t : Table) (cs : List Call) : Type 0 where
   -- the plan is the one made from the choice: 0 with the order it made, or 7 with the rows it left (rules 4.6, 9.9)
   pub plan : planOf t ≡ planFrom (choice t)
@@ -62,7 +67,7 @@ pub record Claim (t : Table) (cs : List Call) : Type 0 where
   pub found : choice t .left ≡ [] → (isOrder t (planOf t .order) ≡ true) × Correct t (planOf t .order)
   -- a fresh record is had for every order of the table, and so for the one planned (rule 8.2)
   pub started : (o : List ℕ) → isOrder t o ≡ true → freshOf t o ≡ record { check = Passed; run = freshRun t o }
-  -- and the calls made from there on, each on the record that the last one left, are right (rules 9.5, 9.10 to 9.12, 9.18)
+  -- and the calls made from there on, each on the record that the last one left, are right (rules 9.5, 9.10 to 9.12, 9.18, 9.19)
   pub right : (o : List ℕ) → isOrder t o ≡ true → RunRight t o cs (makeAll cs (freshOf t o .run))
 
 -- Demand 3: the claim holds of every accepted table and every list of calls, of any length and with any supplies (rule 9.5).

@@ -100,6 +100,15 @@ pub record Deadlines (t : Table) (o : List ℕ) (cs : List Call) (made : AllMade
   pub part : Serves t o → (i : ℕ) → 1 ≤ i → i ≤ t .n → at (t .level) i ≡ 0
       → at (t .deadline) i ≤ made .run .clock → Supplied t cs i (t .degraded) → at (t .promised) i ≤ at (made .run .got) i
 
+-- Under any order of the table, a row that has used a slot follows no row, or one that is closed, its closing slot at least 1, and the slots that the row has
+-- used all came after that closing slot; of a row whose level is not 0 the row that it follows has got all its work units (rule 9.19).
+pub record Waited (t : Table) (made : AllMade) : Type 0 where
+  pub closed : (i : ℕ) → 1 ≤ i → i ≤ t .n → (at (t .follows) i ≡ 0 → ⊥) → 1 ≤ at (made .run .used) i → 1 ≤ at (made .run .closing) (at (t .follows) i)
+  pub after : (i : ℕ) → 1 ≤ i → i ≤ t .n → (at (t .follows) i ≡ 0 → ⊥) → 1 ≤ at (made .run .used) i
+      → at (made .run .closing) (at (t .follows) i) + at (made .run .used) i ≤ made .run .clock
+  pub done : (i : ℕ) → 1 ≤ i → i ≤ t .n → (at (t .follows) i ≡ 0 → ⊥) → (at (t .level) i ≡ 0 → ⊥) → 1 ≤ at (made .run .used) i
+      → at (made .run .got) (at (t .follows) i) ≡ at (t .work) (at (t .follows) i)
+
 -- What a caller gets of one accepted table and one list of calls.
 pub record Plain (t : Table) (cs : List Call) : Type 0 where
   -- the planner's number is 0 or 7
@@ -114,6 +123,7 @@ pub record Plain (t : Table) (cs : List Call) : Type 0 where
   pub answers : (o : List ℕ) → isOrder t o ≡ true → Answers t o cs (makeAll cs (freshOf t o .run) .said)
   pub entries : (o : List ℕ) → isOrder t o ≡ true → Entries t o cs (makeAll cs (freshOf t o .run))
   pub deadlines : (o : List ℕ) → isOrder t o ≡ true → Deadlines t o cs (makeAll cs (freshOf t o .run))
+  pub waits : (o : List ℕ) → isOrder t o ≡ true → Waited t (makeAll cs (freshOf t o .run))
 
 -- The word of at least one row is at least 1.
 word-some : (x : ℕ) (l : List ℕ) → 1 ≤ word (x ∷ l)
@@ -294,6 +304,15 @@ module _ (t : Table) (o : List ℕ) (cs : List Call) (made : AllMade) (r : RunRi
             (window accepted i (t .degraded) w);
       }
 
+  -- A row that has used a slot was not kept waiting any more.
+  waited : Waited t made
+  waited =
+      record {
+        closed = λ i l h some u. r .waited i (is-row t i (record { from = l; upTo = h })) (omega arith) u .0;
+        after = λ i l h some u. r .waited i (is-row t i (record { from = l; upTo = h })) (omega arith) u .1;
+        done = λ i l h some v u. r .waited i (is-row t i (record { from = l; upTo = h })) (omega arith) u .2 (rw (ne-eqb (at (t .level) i) 0 v));
+      }
+
 -- The fresh record of an order of the table, as the claim has it.
 begun : (t : Table) (cs : List Call) → Claim t cs → (o : List ℕ) → isOrder t o ≡ true → Started t o
 unfolding fresh
@@ -314,4 +333,5 @@ concluded demand t accepted cs =
       answers = λ o e. answered t o cs (makeAll cs (freshOf t o .run)) (c .right o e);
       entries = λ o e. entered t o cs (makeAll cs (freshOf t o .run)) (c .right o e);
       deadlines = λ o e. in-time t o cs (makeAll cs (freshOf t o .run)) (c .right o e) accepted;
+      waits = λ o e. waited t o cs (makeAll cs (freshOf t o .run)) (c .right o e);
     }

@@ -1,4 +1,4 @@
--- Demand 3 (rules 9.5 to 9.12, 9.18), the theorem: the claim holds of every accepted table and every list of calls.
+-- Demand 3 (rules 9.5 to 9.12, 9.18, 9.19), the theorem: the claim holds of every accepted table and every list of calls.
 use Prim.Native.Nat.{ℕ, _+_, _≤_}
 use mathlib.Core.Bool.{Bool, true, not}
 use mathlib.Core.Logic.{_↔_}
@@ -17,14 +17,14 @@ use Rattle.rules.specs.Correct.{KeptIn, Correct, CorrectOrder, Window}
 use Rattle.rules.specs.Lists.{all}
 use Rattle.rules.specs.Numbers.{plannedNumber, rowsLeft}
 use Rattle.rules.specs.Orders.{isOrder}
-use Rattle.rules.specs.Rows.{at, isRow, isLow, deadlineOf, promisedOf}
+use Rattle.rules.specs.Rows.{at, isRow, isLow, isHigh, workOf, deadlineOf, promisedOf, followsOf}
 use Rattle.rules.specs.Running.{runSlot}
 use Rattle.rules.specs.Slots.{State, fresh}
 use Rattle.rules.specs.Tables.{Accepted}
 use Rattle.rules.specs.Worst.{worstSpeed}
 use Rattle.theory.specs.Counts.{in-head}
 use Rattle.theory.specs.Facts.{both-pass}
-use Rattle.theory.specs.Results.{running-sustainable, running-promise, verdict, choice-order, choice-correct, choice-none}
+use Rattle.theory.specs.Results.{running-sustainable, running-promise, follower-later, high-follower-later, verdict, choice-order, choice-correct, choice-none}
 use Rattle.theory.specs.Tests.{by-bool, by-eqb, and-both}
 use Rattle.guarantee.specs.Playing.{makeAll}
 use Rattle.guarantee.specs.Claim.{paper, RunRight, Demand3}
@@ -79,6 +79,19 @@ module _ (t : Table) (accepted : Accepted t) where
         subst (λ (s : State). promisedOf t i ≤ at (s .got) i) (sym (paper-run t o cs))
         (running-promise t accepted o order i r l (verdict t accepted o order .0 correct i r) (supplyAt cs) w (paper t o cs .state .clock) d)
 
+    abbrev AfterRow : ℕ → State → ℕ → Type 0
+    AfterRow i s k =
+        1 ≤ at (s .used) i
+        → (1 ≤ at (s .closing) (followsOf t i)) × (at (s .closing) (followsOf t i) + at (s .used) i ≤ k)
+        × (isHigh t i ≡ true → at (s .got) (followsOf t i) ≡ workOf t (followsOf t i))
+
+    waited-paper : (i : ℕ) → isRow t i ≡ true → 1 ≤ followsOf t i → AfterRow i (paper t o cs .state) (paper t o cs .state .clock)
+    waited-paper i r some =
+        let k = paper t o cs .state .clock in
+        subst (λ (s : State). AfterRow i s k) (sym (paper-run t o cs))
+        (λ used. let l = follower-later t accepted o order i r some (supplyAt cs) k used in
+        (l .0, l .1, λ h. high-follower-later t accepted o order i r h some (supplyAt cs) k used))
+
     run-right : RunRight t o cs (makeAll cs (freshRun t o))
     run-right =
         subst (RunRight t o cs) (sym made-told)
@@ -94,6 +107,7 @@ module _ (t : Table) (accepted : Accepted t) where
           no-nine = calls-number t o cs fresh;
           kept = kept-paper;
           promised = promised-paper;
+          waited = waited-paper;
         })
 
     right : RunRight t o cs (makeAll cs (freshOf t o .run))

@@ -1,4 +1,4 @@
-// Demand 3 (rules 9.5 to 9.12) through the functions that are shipped: a list of run calls is played on the fresh record of a table and its
+// Demand 3 (rules 9.5 to 9.12, 9.18, 9.19) through the functions that are shipped: a list of run calls is played on the fresh record of a table and its
 // planned order, by `planner::plan`, `record::fresh`, `Run::slot` and `forward::forward`.
 ghost use mathlib.Core.Path.{_≡_};
 ghost use Prim.Native.Nat.{_+_, _≤_, _<_};

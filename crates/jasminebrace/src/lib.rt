@@ -99,7 +99,7 @@ fn packed(verdict: Verdict) -> u64
 
 // Reads a sheet into the words of a table, all zero on a refusal (rule 6.8). Gives the number of the sheet's checks (rule 11.2).
 #[no_mangle]
-pub extern "C" fn jb_read(sheet: &[u8], table: &mut [u32; 324]) -> u32
+pub extern "C" fn jb_read(sheet: &[u8], table: &mut [u32; 388]) -> u32
     ensures { λ r. ⌜ (let reading = readOf (now (sheet .entry)) in (r ≡ checkNumber (reading .check)) × (now (table .exit) ≡ wordsOf (reading .table))) ⌝ }
 {
     let reading = sheet::read(sheet);
@@ -112,7 +112,7 @@ pub extern "C" fn jb_read(sheet: &[u8], table: &mut [u32; 324]) -> u32
 // Writes the sheet of a table to the start of lent bytes and gives its length in bytes (rule 15.2); no byte and 0 on a refusal
 // (rule 15.5). Gives the number of the writer's checks (rule 11.6).
 #[no_mangle]
-pub extern "C" fn jb_write(table: &[u32; 324], sheet: &mut [u8], size: &mut u32) -> u32
+pub extern "C" fn jb_write(table: &[u32; 388], sheet: &mut [u8], size: &mut u32) -> u32
     ensures { λ r. ⌜ (let back = writeOf (tableIn (now (table .entry))) (now (sheet .entry)) in
         (r ≡ checkNumber (back .said .check))
         × (now (size .exit) ≡ back .said .size)
@@ -137,7 +137,7 @@ pub extern "C" fn jb_field(figure: u32, field: &mut [u8; 8]) -> u32
 // Plans an order for a table, all zero where none is made. Gives 0, 7 with the word of the rows left, or a refusal's number (rules 4.6,
 // 4.8, 4.10, 11.3).
 #[no_mangle]
-pub extern "C" fn jb_plan(table: &[u32; 324], order: &mut [u8; 64], left: &mut u64) -> u32
+pub extern "C" fn jb_plan(table: &[u32; 388], order: &mut [u8; 64], left: &mut u64) -> u32
     ensures { λ r. ⌜ (let planning = planOf (tableIn (now (table .entry))) in
         (r ≡ plannedNumber (planning .answer))
         × (now (order .exit) ≡ planning .order)
@@ -169,7 +169,7 @@ fn put_search(searching: Searching, speed: &mut u32, order: &mut [u8; 64]) -> u3
 // none does, with 7, and on a refusal (rules 18.4 to 18.6). Gives the number of the search (rule 11.8).
 #[no_mangle]
 pub extern "C" fn jb_least_degraded(
-    table: &[u32; 324],
+    table: &[u32; 388],
     speed: &mut u32,
     order: &mut [u8; 64],
 ) -> u32
@@ -182,7 +182,7 @@ pub extern "C" fn jb_least_degraded(
 
 // The same for the normal speed.
 #[no_mangle]
-pub extern "C" fn jb_least_normal(table: &[u32; 324], speed: &mut u32, order: &mut [u8; 64]) -> u32
+pub extern "C" fn jb_least_normal(table: &[u32; 388], speed: &mut u32, order: &mut [u8; 64]) -> u32
     ensures { λ r. ⌜ SearchTold (searchOf Sought.Normal (tableIn (now (table .entry)))) r (now (speed .exit)) (now (order .exit)) ⌝ }
 {
     let t = words::table_in(table);
@@ -211,7 +211,7 @@ pub extern "C" fn jb_read_least_normal(sheet: &[u8], speed: &mut u32, order: &mu
 // Judges an order of a table: yes as 1 or 0, the tightest row, and its slack in slots. All zero on a refusal (rules 7.2 to 7.4).
 #[no_mangle]
 pub extern "C" fn jb_judge(
-    table: &[u32; 324],
+    table: &[u32; 388],
     order: &[u8; 64],
     yes: &mut u32,
     row: &mut u32,
@@ -253,7 +253,7 @@ pub extern "C" fn jb_judge_rows(
 
 // The worst finish of each row under an order, in slots, zeros after row n (rule 3.6). All zero on a refusal.
 #[no_mangle]
-pub extern "C" fn jb_finishes(table: &[u32; 324], order: &[u8; 64], finishes: &mut [u32; 64]) -> u32
+pub extern "C" fn jb_finishes(table: &[u32; 388], order: &[u8; 64], finishes: &mut [u32; 64]) -> u32
     ensures { λ r. ⌜ (let t = tableIn (now (table .entry)) in
         (r ≡ checkNumber (checkBoth t (now (order .entry))))
         × (now (finishes .exit) ≡ finishesOf t (now (order .entry)))) ⌝ }
@@ -278,7 +278,7 @@ pub extern "C" fn jb_finishes(table: &[u32; 324], order: &[u8; 64], finishes: &m
 // refusal (rule 16.8). Gives the number of the report's checks (rule 11.7).
 #[no_mangle]
 pub extern "C" fn jb_report(
-    table: &[u32; 324],
+    table: &[u32; 388],
     order: &[u8; 64],
     report: &mut [u8],
     size: &mut u32,
@@ -299,9 +299,9 @@ pub extern "C" fn jb_report(
 // Starts a run record of a table and an order, at clock 0. All zero on a refusal (rule 8.2).
 #[no_mangle]
 pub extern "C" fn jb_fresh(
-    table: &[u32; 324],
+    table: &[u32; 388],
     order: &[u8; 64],
-    run_table: &mut [u32; 324],
+    run_table: &mut [u32; 388],
     run_order: &mut [u8; 64],
     run_state: &mut [u32; 193],
 ) -> u32
@@ -327,7 +327,7 @@ pub extern "C" fn jb_fresh(
 // The row that the coming slot runs, before its supply is known; 0 for an idle slot and with 8 or 9 (rule 8.15).
 #[no_mangle]
 pub extern "C" fn jb_coming(
-    table: &[u32; 324],
+    table: &[u32; 388],
     order: &[u8; 64],
     state: &[u32; 193],
     row: &mut u32,
@@ -349,7 +349,7 @@ pub extern "C" fn jb_coming(
 // (rules 8.9, 8.13, 8.14).
 #[no_mangle]
 pub extern "C" fn jb_slot(
-    table: &[u32; 324],
+    table: &[u32; 388],
     order: &[u8; 64],
     state: &mut [u32; 193],
     supply: u32,
@@ -376,7 +376,7 @@ pub extern "C" fn jb_slot(
 // record goes through `forward::forward`.
 #[no_mangle]
 pub extern "C" fn jb_forward(
-    table: &[u32; 324],
+    table: &[u32; 388],
     order: &[u8; 64],
     state: &mut [u32; 193],
     supplies: &[u32],
@@ -416,5 +416,5 @@ pub extern "C" fn jb_program(input: &[u8], text: &mut [u8; 1617]) -> u32
 pub extern "C" fn jb_version() -> u32
     ensures { λ r. ⌜ r ≡ version ⌝ }
 {
-    4
+    5
 }

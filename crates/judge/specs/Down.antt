@@ -19,6 +19,7 @@ use Rattle.theory.specs.Caps.{cap}
 use Rattle.theory.specs.Facts.{Row, rows-in, facts}
 use Rattle.theory.specs.Promised.{latest}
 use Rattle.theory.specs.Results.{worst-sweep}
+use Rattle.theory.specs.Waits.{Stand}
 use Rattle.sweep.specs.CapColumn.{partNeeds, parts-most}
 use Rattle.sweep.specs.Holds.{Holds}
 use Rattle.sweep.specs.Padded.{padded-at, padded-beyond, rows-length}
@@ -68,8 +69,8 @@ module _ (t : Table) (queue normal part degraded : List ℕ) (ready : Ready t qu
   worst-caps : (i : ℕ) → cond (eqb (at (t .level) i) 0) normal degraded ≡ padded (map (cap t (worstSpeed t i)) (rowsOf t))
   worst-caps i = by-bool (isLow t i) (λ e. rw e (ready .atNormal)) (λ e. rw e (ready .atDegraded))
 
-  -- row i lowest of the rows that the word m holds, above the rows of b
-  module _ (a b : List ℕ) (m i : ℕ) (w : Within (a ++ (i ∷ [])) (rowsOf t)) (h : Holds m (a ++ (i ∷ []))) where
+  -- row i lowest of the rows that the word m holds, above the rows of b; whatever one of those down to i follows stands above i
+  module _ (a b : List ℕ) (m i : ℕ) (w : Within (a ++ (i ∷ [])) (rowsOf t)) (stand : Stand t a i) (h : Holds m (a ++ (i ∷ []))) where
     abbrev o : List ℕ
     o = a ++ (i ∷ b)
 
@@ -82,7 +83,7 @@ module _ (t : Table) (queue normal part degraded : List ℕ) (ready : Ready t qu
     pub finish-is : sweptBy queue (t .n) (t .release) (cond (eqb (at (t .level) i) 0) normal degraded) m i ≡ worstFinish t o i
     finish-is =
         finds t (ready .accepted) m (worstSpeed t i) (releaseOf t i) queue (cond (eqb (at (t .level) i) 0) normal degraded) (ready .queued) (worst-caps i)
-        ∙ sym (worst-sweep t (ready .accepted) a b i w (queued t m) (queued-sorted t m) (queued-same t m (a ++ (i ∷ [])) h w))
+        ∙ sym (worst-sweep t (ready .accepted) a b i w stand (queued t m) (queued-sorted t m) (queued-same t m (a ++ (i ∷ [])) h w))
 
     -- only a LO row is promised a part
     only-low : ltb 0 (promisedOf t i) ≡ true → isPromised t i ≡ true
@@ -96,5 +97,5 @@ module _ (t : Table) (queue normal part degraded : List ℕ) (ready : Ready t qu
     unfolding latest
     latest-is finish f =
         by-bool (ltb 0 (promisedOf t i))
-        (λ y. rw (only-low y, y, f, finds-part t (ready .accepted) a b m i (at part i) queue degraded w h (only-low y) (ready .queued) (ready .atDegraded) part-is))
+        (λ y. rw (only-low y, y, f, finds-part t (ready .accepted) a b m i (at part i) queue degraded w stand h (only-low y) (ready .queued) (ready .atDegraded) part-is))
         (λ y. rw (nothing-promised y, y, f))

@@ -35,6 +35,7 @@ noRows normal degraded loading =
       deadline = replicate 64 0;
       level = replicate 64 0;
       promised = replicate 64 0;
+      follows = replicate 64 0;
     }
 
 -- the table with one row more; the figures of a row after the sixty-fourth are left out, and n stays at 65
@@ -51,6 +52,7 @@ withRow t r =
       deadline = set (t .deadline) (t .n) (r .deadline);
       level = set (t .level) (t .n) (r .level);
       promised = set (t .promised) (t .n) (r .promised);
+      follows = set (t .follows) (t .n) (r .follows);
     })
     (record {
       n = 65;
@@ -62,6 +64,7 @@ withRow t r =
       deadline = t .deadline;
       level = t .level;
       promised = t .promised;
+      follows = t .follows;
     })
 
 unfoldable pub gathered : Table → List Row → Table
@@ -105,6 +108,7 @@ module _ (normal degraded loading : ℕ) where
         deadline = column-put (λ r. r .deadline) rs r h i;
         level = column-put (λ r. r .level) rs r h i;
         promised = column-put (λ r. r .promised) rs r h i;
+        follows = column-put (λ r. r .follows) rs r h i;
       })
 
   gathered-from : (rs ss : List Row) → length rs + length ss ≤ 64 → gathered (tableOf rs normal degraded loading) ss ≡ tableOf (rs ++ ss) normal degraded loading

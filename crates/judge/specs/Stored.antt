@@ -17,8 +17,9 @@ use Rattle.rules.specs.Choice.{padded}
 use Rattle.theory.specs.Tests.{gate, by-eqb, by-ltb}
 use Rattle.theory.specs.Counts.{Within, count-append, count-same, count-other, in-last}
 use Rattle.theory.specs.Facts.{Row, rows-in, facts, count-rows, count-no-row}
-use Rattle.theory.specs.Places.{order-rows, rows-once}
+use Rattle.theory.specs.Places.{order-rows, rows-once, stand-at}
 use Rattle.theory.specs.Promised.{latest}
+use Rattle.theory.specs.Waits.{Stand}
 use Rattle.sweep.specs.Masks.{bit}
 use Rattle.sweep.specs.Holds.{Holds, holds-with-last}
 use Rattle.sweep.specs.Padded.{padded-at, padded-length, rows-length}
@@ -53,6 +54,10 @@ module _ (t : Table) (o : List ℕ) (c : Checked t o) (long : length o ≡ 64) w
         let c1 : count x (take (t .n) o) ≡ count x (take k o ++ (row ∷ rest)) = ap (count x) parted in
         omega (arith, order-rows t o (c .order) x, count-append x (take k o) (row ∷ []), count-append x (take k o) (row ∷ rest), count-append x (row ∷ []) rest)
 
+    -- what its row and the rows above it follow is among these
+    stand : Stand t (take k o) row
+    stand = stand-at t (facts t (c .accepted)) o (c .order) row (take k o) (drop (suc k) (take (t .n) o)) parted
+
     -- its row is a row of the table, and stands nowhere above
     place-row : Row t row
     place-row = rows-in t row (omega (arith, in-last (take k o) row, within row))
@@ -86,12 +91,12 @@ module _ (t : Table) (o : List ℕ) (c : Checked t o) (long : length o ≡ 64) w
       whole = split-at o k 0 (omega (arith, few))
 
       pub place-finish : sweptBy queue (t .n) (t .release) (cond (eqb (at (t .level) row) 0) normal degraded) m row ≡ worstFinish t o row
-      place-finish = finish-is t queue normal part degraded ready (take k o) below m row within down ∙ ap (λ (l : List ℕ). worstFinish t l row) (sym whole)
+      place-finish = finish-is t queue normal part degraded ready (take k o) below m row within stand down ∙ ap (λ (l : List ℕ). worstFinish t l row) (sym whole)
 
       pub place-latest : (finish : ℕ) → finish ≡ worstFinish t o row
           → countedFrom finish (promisedOf t row) (sweptBy queue (t .n) (t .release) (put degraded row (at part row)) m row) ≡ latest t o row
       place-latest finish f =
-          latest-is t queue normal part degraded ready (take k o) below m row within down finish (f ∙ ap (λ (l : List ℕ). worstFinish t l row) whole)
+          latest-is t queue normal part degraded ready (take k o) below m row within stand down finish (f ∙ ap (λ (l : List ℕ). worstFinish t l row) whole)
           ∙ ap (λ (l : List ℕ). latest t l row) (sym whole)
 
     -- its row's figure is stored

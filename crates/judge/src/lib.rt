@@ -229,6 +229,7 @@ fn no_rows(normal: u32, degraded: u32, loading: u32) -> Table
     let deadline = [0u32; 64];
     let level = [0u32; 64];
     let promised = [0u32; 64];
+    let follows = [0u32; 64];
     Table {
         n: 0,
         normal: normal,
@@ -239,6 +240,7 @@ fn no_rows(normal: u32, degraded: u32, loading: u32) -> Table
         deadline: deadline,
         level: level,
         promised: promised,
+        follows: follows,
     }
 }
 
@@ -252,6 +254,7 @@ fn with_row(t: Table, row: Row) -> Table
     let mut deadline = t.deadline;
     let mut level = t.level;
     let mut promised = t.promised;
+    let mut follows = t.follows;
     if n < 64 {
         let i = n as usize;
         release[i] = row.release;
@@ -259,6 +262,7 @@ fn with_row(t: Table, row: Row) -> Table
         deadline[i] = row.deadline;
         level[i] = row.level;
         promised[i] = row.promised;
+        follows[i] = row.follows;
         return Table {
             n: n + 1,
             normal: t.normal,
@@ -269,6 +273,7 @@ fn with_row(t: Table, row: Row) -> Table
             deadline: deadline,
             level: level,
             promised: promised,
+            follows: follows,
         };
     }
     Table {
@@ -281,6 +286,7 @@ fn with_row(t: Table, row: Row) -> Table
         deadline: deadline,
         level: level,
         promised: promised,
+        follows: follows,
     }
 }
 

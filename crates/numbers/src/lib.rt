@@ -43,6 +43,9 @@ pub fn refusal_number(why: Refusal) -> u32
         Refusal::NoRoom => 10,
         Refusal::Loading => 11,
         Refusal::Promised => 12,
+        Refusal::NotLower => 13,
+        Refusal::ReleasedLater => 14,
+        Refusal::FollowsLow => 15,
     }
 }
 

@@ -44,4 +44,10 @@ fn main() {
     show(b"promise_above");
     show(b"promise_high");
     show(b"promise_missing");
+    show(b"wait");
+    show(b"wait_no_order");
+    show(b"wait_not_lower");
+    show(b"wait_released_later");
+    show(b"wait_on_low");
+    show(b"wait_missing");
 }

@@ -9,6 +9,7 @@ pub mod Fewer
 pub mod Periods
 pub mod Renewing
 pub mod Trying
+pub mod Opening
 pub mod Sweeping
 pub mod Searching
 pub mod LowSearch

@@ -30,7 +30,7 @@ pub record Groups (rel cap : ℕ → ℕ) (live : ℕ → Bool) (q period : List
   pub free : (k : ℕ) → Waits live q k → busyTo rel cap live q (at period (row q k)) ≤ rel (row q k)
   pub wide : length period ≡ 64
 
--- the words of busy periods that have changed since they were swept, by the places where they begin, and of entries known to pass: a row whose
+-- the words of busy periods that have changed since they were swept, by the places where they begin, and of entries known to be in time: a row whose
 -- entry is there is in time, and of the busy periods that have not changed every row in time has its entry there
 pub record Known (rel cap due entry : ℕ → ℕ) (live : ℕ → Bool) (q period : List ℕ) (changed passing : ℕ) : Type 0 where
   pub groups : Groups rel cap live q period

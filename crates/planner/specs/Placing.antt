@@ -14,13 +14,14 @@ use Rattle.rules.specs.declared.Planning.{Planning}
 use Rattle.rules.specs.Lists.{count, keep, erase}
 use Rattle.rules.specs.Rows.{rowsOf}
 use Rattle.rules.specs.Tables.{Accepted}
-use Rattle.rules.specs.Choice.{sequence, passes, taker, fill, choice, padded, planFrom}
+use Rattle.rules.specs.Choice.{sequence, unfollowed, tried, passes, taker, fill, choice, padded, planFrom}
 use Rattle.theory.specs.Counts.{In, Once, in-head, in-tail, first-in, same-size}
-use Rattle.theory.specs.Facts.{TableFacts, facts, count-zero}
+use Rattle.theory.specs.Facts.{Row, TableFacts, facts, rows-in, count-zero}
+use Rattle.theory.specs.Waits.{Closed, rows-closed}
 use Rattle.theory.specs.Places.{rows-once, length-rows}
-use Rattle.theory.specs.Choosing.{same-sequence}
+use Rattle.theory.specs.Choosing.{same-sequence, lowest-stands, keep-in}
 use Rattle.sweep.specs.Masks.{bit, isLeft, cleared-ones}
-use Rattle.sweep.specs.Holds.{Holds, holds-start, holds-without, holds-once, holds-row, holds-in, keep-without}
+use Rattle.sweep.specs.Holds.{Holds, count-keep-le, holds-start, holds-without, holds-once, holds-row, holds-in, keep-without}
 use Rattle.sweep.specs.Padded.{zeros, padded-zeros}
 use Rattle.planner.specs.Trying.{leftOf}
 
@@ -28,11 +29,13 @@ use Rattle.planner.specs.Trying.{leftOf}
 abbrev pub placedBelow : Table → List ℕ → ℕ → List ℕ
 placedBelow t order place = take (t .n - place) (drop place order)
 
--- before a turn: the word holds the rows left, the order has the rows placed below them, and the choice goes on from here
+-- before a turn: the word holds the rows left, whatever one of them follows among them, the order has the rows placed below them, and the choice goes
+-- on from here
 pub record Placing (t : Table) (order : List ℕ) (left place : ℕ) : Type 0 where
   pub counted : place ≡ ones left
   pub few : place ≤ t .n
   pub holds : Holds left (leftOf t left)
+  pub closed : Closed t (leftOf t left)
   pub long : length order ≡ 64
   pub tail : drop (t .n) order ≡ zeros (64 - t .n)
   pub filled : fill t place (leftOf t left) (placedBelow t order place) ≡ choice t
@@ -91,6 +94,7 @@ module _ (t : Table) (accepted : Accepted t) where
         counted = c;
         few = omega arith;
         holds = rw every h;
+        closed = rw every (rows-closed t f (sequence t) (same-sequence t));
         long = rw o;
         tail = rw o (drop-zeros (t .n) 64 (f .few));
         filled = rw (every, n, z);
@@ -120,9 +124,15 @@ module _ (t : Table) (accepted : Accepted t) where
 
       -- row i takes the place
       module _ (i : ℕ) (e : i ≡ taker t (leftOf t left)) (n : i ≡ 0 → ⊥) where
-        taker-in : In i (leftOf t left)
+        -- it is one of the rows tried: left, and followed by no row left
+        taker-tried : In i (leftOf t left) × (unfollowed t (leftOf t left) i ≡ true)
         unfolding taker
-        taker-in = rw e (first-in (passes t (leftOf t left)) (leftOf t left) (λ z. n (e ∙ z)))
+        taker-tried =
+            rw e (keep-in (unfollowed t (leftOf t left)) (leftOf t left) (taker t (leftOf t left))
+            (first-in (passes t (leftOf t left)) (tried t (leftOf t left)) (λ z. n (e ∙ z))))
+
+        taker-in : In i (leftOf t left)
+        taker-in = taker-tried .0
 
         pub taker-range : (1 ≤ i) × (i ≤ 64)
         taker-range = holds-row left (leftOf t left) (p .holds) i taker-in
@@ -148,11 +158,15 @@ module _ (t : Table) (accepted : Accepted t) where
               counted = c;
               few = omega (arith, p .few);
               holds = rw rows h;
+              closed = rw rows (lowest-stands t f (leftOf t left) known (p .closed) i taker-in (taker-tried .1) .0);
               long = length-set order k i ∙ p .long;
               tail = drop-set-lt (t .n) order k i (omega (arith, p .few)) ∙ p .tail;
               filled = rw (rows, w, placed-more t order k i (p .long) (omega (arith, p .few)) (f .few)) (turned k s);
             }
           where
+            known : (x : ℕ) → In x (leftOf t left) → Row t x
+            known x j = rows-in t x (omega (arith, count-keep-le (isLeft left) x (sequence t), same-sequence t x))
+
             turned : (k : ℕ) → place ≡ suc k → fill t k (erase i (leftOf t left)) (i ∷ placedBelow t order (suc k)) ≡ choice t
             turned k s =
                 ap (λ (j : ℕ). fill t k (erase j (leftOf t left)) (j ∷ placedBelow t order (suc k))) e

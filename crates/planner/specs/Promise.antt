@@ -8,7 +8,7 @@ use native.Mathlib.Omega.{arith}
 use lib.ListN.{length}
 use Rattle.rules.specs.declared.Table.{Table}
 use Rattle.rules.specs.declared.Refusal.{Refusal}
-use Rattle.rules.specs.declared.Refusal.the-variants.{Length, Malformed, RowCount, Speeds, RowLimits, NotAnOrder, ClockOver, Unsound, NoRoom, Loading, Promised}
+use Rattle.rules.specs.declared.Refusal.the-variants.{Length, Malformed, RowCount, Speeds, RowLimits, NotAnOrder, ClockOver, Unsound, NoRoom, Loading, Promised, NotLower, ReleasedLater, FollowsLow}
 use Rattle.rules.specs.declared.Check.{Check}
 use Rattle.rules.specs.declared.Check.the-variants.{Passed, Refused}
 use Rattle.rules.specs.declared.Planning.{Planning}
@@ -28,7 +28,7 @@ pub record Promise (t : Table) (r : Planning) : Type 0 where
   pub exists : Accepted t → (plannedNumber (r .answer) ≡ 0) ↔ CorrectOrder t
   -- with 0 the order passes check 6 and is correct
   pub right : plannedNumber (r .answer) ≡ 0 → (isOrder t (r .order) ≡ true) × Correct t (r .order)
-  -- with 7 no order is correct, and the word is that of the rows left by the choice
+  -- with 7 no order that passes check 6 is correct, and the word is that of the rows left by the choice
   pub none : plannedNumber (r .answer) ≡ 7 → (o : List ℕ) → isOrder t o ≡ true → Correct t o → ⊥
   pub left : plannedNumber (r .answer) ≡ 7 → rowsLeft (r .answer) ≡ word (choice t .left)
 
@@ -46,6 +46,9 @@ refusal-number Unsound = (λ e. omega arith, λ e. omega arith)
 refusal-number NoRoom = (λ e. omega arith, λ e. omega arith)
 refusal-number Loading = (λ e. omega arith, λ e. omega arith)
 refusal-number Promised = (λ e. omega arith, λ e. omega arith)
+refusal-number NotLower = (λ e. omega arith, λ e. omega arith)
+refusal-number ReleasedLater = (λ e. omega arith, λ e. omega arith)
+refusal-number FollowsLow = (λ e. omega arith, λ e. omega arith)
 
 empty : (l : List ℕ) → length l ≡ 0 → l ≡ []
 empty [] e = refl

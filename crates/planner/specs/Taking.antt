@@ -10,21 +10,23 @@ use lib.Pow.{pow-pos}
 use lib.ListN.{length, getD, take}
 use borrow.Author.Tests.{eq-eqb, ne-eqb, eqb-true, le-leb, lt-leb, le-ltb, lt-ltb}
 use Rattle.rules.specs.declared.Table.{Table}
-use Rattle.rules.specs.Lists.{first, keep, erase}
-use Rattle.rules.specs.Rows.{at, put, rowsOf, releaseOf, deadlineOf, promisedOf, promiseNeed, isLow, isHigh, isPromised}
+use Rattle.rules.specs.Lists.{allZero, first, keep, erase}
+use Rattle.rules.specs.Rows.{at, put, rowsOf, releaseOf, deadlineOf, promisedOf, followsOf, promiseNeed, isLow, isHigh, isPromised}
 use Rattle.rules.specs.Tables.{Accepted}
 use Rattle.rules.specs.Worst.{worstSpeed, worstFinish, promisedMoment}
-use Rattle.rules.specs.Choice.{sequence, lowest, passes, taker, falling, padded}
+use Rattle.rules.specs.Choice.{sequence, lowest, unfollowed, tried, passes, taker, falling, padded}
 use Rattle.theory.specs.Tests.{by-bool, by-eqb, by-ltb, by-leb, not-is, and-left, and-right, and-both, and-true}
 use Rattle.theory.specs.Counts.{In, Once, Within, Same, in-entry, erase-last}
 use Rattle.theory.specs.Sorting.{sorted-sort, same-sort}
 use Rattle.theory.specs.Sweep.{sweep}
 use Rattle.theory.specs.Caps.{cap, cap-positive}
-use Rattle.theory.specs.Facts.{Row, TableFacts, facts, rows-in, count-zero}
+use Rattle.theory.specs.Facts.{Row, TableFacts, facts, rows-in, in-rows, followed-row, count-zero}
 use Rattle.theory.specs.Places.{rows-once}
-use Rattle.theory.specs.Choosing.{same-sequence}
+use Rattle.theory.specs.Waits.{Closed, Stand}
+use Rattle.theory.specs.Choosing.{same-sequence, none-follow, follow-none, lowest-stands, keep-in, in-keep}
 use Rattle.theory.specs.Promised.{latest, meets-is}
 use Rattle.theory.specs.Results.{worst-sweep}
+use Rattle.checks.specs.RowLists.{zero-at}
 use Rattle.sweep.specs.Masks.{bit, isLeft, bit-lt, left-bit, bit-left, bit-not-left, cleared-same, cleared-other, full-bit, above}
 use Rattle.sweep.specs.CapColumn.{partNeeds, parts-most}
 use Rattle.sweep.specs.Holds.{Holds, holds-same, count-keep-le, count-kept, keep-same}
@@ -37,6 +39,7 @@ use Rattle.planner.specs.Prepared.{capsAt, atLevel, every-take, every-le
 use Rattle.planner.specs.Busy.{row, Waits}
 use Rattle.planner.specs.Periods.{Queue, Known, known-start, known-placed}
 use Rattle.planner.specs.Entries.{entriesTo, entry-is, entries-below}
+use Rattle.planner.specs.Opening.{openTo, open-inside, open-clear, open-whole}
 use Rattle.planner.specs.Trying.{leftOf, Speed, Parts, KnownAt, Stands, Open, inTime, partInTime, lowInTime, FirstIn}
 
 -- the later of two clocks is in time if both are
@@ -52,6 +55,12 @@ later-both a b d =
 pub record Waiting (t : Table) (left waiting : ℕ) : Type 0 where
   pub within : waiting < 2 ^ t .n
   pub bits : (i : ℕ) → i < t .n → bit waiting i ≡ cond (isLeft left (getD (sequence t) i 0)) 1 0
+
+-- entry i of the trial sequence is tried exactly if it waits and no row left follows its row
+pub record Opened (t : Table) (left waiting tries : ℕ) : Type 0 where
+  pub inside : (x : ℕ) → bit tries x ≡ 1 → bit waiting x ≡ 1
+  pub free : (x : ℕ) → x < t .n → bit tries x ≡ 1 → unfollowed t (leftOf t left) (getD (sequence t) x 0) ≡ true
+  pub whole : (x : ℕ) → x < t .n → bit waiting x ≡ 1 → unfollowed t (leftOf t left) (getD (sequence t) x 0) ≡ true → bit tries x ≡ 1
 
 -- entry e, from 1, of the trial sequence has the row that takes the place; 0 where no row does
 pub record Taken (t : Table) (left waiting e : ℕ) : Type 0 where
@@ -197,10 +206,58 @@ module _ (t : Table) (accepted : Accepted t) where
               (λ z. absurd (omega (arith, w .bits x h, ap {B = ℕ} (λ (c : Bool). cond c 1 0) z))),
         )
 
-    pub opened : (m : ℕ) → Open (padded (byRelease t)) entryOf (t .n) left (bitAnd waiting m)
-    opened m x b =
-        let r = waits-left x (omega (arith, bit-and waiting m x, b, bit-lt waiting x)) in
+    pub opened : (tries : ℕ) → Opened t left waiting tries → (m : ℕ) → Open (padded (byRelease t)) entryOf (t .n) left (bitAnd tries m)
+    opened tries o m x b =
+        let r = waits-left x (o .inside x (omega (arith, bit-and tries m x, b, bit-lt tries x))) in
         stands-row left x (r .0) (r .1)
+
+    -- the word that the code makes of the waiting entries, with the table free of waits or not
+    pub opening : (free : Bool) → free ≡ allZero (t .follows) → (tries : ℕ) → tries ≡ cond free waiting (openTo (t .follows) entryOf left waiting (t .n))
+        → Opened t left waiting tries
+    opening free e tries q = by-bool (allZero (t .follows))
+        (λ z. subst (Opened t left waiting) (sym (q ∙ ap (λ (b : Bool). cond b waiting (openTo (t .follows) entryOf left waiting (t .n))) (e ∙ z))) (all-free z))
+        (λ z. subst (Opened t left waiting) (sym (q ∙ ap (λ (b : Bool). cond b waiting (openTo (t .follows) entryOf left waiting (t .n))) (e ∙ z))) some-bound)
+      where
+        -- no row follows another
+        all-free : allZero (t .follows) ≡ true → Opened t left waiting waiting
+        all-free z =
+            record {
+              inside = λ x b. b;
+              free = λ x h b. follow-none t (leftOf t left) (getD (sequence t) x 0)
+                  (λ y _ k. omega (arith, zero-at (t .follows) 0 (y - 1) z (omega arith), sequence-row x h .from));
+              whole = λ x h b u. b;
+            }
+
+        some-bound : Opened t left waiting (openTo (t .follows) entryOf left waiting (t .n))
+        some-bound =
+            record {
+              inside = open-inside (t .follows) entryOf left waiting (t .n);
+              free = λ x h b. follow-none t (leftOf t left) (getD (sequence t) x 0) (λ y k p. followed x h b y k p);
+              whole = λ x h b u. open-whole (t .follows) entryOf left waiting (t .n) x b (λ j l some e s. seated x h u j l some e s);
+            }
+          where
+            -- a follower that is left has its row's entry cleared
+            followed : (x : ℕ) → x < t .n → bit (openTo (t .follows) entryOf left waiting (t .n)) x ≡ 1 → (y : ℕ) → In y (leftOf t left) → followsOf t y ≡ getD (sequence t) x 0 → ⊥
+            followed x h b y k p =
+                let l = keep-in (isLeft left) (sequence t) y k in
+                let r = rows-in t y (omega (arith, same-sequence t y, l .0)) in
+                let z : y - 1 + 1 ≡ y = omega (arith, r .from) in
+                open-clear (t .follows) entryOf left waiting (t .n) (y - 1) (omega (arith, r .from, r .upTo)) (omega (arith, p, sequence-row x h .from)) (rw z (l .1))
+                (ap (bit (openTo (t .follows) entryOf left waiting (t .n))) (ap (at entryOf) p ∙ entry-of x h) ∙ b)
+
+            -- an entry that is cleared is of a row that a row left follows
+            seated : (x : ℕ) → x < t .n → unfollowed t (leftOf t left) (getD (sequence t) x 0) ≡ true → (j : ℕ) → j < t .n → 1 ≤ getD (t .follows) j 0 → isLeft left (j + 1) ≡ true
+                → at entryOf (getD (t .follows) j 0) ≡ x → ⊥
+            seated x h u j l some e s =
+                let z : j + 1 - 1 ≡ j = omega arith in
+                let own : Row t (j + 1) = record { from = omega arith; upTo = omega arith } in
+                let w : followsOf t (j + 1) ≡ getD (t .follows) j 0 = rw z in
+                let row : Row t (getD (t .follows) j 0) = rw w at (followed-row t f (j + 1) own (omega (arith, w))) in
+                let i = in-rows t (getD (t .follows) j 0) row in
+                let a = entry-at (getD (t .follows) j 0) i in
+                let k : In (j + 1) (leftOf t left) = in-keep (isLeft left) (sequence t) (j + 1) (omega (arith, same-sequence t (j + 1), in-rows t (j + 1) own)) e in
+                none-follow t (leftOf t left) (getD (sequence t) x 0) u (j + 1) k
+                (w ∙ sym (a .is) ∙ ap (λ (y : ℕ). getD (sequence t) y 0) (sym (entry-place (getD (t .follows) j 0) i) ∙ s))
 
     -- the row at entry e is placed
     pub waiting-turn : (e i : ℕ) → 1 ≤ e → e ≤ t .n → i ≡ getD (padded (sequence t)) (e - 1) 0 → bit waiting (e - 1) ≡ 1 → bit left (i - 1) ≡ 1
@@ -223,36 +280,46 @@ module _ (t : Table) (accepted : Accepted t) where
               ∙ ap (λ (m : ℕ). cond (eqb m 1) 1 0) (sym (cleared-other (i - 1) (getD (sequence t) j 0 - 1) left c d)));
         }
 
+  -- an entry has a row of the table
+  pub taken-row : (e : ℕ) → 1 ≤ e → e ≤ t .n → In (getD (padded (sequence t)) (e - 1) 0) (rowsOf t)
+  taken-row e h k =
+      let n = sequence-length in
+      subst (λ (x : ℕ). In x (rowsOf t)) (sym (sequence-entry (e - 1) (omega arith))) (entry-in (sequence t) (same-sequence t) (e - 1) (omega arith))
+
   -- a trial at a row's own worst speed says whether it passes
-  module _ (left : ℕ) (holds : Holds left (leftOf t left)) where
+  module _ (left : ℕ) (holds : Holds left (leftOf t left)) (closed : Closed t (leftOf t left)) where
     left-within : Within (leftOf t left) (rowsOf t)
     left-within x = omega (arith, count-keep-le (isLeft left) x (sequence t), same-sequence t x)
 
     swept-same : Same (queued t left) (leftOf t left)
     swept-same = queued-same t left (leftOf t left) holds left-within
 
-    trial-time : (s i : ℕ) → In i (leftOf t left) → worstSpeed t i ≡ s
+    -- a row that none of them follows may stand lowest
+    stands : (i : ℕ) → In i (leftOf t left) → unfollowed t (leftOf t left) i ≡ true → Stand t (erase i (leftOf t left)) i
+    stands i k u = lowest-stands t f (leftOf t left) (λ x j. rows-in t x (omega (arith, left-within x))) closed i k u
+
+    trial-time : (s i : ℕ) → In i (leftOf t left) → unfollowed t (leftOf t left) i ≡ true → worstSpeed t i ≡ s
         → inTime (padded (byRelease t)) (t .n) (t .release) (t .deadline) (capsAt t s) left i
         ≡ leb (worstFinish t (lowest (leftOf t left) i) i) (deadlineOf t i)
     unfolding inTime
-    trial-time s i k e =
+    trial-time s i k u e =
         let last = erase-last i (leftOf t left) k in
         ap (λ (n : ℕ). leb n (deadlineOf t i))
         (finds t accepted left s (releaseOf t i) (padded (byRelease t)) (capsAt t s) refl refl
         ∙ ap (λ (v : ℕ). sweep (releaseOf t) (cap t v) (releaseOf t i) 0 (queued t left)) (sym e)
-        ∙ sym (worst-sweep t accepted (erase i (leftOf t left)) [] i (λ x. omega (arith, last x, left-within x)) (queued t left)
+        ∙ sym (worst-sweep t accepted (erase i (leftOf t left)) [] i (λ x. omega (arith, last x, left-within x)) (stands i k u) (queued t left)
         (queued-sorted t left)
         (λ x. omega (arith, last x, swept-same x))))
 
     -- and a trial of its promised part whether that is in time
-    trial-part : (i : ℕ) → In i (leftOf t left) → isPromised t i ≡ true
+    trial-part : (i : ℕ) → In i (leftOf t left) → unfollowed t (leftOf t left) i ≡ true → isPromised t i ≡ true
         → trial (t .release) (put (capsAt t (t .degraded)) i (at (partNeeds t) i)) left (releaseOf t i) 0 (take (t .n) (padded (byRelease t)))
         ≡ promisedMoment t (lowest (leftOf t left) i) i
-    trial-part i k e =
+    trial-part i k u e =
         let last = erase-last i (leftOf t left) k in
         let r = rows-in t i (omega (arith, left-within i)) in
         finds-part t accepted (erase i (leftOf t left)) [] left i (at (partNeeds t) i) (padded (byRelease t)) (capsAt t (t .degraded))
-        (λ x. omega (arith, last x, left-within x)) (holds-same left (leftOf t left) (erase i (leftOf t left) ++ (i ∷ [])) (λ x. omega (arith, last x)) holds) e refl refl
+        (λ x. omega (arith, last x, left-within x)) (stands i k u) (holds-same left (leftOf t left) (erase i (leftOf t left) ++ (i ∷ [])) (λ x. omega (arith, last x)) holds) e refl refl
         (padded-at (promiseNeed t) (t .n) i (r .from) (r .upTo) (f .few))
 
     -- what `passes` asks of a row: the later of the two clocks is not after its deadline
@@ -262,84 +329,102 @@ module _ (t : Table) (accepted : Accepted t) where
     passes-latest i = meets-is t (lowest (leftOf t left) i) i
 
     -- HI rows are promised nothing
-    high-passes : (i : ℕ) → In i (leftOf t left) → isLow t i ≡ false
+    high-passes : (i : ℕ) → In i (leftOf t left) → unfollowed t (leftOf t left) i ≡ true → isLow t i ≡ false
         → inTime (padded (byRelease t)) (t .n) (t .release) (t .deadline) (capsAt t (t .degraded)) left i ≡ passes t (leftOf t left) i
-    high-passes i k h =
+    high-passes i k u h =
         let d = worstFinish t (lowest (leftOf t left) i) i in
         let e : max d 0 ≡ d = omega arith in
-        trial-time (t .degraded) i k (rw h) ∙ sym (passes-latest i ∙ rw (h, e))
+        trial-time (t .degraded) i k u (rw h) ∙ sym (passes-latest i ∙ rw (h, e))
 
     -- of LO rows both are asked
-    low-passes : (i : ℕ) → In i (leftOf t left) → isLow t i ≡ true
+    low-passes : (i : ℕ) → In i (leftOf t left) → unfollowed t (leftOf t left) i ≡ true → isLow t i ≡ true
         → lowInTime (padded (byRelease t)) (t .n) (t .release) (t .deadline) (capsAt t (t .normal)) (capsAt t (t .degraded)) (t .promised) (partNeeds t) left i
         ≡ passes t (leftOf t left) i
     unfolding partInTime
-    low-passes i k h =
+    low-passes i k u h =
         let d = worstFinish t (lowest (leftOf t left) i) i in
-        rw (trial-time (t .normal) i k (rw h), passes-latest i, h)
+        rw (trial-time (t .normal) i k u (rw h), passes-latest i, h)
         (by-eqb (promisedOf t i) 0
         (λ e z. let n : ltb 0 (promisedOf t i) ≡ false = le-ltb 0 (promisedOf t i) (omega arith) in
         let m : max d 0 ≡ d = omega arith in
         rw (e, n, m, and-true))
         (λ e z. let n : ltb 0 (promisedOf t i) ≡ true = lt-ltb 0 (promisedOf t i) (omega arith) in
-        rw (e, n, trial-part i k (rw (h, n))) (later-both d (promisedMoment t (lowest (leftOf t left) i) i) (deadlineOf t i))))
+        rw (e, n, trial-part i k u (rw (h, n))) (later-both d (promisedMoment t (lowest (leftOf t left) i) i) (deadlineOf t i))))
 
-    -- the rows left of a level, and the first of them that passes
-    module _ (waiting : ℕ) (w : Waiting t left waiting) where
+    -- the rows tried of a level, and the first of them that passes
+    module _ (waiting : ℕ) (w : Waiting t left waiting) (tries : ℕ) (o : Opened t left waiting tries) where
+      -- left, and followed by no row left
+      abbrev live : ℕ → Bool
+      live x = isLeft left x && unfollowed t (leftOf t left) x
+
+      abbrev rows : List ℕ
+      rows = keep live (sequence t)
+
+      -- these are the rows tried
+      tried-are : tried t (leftOf t left) ≡ rows
+      tried-are = keep-both (unfollowed t (leftOf t left)) (isLeft left) (sequence t)
+
       abbrev chosen : ℕ → ℕ → Bool
-      chosen level x = isLeft left x && eqb (at (t .level) x) level
+      chosen level x = live x && eqb (at (t .level) x) level
 
-      -- an entry is in the word of a level exactly if its row is left and of this level
-      word-of : (level x : ℕ) → x < t .n → chosen level (getD (sequence t) x 0) ≡ true → bit (bitAnd waiting (atLevel t level)) x ≡ 1
+      -- an entry is in the word of a level exactly if its row is tried and of this level
+      word-of : (level x : ℕ) → x < t .n → chosen level (getD (sequence t) x 0) ≡ true → bit (bitAnd tries (atLevel t level)) x ≡ 1
       word-of level x h e =
           let n = sequence-length in
           let i = getD (sequence t) x 0 in
-          let a = and-left (isLeft left i) (eqb (at (t .level) i) level) e in
-          let b = and-right (isLeft left i) (eqb (at (t .level) i) level) e in
+          let l = and-left (live i) (eqb (at (t .level) i) level) e in
+          let b = and-right (live i) (eqb (at (t .level) i) level) e in
+          let a = and-left (isLeft left i) (unfollowed t (leftOf t left) i) l in
+          let here : bit waiting x ≡ 1 = w .bits x h ∙ ap {B = ℕ} (λ (c : Bool). cond c 1 0) a in
           omega (
             arith,
-            bit-and waiting (atLevel t level) x,
-            w .bits x h,
-            ap {B = ℕ} (λ (c : Bool). cond c 1 0) a,
+            bit-and tries (atLevel t level) x,
+            o .whole x h here (and-right (isLeft left i) (unfollowed t (leftOf t left) i) l),
             marks-bit (λ j. eqb (at (t .level) j) level) (sequence t) x (omega arith),
             ap {B = ℕ} (λ (c : Bool). cond c 1 0) b,
           )
 
-      of-word : (level x : ℕ) → bit (bitAnd waiting (atLevel t level)) x ≡ 1 → (x < t .n) × (bit waiting x ≡ 1) × (chosen level (getD (sequence t) x 0) ≡ true)
+      of-word : (level x : ℕ) → bit (bitAnd tries (atLevel t level)) x ≡ 1 → (x < t .n) × (bit waiting x ≡ 1) × (chosen level (getD (sequence t) x 0) ≡ true)
       of-word level x b =
           let n = sequence-length in
           let i = getD (sequence t) x 0 in
-          let both = bit-and waiting (atLevel t level) x in
-          let one : bit waiting x ≡ 1 = omega (arith, bit-lt waiting x) in
+          let both = bit-and tries (atLevel t level) x in
+          let in-open : bit tries x ≡ 1 = omega (arith, bit-lt tries x) in
+          let one = o .inside x in-open in
           let r = waits-left left waiting w x one in
+          let u = o .free x (r .0) in-open in
           let l : eqb (at (t .level) i) level ≡ true = by-bool (eqb (at (t .level) i) level) (λ z. z)
           (λ z. absurd (omega (arith, marks-bit (λ j. eqb (at (t .level) j) level) (sequence t) x (omega (arith, r .0)), ap {B = ℕ} (λ (c : Bool). cond c 1 0) z))) in
-          (r .0, one, and-both (isLeft left i) (eqb (at (t .level) i) level) (r .1) l)
+          (r .0, one, and-both (live i) (eqb (at (t .level) i) level) (and-both (isLeft left i) (unfollowed t (leftOf t left) i) (r .1) u) l)
 
       -- what the search at a speed says of the rows of a level
       record Tested (level e : ℕ) : Type 0 where
-        none : e ≡ 0 → first (passes t (leftOf t left)) (keep (λ i. eqb (at (t .level) i) level) (leftOf t left)) ≡ 0
+        none : e ≡ 0 → first (passes t (leftOf t left)) (keep (λ i. eqb (at (t .level) i) level) rows) ≡ 0
         found : (e ≡ 0 → ⊥) → (1 ≤ e) × (e ≤ t .n) × (bit waiting (e - 1) ≡ 1)
-            × (getD (padded (sequence t)) (e - 1) 0 ≡ first (passes t (leftOf t left)) (keep (λ i. eqb (at (t .level) i) level) (leftOf t left)))
+            × (getD (padded (sequence t)) (e - 1) 0 ≡ first (passes t (leftOf t left)) (keep (λ i. eqb (at (t .level) i) level) rows))
 
-      module _ (level : ℕ) (tested : ℕ → Bool) (right : (i : ℕ) → eqb (at (t .level) i) level ≡ true → In i (leftOf t left) → tested i ≡ passes t (leftOf t left) i)
-          (e : ℕ) (k : FirstIn tested (padded (byRelease t)) entryOf (t .n) left (bitAnd waiting (atLevel t level)) e) where
-        kept : keep (λ i. eqb (at (t .level) i) level) (leftOf t left) ≡ keep (chosen level) (sequence t)
-        kept = keep-both (λ i. eqb (at (t .level) i) level) (isLeft left) (sequence t)
+      module _ (level : ℕ) (tested : ℕ → Bool) (right : (i : ℕ) → eqb (at (t .level) i) level ≡ true → In i (leftOf t left) → unfollowed t (leftOf t left) i ≡ true → tested i ≡ passes t (leftOf t left) i)
+          (e : ℕ) (k : FirstIn tested (padded (byRelease t)) entryOf (t .n) left (bitAnd tries (atLevel t level)) e) where
+        kept : keep (λ i. eqb (at (t .level) i) level) rows ≡ keep (chosen level) (sequence t)
+        kept = keep-both (λ i. eqb (at (t .level) i) level) live (sequence t)
 
         -- the trial of a row of the level says whether it passes
         says : (x : ℕ) → x < t .n → chosen level (getD (sequence t) x 0) ≡ true → tested (getD (sequence t) x 0) ≡ passes t (leftOf t left) (getD (sequence t) x 0)
         says x h c =
             let n = sequence-length in
             let i = getD (sequence t) x 0 in
-            let a = and-left (isLeft left i) (eqb (at (t .level) i) level) c in
-            let b = and-right (isLeft left i) (eqb (at (t .level) i) level) c in
+            let l = and-left (live i) (eqb (at (t .level) i) level) c in
+            let b = and-right (live i) (eqb (at (t .level) i) level) c in
+            let a = and-left (isLeft left i) (unfollowed t (leftOf t left) i) l in
             let m : In i (leftOf t left) = omega (arith, count-kept (isLeft left) i (sequence t) a, in-entry (sequence t) x (omega arith)) in
-            right i b m
+            right i b m (and-right (isLeft left i) (unfollowed t (leftOf t left) i) l)
+
+        is-left : (i : ℕ) → chosen level i ≡ true → isLeft left i ≡ true
+        is-left i c = and-left (isLeft left i) (unfollowed t (leftOf t left) i) (and-left (live i) (eqb (at (t .level) i) level) c)
 
         -- what is so of the place in the queue is so of the row
         at-place : (x : ℕ) (h : x < t .n) (c : chosen level (getD (sequence t) x 0) ≡ true)
-            → row (take (t .n) (padded (byRelease t))) (stands-row left x h (and-left (isLeft left (getD (sequence t) x 0)) (eqb (at (t .level) (getD (sequence t) x 0)) level) c) .place)
+            → row (take (t .n) (padded (byRelease t))) (stands-row left x h (is-left (getD (sequence t) x 0) c) .place)
             ≡ getD (sequence t) x 0
         unfolding stands-row
         at-place x h c =
@@ -354,13 +439,13 @@ module _ (t : Table) (accepted : Accepted t) where
 
         -- a row that the search passed over fails
         over : (x : ℕ) → x < t .n → (c : chosen level (getD (sequence t) x 0) ≡ true)
-            → ((j : ℕ) → Waits (isLeft left) (take (t .n) (padded (byRelease t))) j → bit (bitAnd waiting (atLevel t level)) (at entryOf (row (take (t .n) (padded (byRelease t))) j)) ≡ 1
+            → ((j : ℕ) → Waits (isLeft left) (take (t .n) (padded (byRelease t))) j → bit (bitAnd tries (atLevel t level)) (at entryOf (row (take (t .n) (padded (byRelease t))) j)) ≡ 1
             → at entryOf (row (take (t .n) (padded (byRelease t))) j) ≡ x → tested (row (take (t .n) (padded (byRelease t))) j) ≡ false)
             → passes t (leftOf t left) (getD (sequence t) x 0) ≡ false
         over x h c g =
-            let st = stands-row left x h (and-left (isLeft left (getD (sequence t) x 0)) (eqb (at (t .level) (getD (sequence t) x 0)) level) c) in
+            let st = stands-row left x h (is-left (getD (sequence t) x 0) c) in
             sym (says x h c) ∙ ap tested (sym (at-place x h c))
-            ∙ g (st .place) (st .waits) (ap (bit (bitAnd waiting (atLevel t level))) (st .is) ∙ word-of level x h c) (st .is)
+            ∙ g (st .place) (st .waits) (ap (bit (bitAnd tries (atLevel t level))) (st .is) ∙ word-of level x h c) (st .is)
 
         -- the row found
         row-found : (z : e ≡ 0 → ⊥) (m : e - 1 < t .n) → row (take (t .n) (padded (byRelease t))) (k .found z .stands .place) ≡ getD (sequence t) (e - 1) 0
@@ -396,13 +481,13 @@ module _ (t : Table) (accepted : Accepted t) where
             }
 
       abbrev lows : List ℕ
-      lows = keep (isLow t) (leftOf t left)
+      lows = keep (isLow t) rows
 
       abbrev highs : List ℕ
-      highs = keep (λ i. eqb (at (t .level) i) 1) (leftOf t left)
+      highs = keep (λ i. eqb (at (t .level) i) 1) rows
 
       -- the LO rows of the sequence come first
-      parts : leftOf t left ≡ lows ++ keep (isHigh t) (leftOf t left)
+      parts : rows ≡ lows ++ keep (isHigh t) rows
       unfolding sequence
       parts =
           let fall = falling t (rowsOf t) in
@@ -414,15 +499,15 @@ module _ (t : Table) (accepted : Accepted t) where
           let two : keep (isHigh t) (low ++ high) ≡ high =
           keep-append (isHigh t) low high ∙ ap₂ (λ (a b : List ℕ). a ++ b)
           (keep-neither (isHigh t) (isLow t) fall (λ x e. ap not e)) (keep-twice (isHigh t) fall) in
-          keep-append (isLeft left) low high
-          ∙ ap₂ (λ (a b : List ℕ). keep (isLeft left) a ++ keep (isLeft left) b) (sym one) (sym two)
-          ∙ ap₂ (λ (a b : List ℕ). a ++ b) (keep-keep (isLeft left) (isLow t) (low ++ high)) (keep-keep (isLeft left) (isHigh t) (low ++ high))
+          keep-append live low high
+          ∙ ap₂ (λ (a b : List ℕ). keep live a ++ keep live b) (sym one) (sym two)
+          ∙ ap₂ (λ (a b : List ℕ). a ++ b) (keep-keep live (isLow t) (low ++ high)) (keep-keep live (isHigh t) (low ++ high))
 
       -- in an accepted table a row that is not LO is of level 1
-      other-level : keep (isHigh t) (leftOf t left) ≡ highs
+      other-level : keep (isHigh t) rows ≡ highs
       other-level =
-          keep-same (isHigh t) (λ i. eqb (at (t .level) i) 1) (leftOf t left)
-          (λ x i. let l = f .row x (rows-in t x (omega (arith, left-within x))) .level in
+          keep-same (isHigh t) (λ i. eqb (at (t .level) i) 1) rows
+          (λ x i. let l = f .row x (rows-in t x (omega (arith, count-keep-le live x (sequence t), same-sequence t x))) .level in
           by-eqb (at (t .level) x) 0
           (λ e q. rw (e, ne-eqb (at (t .level) x) 1 (λ z. omega arith)))
           (λ e q. rw (e, eq-eqb (at (t .level) x) 1 (omega (arith, q)))))
@@ -432,8 +517,8 @@ module _ (t : Table) (accepted : Accepted t) where
       unfolding taker
       taker-parts =
           let p = passes t (leftOf t left) in
-          ap (first p) (parts ∙ ap (λ (l : List ℕ). lows ++ l) other-level)
-          ∙ first-parts p lows highs (λ i. omega (arith, count-keep-le (isLow t) 0 (leftOf t left), left-within 0, count-zero (t .n)))
+          ap (first p) (tried-are ∙ parts ∙ ap (λ (l : List ℕ). lows ++ l) other-level)
+          ∙ first-parts p lows highs (λ i. omega (arith, count-keep-le (isLow t) 0 rows, count-keep-le live 0 (sequence t), same-sequence t 0, count-zero (t .n)))
 
       abbrev lowTest : ℕ → Bool
       lowTest = lowInTime (padded (byRelease t)) (t .n) (t .release) (t .deadline) (capsAt t (t .normal)) (capsAt t (t .degraded)) (t .promised) (partNeeds t) left
@@ -442,19 +527,13 @@ module _ (t : Table) (accepted : Accepted t) where
       highTest = inTime (padded (byRelease t)) (t .n) (t .release) (t .deadline) (capsAt t (t .degraded)) left
 
       abbrev Searched : ℕ → (ℕ → Bool) → ℕ → Type 0
-      Searched level tested e = FirstIn tested (padded (byRelease t)) entryOf (t .n) left (bitAnd waiting (atLevel t level)) e
+      Searched level tested e = FirstIn tested (padded (byRelease t)) entryOf (t .n) left (bitAnd tries (atLevel t level)) e
 
       low-tested : (e : ℕ) → Searched 0 lowTest e → Tested 0 e
-      low-tested e k = test-of 0 lowTest (λ i z m. low-passes i m z) e k
+      low-tested e k = test-of 0 lowTest (λ i z m u. low-passes i m u z) e k
 
       high-tested : (e : ℕ) → Searched 1 highTest e → Tested 1 e
-      high-tested e k = test-of 1 highTest (λ i z m. high-passes i m (ne-eqb (at (t .level) i) 0 (λ y. omega (arith, eqb-true (at (t .level) i) 1 z)))) e k
-
-      -- an entry has a row of the table
-      pub taken-row : (e : ℕ) → 1 ≤ e → e ≤ t .n → In (getD (padded (sequence t)) (e - 1) 0) (rowsOf t)
-      taken-row e h k =
-          let n = sequence-length in
-          subst (λ (x : ℕ). In x (rowsOf t)) (sym (sequence-entry (e - 1) (omega arith))) (entry-in (sequence t) (same-sequence t) (e - 1) (omega arith))
+      high-tested e k = test-of 1 highTest (λ i z m u. high-passes i m u (ne-eqb (at (t .level) i) 0 (λ y. omega (arith, eqb-true (at (t .level) i) 1 z)))) e k
 
       -- the first LO row that passes takes the place
       pub taken-low : (e : ℕ) → Searched 0 lowTest e → (e ≡ 0 → ⊥) → Taken t left waiting e

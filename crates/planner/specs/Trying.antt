@@ -47,7 +47,7 @@ pub record Renewed (queue : List ℕ) (n : ℕ) (release deadline cap entry : Li
       → bit word (at entry (row (take n queue) i)) ≡ 1)
       ⊎ ((at period (row (take n queue) i) ≡ at old (row (take n queue) i)) × (at old (row (take n queue) i) ≡ begin → ⊥))
 
--- the row finishes by its deadline with all other rows left above it
+-- by the sweep over all rows left the row finishes by its deadline: for a row that none of them follows, its trial
 unfoldable pub inTime : List ℕ → ℕ → List ℕ → List ℕ → List ℕ → ℕ → ℕ → Bool
 inTime queue n release deadline cap left i = leb (trial release cap left (at release i) 0 (take n queue)) (at deadline i)
 

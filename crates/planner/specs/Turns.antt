@@ -1,24 +1,29 @@
 -- A turn of the choice over what a planning has prepared.
-use Prim.Native.Nat.{ℕ, _-_, _^_, _≤_, _<_}
-use mathlib.Core.Bool.{Bool}
+use Prim.Native.Nat.{ℕ, _+_, _-_, _^_, _≤_, _<_}
+use mathlib.Core.Bool.{Bool, cond}
 use mathlib.Core.Path.{_≡_, refl}
 use mathlib.Core.List.{List}
 use native.Mathlib.Omega.{arith}
 use lib.Bits.{bitAnd, bitOr}
 use lib.ListN.{getD}
 use Rattle.rules.specs.declared.Table.{Table}
-use Rattle.rules.specs.Rows.{at, rowsOf}
+use Rattle.rules.specs.Lists.{allZero}
+use Rattle.rules.specs.Rows.{at, rowsOf, followsOf}
 use Rattle.rules.specs.Tables.{Accepted}
 use Rattle.rules.specs.Choice.{sequence, taker, padded}
 use Rattle.theory.specs.Counts.{In}
-use Rattle.theory.specs.Facts.{TableFacts, facts, rows-in}
+use Rattle.theory.specs.Tests.{by-leb}
+use Rattle.theory.specs.Facts.{Row, TableFacts, facts, rows-in}
+use Rattle.theory.specs.Waits.{Closed}
 use Rattle.sweep.specs.Holds.{Holds}
 use Rattle.sweep.specs.Masks.{bit}
 use Rattle.sweep.specs.Padded.{zeros}
 use Rattle.planner.specs.declared.Trials.{Trials}
 use Rattle.planner.specs.Prepared.{trialsOf}
+use Rattle.planner.specs.Entries.{Entries}
+use Rattle.planner.specs.Opening.{openTo}
 use Rattle.planner.specs.Trying.{leftOf, Speed, KnownAt, Open, inTime, FirstIn, Parts, lowInTime}
-use Rattle.planner.specs.Taking.{Waiting, Taken, speed-of, opened, waiting-turn, taken-low, taken-high, taken-row, known-first, known-turn, period-place, parts-of}
+use Rattle.planner.specs.Taking.{Waiting, Opened, Taken, speed-of, opened, opening, waiting-turn, taken-low, taken-high, taken-row, known-first, known-turn, period-place, parts-of}
 
 -- what is known of the same busy periods
 pub known-same : (queue : List ℕ) (n : ℕ) (release deadline cap entry : List ℕ) (left : ℕ) (p p' : List ℕ) (c c' k k' : ℕ) → p ≡ p' → c ≡ c' → k ≡ k'
@@ -47,9 +52,29 @@ module _ (t : Table) (accepted : Accepted t) (w : Trials) (prepared : w ≡ tria
   unfolding trialsOf
   degraded-parts = rw prepared (parts-of t accepted)
 
-  pub open-entries : (left waiting m : ℕ) → Waiting t left waiting → Open (w .queue) (w .entry) (t .n) left (bitAnd waiting m)
+  pub open-entries : (left waiting tries m : ℕ) → Waiting t left waiting → Opened t left waiting tries → Open (w .queue) (w .entry) (t .n) left (bitAnd tries m)
   unfolding trialsOf
-  open-entries left waiting m q = rw prepared (opened t accepted left waiting q m)
+  open-entries left waiting tries m q o = rw prepared (opened t accepted left waiting q tries o m)
+
+  -- what the entries of a place are asked for with, and what they are
+
+  pub entries-small : Entries (w .entry)
+  unfolding trialsOf
+  entries-small = rw prepared (speed-of t accepted (t .normal) (f .runs) .entries)
+
+  pub followed-few : (k : ℕ) → k < t .n → getD (t .follows) k 0 ≤ 64
+  followed-few k h =
+      let z : k + 1 - 1 ≡ k = omega arith in
+      let own : Row t (k + 1) = record { from = omega arith; upTo = omega arith } in
+      let e : followsOf t (k + 1) ≡ getD (t .follows) k 0 = rw z in
+      by-leb 1 (followsOf t (k + 1))
+      (λ _ some. omega (arith, e, f .lower (k + 1) own some, own .upTo, f .few))
+      (λ _ none. omega (arith, e))
+
+  pub opened-now : (free : Bool) → free ≡ allZero (t .follows) → (left waiting tries : ℕ) → Waiting t left waiting
+      → tries ≡ cond free waiting (openTo (t .follows) (w .entry) left waiting (t .n)) → Opened t left waiting tries
+  unfolding trialsOf
+  opened-now free e left waiting tries q z = opening t accepted left waiting q free e tries (rw prepared at z)
 
   -- before the first sweep
 
@@ -63,9 +88,9 @@ module _ (t : Table) (accepted : Accepted t) (w : Trials) (prepared : w ≡ tria
 
   -- the entry found
 
-  module _ (left waiting : ℕ) (holds : Holds left (leftOf t left)) (q : Waiting t left waiting) where
+  module _ (left waiting : ℕ) (holds : Holds left (leftOf t left)) (closed : Closed t (leftOf t left)) (q : Waiting t left waiting) (tries : ℕ) (o : Opened t left waiting tries) where
     abbrev Search : (ℕ → Bool) → ℕ → ℕ → Type 0
-    Search tested level e = FirstIn tested (w .queue) (w .entry) (t .n) left (bitAnd waiting level) e
+    Search tested level e = FirstIn tested (w .queue) (w .entry) (t .n) left (bitAnd tries level) e
 
     abbrev lowTest : ℕ → Bool
     lowTest = lowInTime (w .queue) (t .n) (t .release) (t .deadline) (w .normal) (w .degraded) (t .promised) (w .part) left
@@ -75,13 +100,14 @@ module _ (t : Table) (accepted : Accepted t) (w : Trials) (prepared : w ≡ tria
 
     pub low-taken : (e : ℕ) → Search lowTest (w .low) e → (e ≡ 0 → ⊥) → Taken t left waiting e
     unfolding trialsOf
-    low-taken e k n = taken-low t accepted left holds waiting q e (rw prepared at k) n
+    low-taken e k n = taken-low t accepted left holds closed waiting q tries o e (rw prepared at k) n
 
     pub high-taken : (d e : ℕ) → Search lowTest (w .low) d → d ≡ 0 → Search highTest (w .high) e → Taken t left waiting e
     unfolding trialsOf
-    high-taken d e k z l = taken-high t accepted left holds waiting q d e (rw prepared at k) z (rw prepared at l)
+    high-taken d e k z l = taken-high t accepted left holds closed waiting q tries o d e (rw prepared at k) z (rw prepared at l)
 
-    -- the row at the entry taken
+  -- the row at the entry taken
+  module _ (left waiting : ℕ) (q : Waiting t left waiting) where
     module _ (e : ℕ) (k : Taken t left waiting e) (some : e ≡ 0 → ⊥) where
       abbrev mine : ℕ
       mine = getD (w .sequence) (e - 1) 0
@@ -95,7 +121,7 @@ module _ (t : Table) (accepted : Accepted t) (w : Trials) (prepared : w ≡ tria
 
       row-in : In mine (rowsOf t)
       unfolding trialsOf
-      row-in = rw prepared (taken-row t accepted left holds waiting q e (taken-range .0) (taken-range .1))
+      row-in = rw prepared (taken-row t accepted e (taken-range .0) (taken-range .1))
 
       pub row-some : mine ≡ 0 → ⊥
       row-some z = omega (arith, rows-in t mine row-in .from)

@@ -3,9 +3,10 @@
 // count from 0 where they are stored and as bits of a word, and from 1 where they are handed to functions on words.
 ghost use mathlib.Core.Path.{_≡_};
 ghost use mathlib.Core.List.{map};
-ghost use Prim.Native.Nat.{_≤_, _<_};
+ghost use Prim.Native.Nat.{ℕ, _-_, _≤_, _<_};
+ghost use mathlib.Core.Bool.{cond};
 ghost use lib.Dec.{eqb};
-ghost use lib.ListN.{take};
+ghost use lib.ListN.{getD, take};
 ghost use Rattle.rules.specs.Lists.{rowsTo};
 ghost use Rattle.rules.specs.Rows.{at};
 ghost use Rattle.rules.specs.Tables.{Accepted};
@@ -18,6 +19,7 @@ ghost use Rattle.planner.specs.Marks.{marks};
 ghost use Rattle.planner.specs.Prepared.{trialsOf};
 ghost use Rattle.planner.specs.Entries.{entriesTo, Entries, timely};
 ghost use Rattle.planner.specs.Trying.{Speed, Small, Parts, Grouped, KnownAt, Open, Renewed, inTime, partInTime, lowInTime, FirstIn};
+ghost use Rattle.planner.specs.Opening.{cleared, openTo};
 ghost use Rattle.planner.specs.Promise.{Promise};
 use rules::Check;
 use rules::Planned;
@@ -128,8 +130,8 @@ fn prepare(t: Table) -> Trials
     }
 }
 
-// The trials (rule 4.4) of the rows left from place `first` of the queue to before place `end`, where all of them finish at one clock: the entries of
-// those that finish by their deadlines, as a word. Clock and deadlines are in slots.
+// Of the rows left from place `first` of the queue to before place `end`, which by the sweep all finish at one clock: the entries of those that finish by
+// their deadlines, as a word. For a row that none of them follows this is its trial (rule 4.4); others are not looked up (rule 4.11). Clock and deadlines are in slots.
 fn in_time<'a>(
     queue: &'a [u8; 64],
     deadline: &'a [u32; 64],
@@ -158,7 +160,7 @@ fn in_time<'a>(
 
 // Sweeps the rows left of one busy period, that which began at place `begin` of the queue: without a row it may have fallen into several. Notes of
 // each row the place where its busy period begins, and gives the entries of those that finish by their deadlines, as a word. Rows of a busy
-// period finish together, when its busy time ends. Releases, deadlines and caps in slots.
+// period finish together by the sweep, when its busy time ends. Releases, deadlines and caps in slots.
 fn renew<'a>(
     queue: &'a [u8; 64],
     n: u32,
@@ -199,7 +201,7 @@ fn renew<'a>(
 }
 
 // What a search finds and leaves known at one speed: the entry, from 1, of the first row that passes, 0 where none does; the busy periods that have
-// changed since they were swept, by the places where they begin; and the entries known to pass, both as words.
+// changed since they were swept, by the places where they begin; and the entries known to be in time by the sweep, both as words.
 struct Search {
     found: u8,
     changed: u64,
@@ -376,13 +378,55 @@ fn first_low<'a>(
     }
 }
 
-// The choice for an accepted table (rules 4.1 to 4.6). The place being filled is how many rows are left (rule 4.9). A row left is waiting at its
+// A word without this entry, from 1, whether it was in it or not.
+fn clear(word: u64, seat: u8) -> u64
+    requires { ⌜ (1 ≤ seat) × (seat ≤ 64) ⌝ }
+    ensures { λ r. ⌜ r ≡ cleared word (seat - 1) ⌝ }
+{
+    if sweep::has(word, seat) {
+        return sweep::without(word, seat);
+    }
+    word
+}
+
+// The entries that are tried at a place (rule 4.11): those of the rows left, but not that of a row which a row left follows. Where the table is free of
+// waits no row is looked at.
+fn open_entries<'a>(
+    free: bool,
+    follows: &'a [u32; 64],
+    entry: &'a [u8; 64],
+    n: u32,
+    left: u64,
+    waiting: u64,
+) -> u64
+    requires { ⌜ (n ≤ 64) × ((k : ℕ) → k < n → getD (now follows) k 0 ≤ 64) × Entries (now entry) ⌝ }
+    ensures { λ r. ⌜ r ≡ cond free waiting (openTo (now (follows .entry)) (now (entry .entry)) left waiting n) ⌝ }
+{
+    if free {
+        return waiting;
+    }
+    let mut tries = waiting;
+    let mut k: u32 = 0;
+    while k < n {
+        let w = follows[k as usize];
+        if w != 0 {
+            if sweep::has(left, (k + 1) as u8) {
+                tries = clear(tries, entry[(w - 1) as usize] + 1);
+            }
+        }
+        k += 1;
+    }
+    tries
+}
+
+// The choice for an accepted table (rules 4.1 to 4.6, 4.11). The place being filled is how many rows are left (rule 4.9). A row left is waiting at its
 // entry of the trial sequence. A placed row changes the busy period that it stood in, at either speed, and no other.
 fn choose(t: Table) -> Planning
     requires { ⌜ Accepted t ⌝ }
     ensures { λ r. ⌜ r ≡ planFrom (choice t) ⌝ }
 {
     let n = t.n;
+    let free = checks::zero_after(0, &t.follows);
     let w = prepare(t);
     let mut order: [u8; 64] = [0; 64];
     let mut left = sweep::first_rows(n);
@@ -395,6 +439,7 @@ fn choose(t: Table) -> Planning
     let mut slow_changed: u64 = 1;
     let mut slow_passing: u64 = 0;
     while place > 0 {
+        let tries = open_entries(free, &t.follows, &w.entry, n, left, waiting);
         let low = first_low(
             &w.queue,
             n,
@@ -407,7 +452,7 @@ fn choose(t: Table) -> Planning
             &w.sequence,
             &w.entry,
             left,
-            waiting & w.low,
+            tries & w.low,
             changed,
             passing,
             &mut period,
@@ -424,7 +469,7 @@ fn choose(t: Table) -> Planning
                 &w.degraded,
                 &w.entry,
                 left,
-                waiting & w.high,
+                tries & w.high,
                 slow_changed,
                 slow_passing,
                 &mut slow_period,
@@ -455,7 +500,7 @@ fn choose(t: Table) -> Planning
     }
 }
 
-// The answer for any table: checks 3, 4, 11, 5 and 12, then the choice (rule 11.3).
+// The answer for any table: checks 3, 4, 11, 5, 12 and 13 to 15, then the choice (rule 11.3).
 pub fn plan(t: Table) -> Planning
     ensures { λ r. ⌜ Promise t r ⌝ }
 {

@@ -1,6 +1,7 @@
 -- Cases on run records, computed from the definitions and checked by one theorem: numbers 8 and 9, the clock's last slots (rules 8.5, 8.12,
 -- 8.13, 13.9), sound records that no run reaches (rule 8.7), records that check 9 refuses for one fault each (rules 8.4 to 8.8), and LO rows
--- around their deadlines (rules 8.7, 19.2, 19.3), and LO rows that are promised a part of their work (rules 1.9, 5.9, 8.4, 8.7).
+-- around their deadlines (rules 8.7, 19.2, 19.3), LO rows that are promised a part of their work (rules 1.9, 5.9, 8.4, 8.7), and rows that follow rows
+-- (rules 2.15, 5.10, 5.11, 8.4, 8.7).
 use Prim.Native.Nat.{ℕ}
 use mathlib.Core.Bool.{Bool, true, cond, _&&_}
 use mathlib.Core.List.{List, [], _∷_}
@@ -9,16 +10,16 @@ use Rattle.record.specs.declared.Run.{Run}
 use Rattle.record.specs.Answers.{slotSaid, forwardSaid}
 use Rattle.record.specs.Records.{recordOf, rowSound, tailSound, isSound, nextRun, chosenRow, comingSlot, oneSlot, workOn, forwardOver, freshOf}
 use Rattle.rules.specs.Calls.{Said}
+use Rattle.rules.specs.Cases.{promising, following, job}
 use Rattle.rules.specs.Choice.{padded}
 use Rattle.rules.specs.Judge.{tableOf}
 use Rattle.rules.specs.Lists.{same}
 use Rattle.rules.specs.Need.{workSlots}
 use Rattle.rules.specs.Numbers.{refusalNumber, checkNumber}
-use Rattle.rules.specs.Orders.{isOrder, checkOrder, checkBoth}
+use Rattle.rules.specs.Orders.{isArrangement, isOrder, checkOrder, checkBoth}
 use Rattle.rules.specs.Running.{closeLate, runSlot}
-use Rattle.rules.specs.Slots.{fresh, isReady, chosen, isOver, brought, serve, slot}
-use Rattle.rules.specs.Tables.{rowOk, tailOk, promiseOk, checkTable}
-use Rattle.rules.specs.declared.Row.{Row}
+use Rattle.rules.specs.Slots.{fresh, isPending, isWaiting, isReady, chosen, isOver, brought, serve, slot}
+use Rattle.rules.specs.Tables.{rowOk, tailOk, promiseOk, checkWait, checkTable}
 use Rattle.rules.specs.declared.Table.{Table}
 
 pub data Case : Type 0 where
@@ -52,17 +53,10 @@ holds (begun t o number) =
     && eqb (freshOf t (padded o) .run .table .loading) (cond (eqb number 0) (t .loading) 0)
     && same (freshOf t (padded o) .run .table .work) (cond (eqb number 0) (t .work) (padded []))
     && same (freshOf t (padded o) .run .table .promised) (cond (eqb number 0) (t .promised) (padded []))
+    && same (freshOf t (padded o) .run .table .follows) (cond (eqb number 0) (t .follows) (padded []))
     && same (freshOf t (padded o) .run .order) (cond (eqb number 0) (padded o) (padded []))
     && shows (freshOf t (padded o) .run) 0 [] [] []
 holds (coming r number row) = sameSaid (slotSaid (comingSlot r)) number row
-
--- a row: release and deadline in slots, work in work units, level, and the promised part in work units
-abbrev promising : ℕ → ℕ → ℕ → ℕ → ℕ → Row
-promising a c d level r = record { release = a; work = c; deadline = d; level = level; promised = r }
-
--- a row that is promised nothing
-abbrev job : ℕ → ℕ → ℕ → ℕ → Row
-job a c d level = promising a c d level 0
 
 -- N 2, G 1 work units per slot; a LO row of 2 work units (allowance 1 slot), due at 20, and a HI row of 4
 abbrev two : Table
@@ -80,6 +74,14 @@ due d = tableOf (job 0 6 d 0 ∷ job 0 8 9 1 ∷ []) 2 1 0
 -- that is promised those, both due at 20
 abbrev promises : ℕ → ℕ → ℕ → Table
 promises loading low high = tableOf (promising 0 8 20 0 low ∷ promising 0 4 20 1 high ∷ []) 4 1 loading
+
+-- two rows of 4 work units (2 slots at N): a LO row of this release, due at 5, and a row of this level, released at 0 and due at 9, that follows row w
+abbrev waits : ℕ → ℕ → ℕ → Table
+waits release level w = tableOf (job release 4 5 0 ∷ following 0 4 9 level w ∷ []) 2 1 0
+
+-- of these, the one in which LO row 2 follows LO row 1
+abbrev pair : Table
+pair = waits 0 0 1
 
 -- a record of a table: order, clock, work units got, slots used, closing slots
 abbrev of : Table → List ℕ → ℕ → List ℕ → List ℕ → List ℕ → Run
@@ -236,6 +238,42 @@ cases =
     ∷ begun (promises 0 9 0) order 12
     ∷ begun (promises 0 0 1) (1 ∷ 1 ∷ []) 12
     ∷ begun (tableOf (promising 0 1 1 0 2 ∷ job 1 1 1 0 ∷ []) 2 1 0) order 5
+    -- row 2 follows row 1: the slot runs row 1 while that is open
+    ∷ coming (of pair order 0 [] [] []) 0 1
+    ∷ leaves (of pair order 0 [] [] []) 1 1 (1 ∷ []) (1 ∷ []) []
+    ∷ stepped (of pair order 1 (1 ∷ []) (1 ∷ []) []) 1 0 1
+    -- it runs once row 1 is done, or dropped with its allowance used up, or dropped by the clock at its deadline (rule 2.15)
+    ∷ leaves (of pair order 1 (2 ∷ []) (1 ∷ []) []) 2 2 (4 ∷ []) (2 ∷ []) (2 ∷ [])
+    ∷ leaves (of pair order 2 (4 ∷ []) (2 ∷ []) (2 ∷ [])) 2 3 (4 ∷ 2 ∷ []) (2 ∷ 1 ∷ []) (2 ∷ [])
+    ∷ leaves (of pair order 1 (1 ∷ []) (1 ∷ []) []) 1 2 (2 ∷ []) (2 ∷ []) (2 ∷ [])
+    ∷ leaves (of pair order 2 (2 ∷ []) (2 ∷ []) (2 ∷ [])) 2 3 (2 ∷ 2 ∷ []) (2 ∷ 1 ∷ []) (2 ∷ [])
+    ∷ leaves (of pair order 4 [] [] []) 1 5 (1 ∷ []) (1 ∷ []) (5 ∷ [])
+    ∷ leaves (of pair order 5 (1 ∷ []) (1 ∷ []) (5 ∷ [])) 2 6 (1 ∷ 2 ∷ []) (1 ∷ 1 ∷ []) (5 ∷ [])
+    ∷ forwarded (of pair order 0 [] [] []) (1 ∷ 1 ∷ 1 ∷ []) 0 3
+    -- sound, and reached by no run: row 2 has used slots, or is done, and row 1 is open; the slot goes to row 1 (rule 8.7)
+    ∷ leaves (of pair order 3 (0 ∷ 1 ∷ []) (0 ∷ 1 ∷ []) []) 2 4 (2 ∷ 1 ∷ []) (1 ∷ 1 ∷ []) []
+    ∷ stepped (of pair order 3 (0 ∷ 4 ∷ []) (0 ∷ 2 ∷ []) (0 ∷ 2 ∷ [])) 2 0 1
+    -- an order with the follower above the row that it follows is refused, and without the wait it is an order (rules 5.11, 8.4)
+    ∷ stepped (of pair (2 ∷ 1 ∷ []) 0 [] [] []) 1 9 0
+    ∷ forwarded (of pair (2 ∷ 1 ∷ []) 0 [] [] []) [] 9 0
+    ∷ coming (of pair (2 ∷ 1 ∷ []) 0 [] [] []) 9 0
+    ∷ stepped (of (waits 0 0 0) (2 ∷ 1 ∷ []) 0 [] [] []) 1 0 2
+    -- waits that 13, 14 and 15 refuse; without its wait each of these tables is let through (rules 5.10, 8.4)
+    ∷ stepped (of (waits 0 0 2) order 0 [] [] []) 1 9 0
+    ∷ stepped (of (waits 0 0 65) order 0 [] [] []) 1 9 0
+    ∷ stepped (of (waits 1 0 1) order 0 [] [] []) 1 9 0
+    ∷ stepped (of (waits 1 0 0) order 0 [] [] []) 1 0 2
+    ∷ stepped (of (waits 0 1 1) order 0 [] [] []) 1 9 0
+    ∷ stepped (of (waits 0 1 0) order 0 [] [] []) 1 0 1
+    ∷ forwarded (of (waits 1 0 1) order 0 [] [] []) [] 9 0
+    ∷ coming (of (waits 0 1 1) order 0 [] [] []) 9 0
+    -- and so are their fresh records: 13 to 15 come after 12 and before 6 (rules 8.2, 11.4)
+    ∷ begun pair order 0
+    ∷ begun (waits 0 0 2) (1 ∷ 1 ∷ []) 13
+    ∷ begun (waits 1 0 1) (1 ∷ 1 ∷ []) 14
+    ∷ begun (waits 0 1 1) (1 ∷ 1 ∷ []) 15
+    ∷ begun pair (2 ∷ 1 ∷ []) 6
+    ∷ begun (tableOf (following 0 1 1 0 1 ∷ promising 0 1 1 0 2 ∷ []) 2 1 0) order 12
     ∷ []
 
 -- every case of a list holds
@@ -245,5 +283,6 @@ allHold (c ∷ cs) = holds c && allHold cs
 
 pub cases-hold : T (allHold cases)
 unfolding slotSaid forwardSaid rowSound tailSound isSound nextRun chosenRow comingSlot oneSlot workOn forwardOver freshOf checkNumber fresh
-    padded tableOf workSlots refusalNumber isOrder checkOrder checkBoth isReady chosen isOver brought serve slot closeLate runSlot rowOk tailOk promiseOk checkTable
+    padded tableOf workSlots refusalNumber isArrangement isOrder checkOrder checkBoth isPending isWaiting isReady chosen isOver brought serve slot closeLate runSlot rowOk
+    tailOk promiseOk checkWait checkTable
 cases-hold = tt

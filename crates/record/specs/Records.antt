@@ -50,8 +50,8 @@ rowSound r i =
 unfoldable pub tailSound : Run → Bool
 tailSound r = allZero (drop (r .table .n) (r .got)) && allZero (drop (r .table .n) (r .used)) && allZero (drop (r .table .n) (r .closing))
 
--- Check 9 lets the record through (rule 8.3): its table and order pass 3, 4, 11, 5, 12 and 6 (rule 8.4), its clock is at most 2,000,000 slots
--- (rule 8.5), the figures of each row are sound (rules 8.6, 8.7), and zeros stand behind them (rule 8.8).
+-- Check 9 lets the record through (rule 8.3): its table and order pass 3, 4, 11, 5, 12, 13 to 15 and 6 (rule 8.4), its clock is at most
+-- 2,000,000 slots (rule 8.5), the figures of each row are sound (rules 8.6, 8.7), and zeros stand behind them (rule 8.8).
 unfoldable pub isSound : Run → Bool
 isSound r =
     passed (checkBoth (r .table) (r .order))

@@ -3,22 +3,23 @@ use Prim.Native.Nat.{ℕ, _≤_}
 use mathlib.Core.Bool.{Bool, true, _&&_}
 use mathlib.Core.Path.{_≡_, refl, sym, _∙_}
 use native.Mathlib.Omega.{arith}
-use lib.Dec.{eqb, ltb, leb}
-use borrow.Author.Tests.{leb-true, le-leb, ltb-true, eqb-true}
+use lib.Dec.{leb}
+use borrow.Author.Tests.{leb-true, le-leb}
 use Rattle.rules.specs.declared.Check.the-variants.{Passed}
 use Rattle.rules.specs.Calls.{lastClock}
-use Rattle.rules.specs.Lists.{all}
-use Rattle.rules.specs.Rows.{at, isRow, rowsOf, releaseOf, workOf}
+use Rattle.rules.specs.Lists.{all, first}
+use Rattle.rules.specs.Rows.{at, rowsOf, workOf}
 use Rattle.rules.specs.Tables.{passed}
 use Rattle.rules.specs.Orders.{checkBoth}
-use Rattle.rules.specs.Slots.{isReady, chosen, isOver}
+use Rattle.rules.specs.Slots.{isPending, isOver}
 use Rattle.record.specs.declared.Run.{Run}
 use Rattle.record.specs.Records.{stateOf, rowSound, tailSound, isSound, chosenRow}
 use Rattle.theory.specs.Tests.{and-left, and-right}
 use Rattle.columns.specs.AllRows.{all-each, all-of}
-use Rattle.theory.specs.Counts.{first-passes}
-use Rattle.theory.specs.Facts.{TableFacts}
-use Rattle.columns.specs.Figures.{over, soundAt, rowSoundAt, sound-facts}
+use Rattle.theory.specs.Cells.{chosen-ready}
+use Rattle.theory.specs.Facts.{TableFacts, both-order}
+use Rattle.theory.specs.Waiting.{chosen-pending}
+use Rattle.columns.specs.Figures.{over, soundAt, rowSoundAt, pendingAt, sound-facts}
 use Rattle.columns.specs.Places.{Placed}
 use Rattle.record.specs.Checked.{passed-true, limits, places}
 
@@ -81,17 +82,18 @@ pub record Runs (r : Run) (i : ℕ) : Type 0 where
   pub still : at (r .closing) i ≡ 0
 
 pub runs : (r : Run) → (chosenRow r ≡ 0 → ⊥) → Runs r (chosenRow r)
-unfolding chosenRow chosen isReady
+unfolding chosenRow
 runs r h =
-    let t = r .table in
-    let i = chosenRow r in
-    let e : isRow t i && leb (releaseOf t i) (r .clock) && eqb (at (r .closing) i) 0 ≡ true = first-passes (isReady t (stateOf r)) (r .order) h in
-    let f = and-left (isRow t i) (leb (releaseOf t i) (r .clock)) (and-left (isRow t i && leb (releaseOf t i) (r .clock)) (eqb (at (r .closing) i) 0) e) in
-    record {
-      low = ltb-true 0 i (and-left (ltb 0 i) (leb i (t .n)) f);
-      high = leb-true i (t .n) (and-right (ltb 0 i) (leb i (t .n)) f);
-      still = eqb-true (at (r .closing) i) 0 (and-right (isRow t i && leb (releaseOf t i) (r .clock)) (eqb (at (r .closing) i) 0) e);
-    }
+    let f = chosen-ready (r .table) (r .order) (stateOf r) (chosenRow r) (omega arith) refl in
+    record { low = f .row .from; high = f .row .upTo; still = f .still }
+
+-- It is the first from the top of the order that is released and open: the order of a sound record passes check 6, so that such a row never waits
+-- (rule 21.2). So the code need not ask what a row follows.
+pub chosen-first : (r : Run) → isSound r ≡ true → chosenRow r ≡ first (pendingAt (r .table .n) (r .clock) (r .table .release) (r .closing)) (r .order)
+unfolding chosenRow isPending
+chosen-first r e =
+    let c = sound-so r e .checked in
+    chosen-pending (r .table) (limits (r .table) (r .order) c) (r .order) (both-order (r .table) (r .order) c) (stateOf r)
 
 -- what the code needs of that row: it stands in the columns, has got its work at most, and its slots used are at most the clock
 pub record Serving (r : Run) (i : ℕ) : Type 0 where

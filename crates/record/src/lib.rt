@@ -149,6 +149,7 @@ fn zero_table() -> Table
         deadline: zeros,
         level: zeros,
         promised: zeros,
+        follows: zeros,
     }
 }
 

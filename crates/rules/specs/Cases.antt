@@ -1,7 +1,7 @@
 -- The starred cases P1 to P8 (rules 13.1 to 13.8) and tables at the limits (rule 13.9) as one table, computed from the definitions and
 -- checked by one theorem, with cases of our own beside them: on the planner's choice, the judge, checks 3 to 6, calls on paper, and parts of
 -- definitions. Here no job loads; LoadingCases has tables in which jobs do. Each of the faults 14.1 to 14.5 of the rules meets one here, and
--- each from 14.6 on one there, in SpeedCases, in LateCases, in PromiseCases or in record/specs/RecordCases; not every change of a definition does.
+-- each from 14.6 on one there, in SpeedCases, in LateCases, in PromiseCases, in WaitCases or in record/specs/RecordCases; not every change of a definition does.
 use Prim.Native.Nat.{ℕ, suc, _+_, _-_, _≤_, _<_}
 use mathlib.Core.Bool.{Bool, true, false, not, _&&_}
 use mathlib.Core.List.{List, [], _∷_, _++_, map}
@@ -17,21 +17,29 @@ use Rattle.rules.specs.declared.Refusal.the-variants.{ClockOver, Unsound
 use Rattle.rules.specs.declared.Check.the-variants.{Passed}
 use Rattle.rules.specs.Calls.{Call, one, forward, Said, tellOne, tellForward, tellAll, allSupplies, supplyAt}
 use Rattle.rules.specs.Correct.{earliest, Window}
-use Rattle.rules.specs.Choice.{planOf, padded, lowest, passes, sequence, choice, fill, taker, word}
+use Rattle.rules.specs.Choice.{planOf, padded, lowest, unfollowed, passes, sequence, choice, fill, taker, word}
 use Rattle.rules.specs.Judge.{column, tableOf, judgeOf, tightest}
 use Rattle.rules.specs.Lists.{rowsTo, all, allZero, same, first, count, erase, keep}
 use Rattle.rules.specs.Need.{workSlots, need}
 use Rattle.rules.specs.Numbers.{refusalNumber, checkNumber, plannedNumber, rowsLeft, verdictNumber, verdictYes, verdictRow, verdictSlack}
-use Rattle.rules.specs.Orders.{isOrder, checkOrder, checkBoth}
+use Rattle.rules.specs.Orders.{isArrangement, isOrder, checkOrder, checkBoth}
 use Rattle.rules.specs.Rows.{at, isRow, rowsOf, workOf, deadlineOf, isLow, isHigh}
 use Rattle.rules.specs.Running.{closeLate, runSlot}
-use Rattle.rules.specs.Slots.{State, fresh, isReady, chosen, isOver, brought, serve, slot, after}
-use Rattle.rules.specs.Tables.{rowOk, tailOk, promiseOk, checkTable, Accepted, passed}
+use Rattle.rules.specs.Slots.{State, fresh, isPending, isWaiting, isReady, chosen, isOver, brought, serve, slot, after}
+use Rattle.rules.specs.Tables.{rowOk, tailOk, promiseOk, checkWait, checkTable, Accepted, passed}
 use Rattle.rules.specs.Worst.{horizon, worstFinish, promisedMoment, slack, meets}
 
--- a row: release and deadline in slots, work in work units, level, and the promised part in work units
+-- a row: release and deadline in slots, work in work units, level, the promised part in work units, and the row that it follows
+abbrev pub sixFigures : ℕ → ℕ → ℕ → ℕ → ℕ → ℕ → Row
+sixFigures a c d level r w = record { release = a; work = c; deadline = d; level = level; promised = r; follows = w }
+
+-- a row that follows none
 abbrev pub promising : ℕ → ℕ → ℕ → ℕ → ℕ → Row
-promising a c d level r = record { release = a; work = c; deadline = d; level = level; promised = r }
+promising a c d level r = sixFigures a c d level r 0
+
+-- a row that follows row w, and is promised nothing
+abbrev pub following : ℕ → ℕ → ℕ → ℕ → ℕ → Row
+following a c d level w = sixFigures a c d level 0 w
 
 -- a row that is promised nothing
 abbrev pub job : ℕ → ℕ → ℕ → ℕ → Row
@@ -245,7 +253,7 @@ alone row normal degraded = plain (row ∷ []) normal degraded
 abbrev followed : List Row → Table
 followed others =
     let t = plain (job 0 1 1 0 ∷ others) 2 1 in
-    record { n = 1; normal = t .normal; degraded = t .degraded; loading = 0; release = t .release; work = t .work; deadline = t .deadline; level = t .level; promised = t .promised }
+    record { n = 1; normal = t .normal; degraded = t .degraded; loading = 0; release = t .release; work = t .work; deadline = t .deadline; level = t .level; promised = t .promised; follows = t .follows }
 
 abbrev many : ℕ → Table
 many n = plain (replicate n (job 0 1 1 0)) 2 1
@@ -389,7 +397,7 @@ allHold [] = true
 allHold (c ∷ cs) = holds c && allHold cs
 
 pub cases-hold : T (allHold (starred ++ choices ++ judgements ++ checks ++ runs ++ parts))
-unfolding planOf padded passes sequence choice fill taker word tableOf judgeOf tightest workSlots refusalNumber checkNumber plannedNumber rowsLeft verdictNumber verdictYes verdictRow verdictSlack isOrder checkOrder checkBoth fresh isReady chosen isOver brought serve slot rowOk tailOk promiseOk checkTable horizon worstFinish promisedMoment slack meets tellOne tellForward tellAll closeLate runSlot allSupplies supplyAt earliest
+unfolding planOf padded unfollowed passes sequence choice fill taker word tableOf judgeOf tightest workSlots refusalNumber checkNumber plannedNumber rowsLeft verdictNumber verdictYes verdictRow verdictSlack isArrangement isOrder checkOrder checkBoth fresh isPending isWaiting isReady chosen isOver brought serve slot rowOk tailOk promiseOk checkWait checkTable horizon worstFinish promisedMoment slack meets tellOne tellForward tellAll closeLate runSlot allSupplies supplyAt earliest
 cases-hold = tt
 
 -- an accepted table is one that the checks of a table pass, and no other (rule 5.5)

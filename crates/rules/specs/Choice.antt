@@ -1,6 +1,6 @@
 -- The planner's choice: the lowest place is filled first (rule 4.1).
 use Prim.Native.Nat.{ℕ, zero, suc, _-_, _^_}
-use mathlib.Core.Bool.{Bool, cond}
+use mathlib.Core.Bool.{Bool, cond, not}
 use mathlib.Core.List.{List, [], _∷_, _++_}
 use lib.Dec.{eqb, ltb}
 use lib.ListN.{length, take, replicate}
@@ -9,8 +9,8 @@ use Rattle.rules.specs.declared.Check.{Check}
 use Rattle.rules.specs.declared.Check.the-variants as Checks
 use Rattle.rules.specs.declared.Planned.the-variants.{Ordered, NoOrder, Refused}
 use Rattle.rules.specs.declared.Planning.{Planning}
-use Rattle.rules.specs.Lists.{first, keep, erase, sum}
-use Rattle.rules.specs.Rows.{rowsOf, deadlineOf, isLow, isHigh}
+use Rattle.rules.specs.Lists.{all, first, keep, erase, sum}
+use Rattle.rules.specs.Rows.{rowsOf, deadlineOf, followsOf, isLow, isHigh}
 use Rattle.rules.specs.Tables.{checkTable}
 use Rattle.rules.specs.Worst.{meets}
 
@@ -36,13 +36,17 @@ lowest left i = erase i left ++ (i ∷ [])
 unfoldable pub passes : Table → List ℕ → ℕ → Bool
 passes t left i = meets t (lowest left i) i
 
--- The rows tried at a place, in their sequence: all rows left, none passed over (rule 4.2). It stands as a name of its own although
--- it is just `left`, because trying fewer rows is the best known fault of such a planner (rule 14.1, and rule 4.7 on where it comes
+-- none of the rows left follows row i (rule 4.11)
+unfoldable pub unfollowed : Table → List ℕ → ℕ → Bool
+unfollowed t left i = all (λ j. not (eqb (followsOf t j) i)) left
+
+-- The rows tried at a place, in their sequence: all rows left but those that a row left follows (rules 4.2, 4.11), and none else passed over. It
+-- stands as a name of its own because trying fewer rows is the best known fault of such a planner (rule 14.1, and rule 4.7 on where it comes
 -- from): the must-fail edit two_latest changes this one line, and the cases' theorem refuses it by P1.
 abbrev pub tried : Table → List ℕ → List ℕ
-tried t left = left
+tried t left = keep (unfollowed t left) left
 
--- the first of them that passes, which gets the place; 0 where every row fails (rules 4.5, 4.6)
+-- the first of them that passes, which gets the place; 0 where every one of them fails (rules 4.5, 4.6)
 unfoldable pub taker : Table → List ℕ → ℕ
 taker t left = first (passes t left) (tried t left)
 
@@ -51,7 +55,7 @@ pub record Choice : Type 0 where
   pub placed : List ℕ
   pub left : List ℕ
 
--- k places more are filled, each above those before it, until every row left fails (rules 4.1, 4.5, 4.6)
+-- k places more are filled, each above those before it, until every row that is tried fails (rules 4.1, 4.5, 4.6, 4.11)
 unfoldable pub fill : Table → ℕ → List ℕ → List ℕ → Choice
 fill t zero left placed = record { placed = placed; left = left }
 fill t (suc k) left placed =
@@ -78,11 +82,11 @@ planFrom c =
     (record { answer = Ordered; order = padded (c .placed) })
     (record { answer = NoOrder (word (c .left)); order = replicate 64 0 })
 
--- a refused table has an order of zeros (rules 10.3 to 10.5, 10.11, 10.12)
+-- a refused table has an order of zeros (rules 10.3 to 10.5, 10.11 to 10.15)
 abbrev pub planChecked : Check → Table → Planning
 planChecked Checks.Passed t = planFrom (choice t)
 planChecked (Checks.Refused r) t = record { answer = Refused r; order = replicate 64 0 }
 
--- the planner's answer for any table: checks 3, 4, 11, 5, 12, then the choice (rule 11.3)
+-- the planner's answer for any table: checks 3, 4, 11, 5, 12, 13 to 15, then the choice (rule 11.3)
 unfoldable pub planOf : Table → Planning
 planOf t = planChecked (checkTable t) t

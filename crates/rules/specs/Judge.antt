@@ -34,7 +34,7 @@ abbrev pub judgeChecked : Check → Table → List ℕ → Verdict
 judgeChecked Checks.Passed t o = verdictAt t o (tightest t o)
 judgeChecked (Checks.Refused r) t o = Refused r
 
--- the judge's answer for any table and any sixty-four numbers: checks 3, 4, 11, 5, 12, 6, then the verdict (rules 7.1, 11.4)
+-- the judge's answer for any table and any sixty-four numbers: checks 3, 4, 11, 5, 12, 13 to 15, 6, then the verdict (rules 7.1, 11.4)
 unfoldable pub judgeOf : Table → List ℕ → Verdict
 judgeOf t o = judgeChecked (checkBoth t o) t o
 
@@ -55,4 +55,5 @@ tableOf rows normal degraded loading =
       deadline = column (λ r. r .deadline) rows;
       level = column (λ r. r .level) rows;
       promised = column (λ r. r .promised) rows;
+      follows = column (λ r. r .follows) rows;
     }

@@ -22,5 +22,6 @@ pub mod Cases
 pub mod LoadingCases
 pub mod SpeedCases
 pub mod PromiseCases
+pub mod WaitCases
 pub mod LateCases
 pub mod TextCases

@@ -9,15 +9,15 @@ use lib.ListN.{replicate}
 use Rattle.rules.specs.declared.Table.{Table}
 use Rattle.rules.specs.Calls.{one, forward, tellOne, tellForward, tellAll}
 use Rattle.rules.specs.Cases.{Case, planned, stopped, fails, ran, judged, accepted, refused, ordered, told, gives, lists, yes, job, end, starred, allHold}
-use Rattle.rules.specs.Choice.{planOf, padded, passes, sequence, choice, fill, taker, word}
+use Rattle.rules.specs.Choice.{planOf, padded, unfollowed, passes, sequence, choice, fill, taker, word}
 use Rattle.rules.specs.Judge.{tableOf, judgeOf, tightest}
 use Rattle.rules.specs.Need.{workSlots}
 use Rattle.rules.specs.Numbers.{refusalNumber, checkNumber, plannedNumber, rowsLeft, verdictNumber, verdictYes, verdictRow, verdictSlack}
-use Rattle.rules.specs.Orders.{isOrder, checkOrder, checkBoth}
+use Rattle.rules.specs.Orders.{isArrangement, isOrder, checkOrder, checkBoth}
 use Rattle.rules.specs.Rows.{needOf, needFor, rowsOf}
 use Rattle.rules.specs.Running.{closeLate, runSlot}
-use Rattle.rules.specs.Slots.{fresh, isReady, chosen, allowance, isOver, brought, serve, slot, after}
-use Rattle.rules.specs.Tables.{rowOk, tailOk, promiseOk, checkTable}
+use Rattle.rules.specs.Slots.{fresh, isPending, isWaiting, isReady, chosen, allowance, isOver, brought, serve, slot}
+use Rattle.rules.specs.Tables.{rowOk, tailOk, promiseOk, checkWait, checkTable}
 use Rattle.rules.specs.Worst.{horizon, worstFinish, promisedMoment, slack, meets}
 
 -- A LO row of two working slots that a HI row, released at a, preempts. Each loads for 2 slots.
@@ -54,6 +54,7 @@ followed k =
       deadline = t .deadline;
       level = t .level;
       promised = t .promised;
+      follows = t .follows;
     }
 
 -- P1 with later deadlines
@@ -141,5 +142,5 @@ checks =
     ∷ []
 
 pub loading-cases-hold : T (allHold (starred ++ runs ++ times ++ verdicts ++ checks))
-unfolding planOf padded passes sequence choice fill taker word tableOf judgeOf tightest workSlots refusalNumber checkNumber plannedNumber rowsLeft verdictNumber verdictYes verdictRow verdictSlack isOrder checkOrder checkBoth fresh isReady chosen isOver brought serve slot rowOk tailOk promiseOk checkTable horizon worstFinish promisedMoment slack meets tellOne tellForward tellAll closeLate runSlot
+unfolding planOf padded unfollowed passes sequence choice fill taker word tableOf judgeOf tightest workSlots refusalNumber checkNumber plannedNumber rowsLeft verdictNumber verdictYes verdictRow verdictSlack isArrangement isOrder checkOrder checkBoth fresh isPending isWaiting isReady chosen isOver brought serve slot rowOk tailOk promiseOk checkWait checkTable horizon worstFinish promisedMoment slack meets tellOne tellForward tellAll closeLate runSlot
 loading-cases-hold = tt

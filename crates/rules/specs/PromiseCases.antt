@@ -10,16 +10,16 @@ use Rattle.rules.specs.declared.Table.{Table}
 use Rattle.rules.specs.declared.Sought.the-variants.{Degraded, Normal}
 use Rattle.rules.specs.Calls.{forward, tellOne, tellForward, tellAll}
 use Rattle.rules.specs.Cases.{Case, planned, stopped, fails, ran, judged, accepted, refused, ordered, told, gives, lists, yes, promising, job, end, allHold}
-use Rattle.rules.specs.Choice.{planOf, padded, passes, sequence, choice, fill, taker, word}
+use Rattle.rules.specs.Choice.{planOf, padded, unfollowed, passes, sequence, choice, fill, taker, word}
 use Rattle.rules.specs.Judge.{tableOf, judgeOf, tightest}
 use Rattle.rules.specs.Need.{workSlots}
 use Rattle.rules.specs.Numbers.{refusalNumber, checkNumber, plannedNumber, rowsLeft, searchedNumber, searchedSpeed, verdictNumber, verdictYes, verdictRow, verdictSlack}
-use Rattle.rules.specs.Orders.{isOrder, checkOrder, checkBoth}
+use Rattle.rules.specs.Orders.{isArrangement, isOrder, checkOrder, checkBoth}
 use Rattle.rules.specs.Running.{closeLate, runSlot}
-use Rattle.rules.specs.Slots.{fresh, isReady, chosen, allowance, isOver, brought, serve, slot}
+use Rattle.rules.specs.Slots.{fresh, isPending, isWaiting, isReady, chosen, allowance, isOver, brought, serve, slot}
 use Rattle.rules.specs.Speeds.{makesOrder, leastSpeed, searchOf}
 use Rattle.rules.specs.SpeedCases.{found, nothing}
-use Rattle.rules.specs.Tables.{rowOk, tailOk, promiseOk, checkTable}
+use Rattle.rules.specs.Tables.{rowOk, tailOk, promiseOk, checkWait, checkTable}
 use Rattle.rules.specs.Worst.{horizon, worstFinish, promisedMoment, slack, meets}
 
 -- one LO row of 10 work units, done in a slot at N, with this deadline in slots and r of it promised
@@ -158,10 +158,11 @@ checks =
       deadline = padded (1 ∷ []);
       level = padded (0 ∷ []);
       promised = padded (2 ∷ 1 ∷ []);
+      follows = padded [];
     }) 5
     ∷ ordered (above 10) (2 ∷ 1 ∷ [])
     ∷ []
 
 pub promise-cases-hold : T (allHold (verdicts ++ times ++ runs ++ searches ++ checks))
-unfolding planOf padded passes sequence choice fill taker word tableOf judgeOf tightest workSlots refusalNumber checkNumber plannedNumber rowsLeft searchedNumber searchedSpeed verdictNumber verdictYes verdictRow verdictSlack isOrder checkOrder checkBoth fresh isReady chosen isOver brought serve slot rowOk tailOk promiseOk checkTable horizon worstFinish promisedMoment slack meets makesOrder leastSpeed searchOf tellOne tellForward tellAll closeLate runSlot
+unfolding planOf padded unfollowed passes sequence choice fill taker word tableOf judgeOf tightest workSlots refusalNumber checkNumber plannedNumber rowsLeft searchedNumber searchedSpeed verdictNumber verdictYes verdictRow verdictSlack isArrangement isOrder checkOrder checkBoth fresh isPending isWaiting isReady chosen isOver brought serve slot rowOk tailOk promiseOk checkWait checkTable horizon worstFinish promisedMoment slack meets makesOrder leastSpeed searchOf tellOne tellForward tellAll closeLate runSlot
 promise-cases-hold = tt

@@ -11,8 +11,9 @@ use Rattle.rules.specs.declared.Check.{Check}
 use Rattle.rules.specs.Fields.{weights, digitAt}
 use Rattle.rules.specs.Lent.{checkRoom, WrittenBack, writeChecked}
 use Rattle.rules.specs.Lists.{rowsTo, sum, joined}
-use Rattle.rules.specs.Orders.{andThen, checkBoth}
+use Rattle.rules.specs.Orders.{checkBoth}
 use Rattle.rules.specs.Rows.{at, rowsOf, needOf}
+use Rattle.rules.specs.Tables.{andThen}
 use Rattle.rules.specs.Worst.{worstFinish, slack}
 
 -- what a digit counts for at each of the ten columns of a figure, from the left: two columns, then the eight of a field (rule 16.1)

@@ -1,4 +1,4 @@
--- A table's rows and their figures (rules 1.1 to 1.3), with their needs (rules 1.8, 1.10).
+-- A table's rows and their figures (rules 1.1 to 1.3, 1.12), with their needs (rules 1.8, 1.10).
 use Prim.Native.Nat.{ℕ, _-_}
 use mathlib.Core.Bool.{Bool, not, _&&_}
 use mathlib.Core.List.{List}
@@ -39,6 +39,14 @@ deadlineOf t i = at (t .deadline) i
 -- the promised part r, in work units (rule 1.11)
 abbrev pub promisedOf : Table → ℕ → ℕ
 promisedOf t i = at (t .promised) i
+
+-- w, the row that row i follows, 0 if it follows none (rule 1.12)
+abbrev pub followsOf : Table → ℕ → ℕ
+followsOf t i = at (t .follows) i
+
+-- row i follows a row (rule 1.12)
+abbrev pub isFollower : Table → ℕ → Bool
+isFollower t i = ltb 0 (followsOf t i)
 
 -- the need at s work units per slot, in slots, whatever the row's level (rules 1.8, 1.10)
 abbrev pub needFor : Table → ℕ → ℕ → ℕ

@@ -1,4 +1,4 @@
--- The sheet: a first line of 33 bytes with n, N, G and K, a line of 41 bytes for each row, and no byte more (rules 6.4 to 6.7); what the reader
+-- The sheet: a first line of 33 bytes with n, N, G and K, a line of 49 bytes for each row, and no byte more (rules 6.4 to 6.7); what the reader
 -- makes of any bytes (rule 6.8), and what the writer makes of any table and any bytes that it is lent (section 15 of the rules).
 use Prim.Native.Nat.{ℕ, _+_, _-_, _*_}
 use mathlib.Core.Bool.{Bool, cond, _&&_}
@@ -13,9 +13,8 @@ use Rattle.rules.specs.declared.Reading.{Reading}
 use Rattle.rules.specs.Fields.{valueOf, isField, fieldAt, line}
 use Rattle.rules.specs.Lent.{checkRoom, WrittenBack, writeChecked}
 use Rattle.rules.specs.Lists.{all, rowsTo, joined}
-use Rattle.rules.specs.Orders.{andThen}
-use Rattle.rules.specs.Rows.{at, rowsOf, releaseOf, workOf, deadlineOf, promisedOf}
-use Rattle.rules.specs.Tables.{countOk, checkTable, zeroTable}
+use Rattle.rules.specs.Rows.{at, rowsOf, releaseOf, workOf, deadlineOf, promisedOf, followsOf}
+use Rattle.rules.specs.Tables.{countOk, andThen, checkTable, zeroTable}
 
 -- k fields and a line end are well formed from byte start on (rules 6.1, 6.4)
 unfoldable pub isLine : List ℕ → ℕ → ℕ → Bool
@@ -27,7 +26,7 @@ numberAt bytes start j = valueOf (fieldAt bytes (start + 8 * (j - 1)))
 
 -- the byte at which row i's line starts (rules 6.5, 6.6)
 abbrev pub lineOf : ℕ → ℕ
-lineOf i = 33 + 41 * (i - 1)
+lineOf i = 33 + 49 * (i - 1)
 
 -- the j-th figures of the first n rows, zeros after (rules 6.6, 6.8)
 unfoldable pub columnOf : List ℕ → ℕ → ℕ → List ℕ
@@ -47,18 +46,19 @@ tableIn bytes =
       deadline = columnOf bytes n 3;
       level = columnOf bytes n 4;
       promised = columnOf bytes n 5;
+      follows = columnOf bytes n 6;
     }
 
 -- the reader's checks: too short (1), first line (2), row count (3), length (1), row lines (2), then those of the table, of which
--- 4, 11, 5 and 12 are left (rules 6.7, 11.2)
+-- 4, 11, 5, 12 and 13 to 15 are left (rules 6.7, 11.2)
 unfoldable pub checkSheet : List ℕ → Check
 checkSheet bytes =
     cond (ltb (length bytes) 33)
     (Refused Length)
     (cond (isLine bytes 0 4)
     (cond (countOk (numberAt bytes 0 1))
-    (cond (eqb (length bytes) (33 + 41 * numberAt bytes 0 1))
-    (cond (all (λ i. isLine bytes (lineOf i) 5) (rowsTo (numberAt bytes 0 1))) (checkTable (tableIn bytes)) (Refused Malformed))
+    (cond (eqb (length bytes) (33 + 49 * numberAt bytes 0 1))
+    (cond (all (λ i. isLine bytes (lineOf i) 6) (rowsTo (numberAt bytes 0 1))) (checkTable (tableIn bytes)) (Refused Malformed))
     (Refused Length))
     (Refused RowCount))
     (Refused Malformed))
@@ -72,9 +72,9 @@ readChecked (Refused r) t = record { check = Refused r; table = zeroTable }
 unfoldable pub readOf : List ℕ → Reading
 readOf bytes = readChecked (checkSheet bytes) (tableIn bytes)
 
--- row i's line: its release and its work, its deadline, its level and its promised part (rules 6.6, 15.1)
+-- row i's line: its release and its work, its deadline, its level, its promised part and the row that it follows (rules 6.6, 15.1)
 unfoldable pub rowLine : Table → ℕ → List ℕ
-rowLine t i = line (releaseOf t i ∷ workOf t i ∷ deadlineOf t i ∷ at (t .level) i ∷ promisedOf t i ∷ [])
+rowLine t i = line (releaseOf t i ∷ workOf t i ∷ deadlineOf t i ∷ at (t .level) i ∷ promisedOf t i ∷ followsOf t i ∷ [])
 
 -- the sheet of a table: the line of n, N, G and K, then the lines of its rows (rules 6.5, 6.6, 15.1)
 unfoldable pub sheetOf : Table → List ℕ

@@ -1,12 +1,12 @@
 -- What a slot does (section 2 of the rules): the planning rule (rule 19.1), slot by slot. At clock t the coming slot is slot t (rule 1.4).
 use Prim.Native.Nat.{ℕ, zero, suc, _+_, max, min}
-use mathlib.Core.Bool.{Bool, cond, _&&_, _||_}
+use mathlib.Core.Bool.{Bool, cond, not, _&&_, _||_}
 use mathlib.Core.List.{List}
 use lib.Dec.{eqb, ltb, leb}
 use lib.ListN.{replicate}
 use Rattle.rules.specs.declared.Table.{Table}
 use Rattle.rules.specs.Lists.{first}
-use Rattle.rules.specs.Rows.{at, put, isRow, releaseOf, workOf, needOf, promiseNeed, isLow}
+use Rattle.rules.specs.Rows.{at, put, isRow, releaseOf, workOf, followsOf, isFollower, needOf, promiseNeed, isLow}
 
 -- the clock in slots; for each row the work units got, the slots used and the closing slot, 0 while open (rules 2.10, 2.13)
 pub record State : Type 0 where
@@ -19,9 +19,17 @@ pub record State : Type 0 where
 unfoldable pub fresh : State
 fresh = record { clock = 0; got = replicate 64 0; used = replicate 64 0; closing = replicate 64 0 }
 
--- row i is ready: it is a row of the table, released, and open (rules 1.5, 2.2)
+-- row i is a row of the table, released, and open (rules 1.5, 2.2)
+unfoldable pub isPending : Table → State → ℕ → Bool
+isPending t s i = isRow t i && leb (releaseOf t i) (s .clock) && eqb (at (s .closing) i) 0
+
+-- row i, while it is open itself, waits: the row that it follows is open. A row that was dropped is as closed as one that is done (rules 2.10, 2.15).
+unfoldable pub isWaiting : Table → State → ℕ → Bool
+isWaiting t s i = isFollower t i && eqb (at (s .closing) (followsOf t i)) 0
+
+-- row i is ready: it is released and open, and does not wait (rules 2.2, 2.15)
 unfoldable pub isReady : Table → State → ℕ → Bool
-isReady t s i = isRow t i && leb (releaseOf t i) (s .clock) && eqb (at (s .closing) i) 0
+isReady t s i = isPending t s i && not (isWaiting t s i)
 
 -- The row that the coming slot runs: the first ready one from the top of the order, 0 for an idle slot (rule 2.3).
 -- No supply is among the arguments, so that the choice cannot depend on one (rule 2.4).

@@ -2,27 +2,26 @@
 -- range speed by speed, as rule 18.3 says it.
 use Prim.Native.Nat.{ℕ}
 use mathlib.Core.Bool.{true, false}
-use mathlib.Core.List.{List, [], _∷_, _++_, map}
+use mathlib.Core.List.{List, [], _∷_, _++_}
 use lib.Dec.{T}
 use lib.IntN.{pos, negsuc}
 use lib.ListN.{take}
-use Rattle.rules.specs.declared.Row.{Row}
 use Rattle.rules.specs.declared.Table.{Table}
 use Rattle.rules.specs.declared.Sought.{Sought}
 use Rattle.rules.specs.declared.Sought.the-variants.{Degraded, Normal}
 use Rattle.rules.specs.declared.Searching.{Searching}
 use Rattle.rules.specs.Cases.{Case, planned, stopped, judged, lists, promising, job, allHold}
-use Rattle.rules.specs.Choice.{planOf, padded, passes, sequence, choice, fill, taker, word}
+use Rattle.rules.specs.Choice.{planOf, padded, unfollowed, passes, sequence, choice, fill, taker, word}
 use Rattle.rules.specs.Fields.{digitAt, written, digitOf, valueOf, isField}
 use Rattle.rules.specs.Judge.{tableOf, judgeOf, tightest}
 use Rattle.rules.specs.Lists.{rowsTo}
 use Rattle.rules.specs.Need.{workSlots}
 use Rattle.rules.specs.Numbers.{refusalNumber, checkNumber, plannedNumber, rowsLeft, searchedNumber, searchedSpeed, verdictNumber, verdictYes, verdictRow, verdictSlack}
-use Rattle.rules.specs.Orders.{isOrder, checkOrder, checkBoth}
+use Rattle.rules.specs.Orders.{isArrangement, isOrder, checkOrder, checkBoth}
 use Rattle.rules.specs.Sheets.{isLine, numberAt, columnOf, tableIn, checkSheet, readOf, rowLine, sheetOf}
-use Rattle.rules.specs.Slots.{fresh, isReady, chosen, isOver, brought, serve, slot, after}
+use Rattle.rules.specs.Slots.{fresh, isPending, isWaiting, isReady, chosen, isOver, brought, serve, slot}
 use Rattle.rules.specs.Speeds.{atSpeed, speedsOf, makesOrder, leastSpeed, searchOf, searchSheet}
-use Rattle.rules.specs.Tables.{rowOk, tailOk, promiseOk, checkTable}
+use Rattle.rules.specs.Tables.{rowOk, tailOk, promiseOk, checkWait, checkTable}
 use Rattle.rules.specs.Worst.{horizon, worstFinish, promisedMoment, slack, meets}
 
 -- a search's whole answer: its number, the speed in work units per slot, the order
@@ -118,9 +117,9 @@ sheets =
     ∷ read Normal (sheetOf (p1 8 2)) 0 5 (1 ∷ 2 ∷ 3 ∷ 4 ∷ [])
     ∷ read Degraded (sheetOf (alone 4 1 0 3 1)) 7 0 []
     ∷ read Degraded [] 1 0 []
-    ∷ read Degraded (take 73 (sheetOf (alone 4 4 1 3 3))) 1 0 []
+    ∷ read Degraded (take 81 (sheetOf (alone 4 4 1 3 3))) 1 0 []
     ∷ read Normal (sheetOf (alone 4 4 1 3 3) ++ (10 ∷ [])) 1 0 []
-    ∷ read Normal (take 32 (sheetOf (alone 4 4 1 3 3)) ++ rowsTo 42) 2 0 []
+    ∷ read Normal (take 32 (sheetOf (alone 4 4 1 3 3)) ++ rowsTo 50) 2 0 []
     ∷ read Degraded (sheetOf (tableOf [] 2 1 0)) 3 0 []
     ∷ read Degraded (sheetOf (alone 4 4 1 3 4)) 4 0 []
     ∷ read Normal (sheetOf (tableOf (job 4 1 4 0 ∷ []) 2 1 17)) 11 0 []
@@ -129,5 +128,5 @@ sheets =
     ∷ []
 
 pub speed-cases-hold : T (allHold (degraded ++ normal ++ refusals ++ sheets))
-unfolding planOf padded passes sequence choice fill taker word tableOf judgeOf tightest workSlots refusalNumber checkNumber plannedNumber rowsLeft searchedNumber searchedSpeed verdictNumber verdictYes verdictRow verdictSlack isOrder checkOrder checkBoth fresh isReady chosen isOver brought serve slot rowOk tailOk promiseOk checkTable horizon worstFinish promisedMoment slack meets makesOrder leastSpeed searchOf searchSheet digitAt written digitOf valueOf isField isLine numberAt columnOf tableIn checkSheet readOf rowLine sheetOf
+unfolding planOf padded unfollowed passes sequence choice fill taker word tableOf judgeOf tightest workSlots refusalNumber checkNumber plannedNumber rowsLeft searchedNumber searchedSpeed verdictNumber verdictYes verdictRow verdictSlack isArrangement isOrder checkOrder checkBoth fresh isPending isWaiting isReady chosen isOver brought serve slot rowOk tailOk promiseOk checkWait checkTable horizon worstFinish promisedMoment slack meets makesOrder leastSpeed searchOf searchSheet digitAt written digitOf valueOf isField isLine numberAt columnOf tableIn checkSheet readOf rowLine sheetOf
 speed-cases-hold = tt

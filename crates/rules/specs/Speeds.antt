@@ -32,6 +32,7 @@ withSpeeds t normal degraded =
       deadline = t .deadline;
       level = t .level;
       promised = t .promised;
+      follows = t .follows;
     }
 
 -- the table with s work units per slot as the speed sought, whatever it states there itself (rule 18.1)
@@ -92,7 +93,7 @@ abbrev pub searchChecked : Check → Sought → Table → Searching
 searchChecked Checks.Passed f t = searchedAt f t (leastSpeed f t)
 searchChecked (Checks.Refused r) f t = searchRefused r
 
--- the search's answer for any table: checks 3, 4, 11, 5, 12, then the range (rules 11.8, 18.4 to 18.6)
+-- the search's answer for any table: checks 3, 4, 11, 5, 12, 13 to 15, then the range (rules 11.8, 18.4 to 18.6)
 unfoldable pub searchOf : Sought → Table → Searching
 searchOf f t = searchChecked (checkTable t) f t
 

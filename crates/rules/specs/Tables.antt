@@ -1,15 +1,16 @@
--- Which tables are accepted: checks 3, 4, 11, 5 and 12, in this order (rules 5.1 to 5.5, 5.8, 5.9).
+-- Which tables are accepted: checks 3, 4, 11, 5, 12 and 13 to 15, in this order (rules 5.1 to 5.5, 5.8 to 5.10).
 use Prim.Native.Nat.{ℕ}
 use mathlib.Core.Bool.{Bool, true, false, cond, _&&_, _||_}
+use mathlib.Core.List.{List, [], _∷_}
 use mathlib.Core.Path.{_≡_}
 use lib.Dec.{eqb, ltb, leb}
 use lib.ListN.{length, drop, replicate}
 use Rattle.rules.specs.declared.Table.{Table}
-use Rattle.rules.specs.declared.Refusal.the-variants.{RowCount, Speeds, Loading, RowLimits, Promised}
+use Rattle.rules.specs.declared.Refusal.the-variants.{RowCount, Speeds, Loading, RowLimits, Promised, NotLower, ReleasedLater, FollowsLow}
 use Rattle.rules.specs.declared.Check.{Check}
 use Rattle.rules.specs.declared.Check.the-variants.{Passed, Refused}
 use Rattle.rules.specs.Lists.{all, allZero}
-use Rattle.rules.specs.Rows.{at, rowsOf, releaseOf, workOf, deadlineOf, promisedOf, isLow}
+use Rattle.rules.specs.Rows.{at, rowsOf, releaseOf, workOf, deadlineOf, promisedOf, followsOf, isFollower, isLow, isHigh}
 
 -- n is from 1 to 64 rows (rule 5.1)
 abbrev pub countOk : ℕ → Bool
@@ -36,6 +37,28 @@ rowOk t i =
 unfoldable pub promiseOk : Table → ℕ → Bool
 promiseOk t i = leb (promisedOf t i) (workOf t i) && (isLow t i || eqb (promisedOf t i) 0)
 
+-- the second check where the first passed: the first refusal counts (rule 11.1)
+abbrev pub andThen : Check → Check → Check
+andThen Passed d = d
+andThen (Refused r) d = Refused r
+
+-- Row i's wait, if it follows a row: 13 unless that is a row of a lower number, 14 if it is released later than row i, 15 if it is LO and row i is
+-- HI; the first of them counts (rule 5.10).
+unfoldable pub checkWait : Table → ℕ → Check
+checkWait t i =
+    cond (isFollower t i)
+    (cond (ltb (followsOf t i) i)
+    (cond (leb (releaseOf t (followsOf t i)) (releaseOf t i))
+    (cond (isHigh t i && isLow t (followsOf t i)) (Refused FollowsLow) Passed)
+    (Refused ReleasedLater))
+    (Refused NotLower))
+    Passed
+
+-- the waits of these rows, one row after the other: the first row that is refused counts (rule 5.10)
+abbrev pub checkWaits : Table → List ℕ → Check
+checkWaits t [] = Passed
+checkWaits t (i ∷ is) = andThen (checkWait t i) (checkWaits t is)
+
 -- no figure stands after row n (rule 5.4)
 unfoldable pub tailOk : Table → Bool
 tailOk t =
@@ -44,6 +67,7 @@ tailOk t =
     && allZero (drop (t .n) (t .deadline))
     && allZero (drop (t .n) (t .level))
     && allZero (drop (t .n) (t .promised))
+    && allZero (drop (t .n) (t .follows))
 
 -- each column has an entry for each of 64 rows, as every table of the code has (rule 5.4)
 pub record FullTable (t : Table) : Type 0 where
@@ -52,21 +76,22 @@ pub record FullTable (t : Table) : Type 0 where
   pub deadline : length (t .deadline) ≡ 64
   pub level : length (t .level) ≡ 64
   pub promised : length (t .promised) ≡ 64
+  pub follows : length (t .follows) ≡ 64
 
--- checks 3, 4, 11, 5, and 12 once every row has passed 5 (rule 11.3)
+-- checks 3, 4, 11, 5, then 12 once every row has passed 5, and 13 to 15 once every row has passed 12 (rule 11.3)
 unfoldable pub checkTable : Table → Check
 checkTable t =
     cond (countOk (t .n))
     (cond (speedsOk (t .normal) (t .degraded))
     (cond (loadingOk (t .loading))
     (cond (all (rowOk t) (rowsOf t) && tailOk t)
-    (cond (all (promiseOk t) (rowsOf t)) Passed (Refused Promised))
+    (cond (all (promiseOk t) (rowsOf t)) (checkWaits t (rowsOf t)) (Refused Promised))
     (Refused RowLimits))
     (Refused Loading))
     (Refused Speeds))
     (Refused RowCount)
 
--- the table passes all five (rule 5.5)
+-- the table passes all of them (rule 5.5)
 abbrev pub Accepted : Table → Type 0
 Accepted t = checkTable t ≡ Passed
 
@@ -88,4 +113,5 @@ zeroTable =
       deadline = replicate 64 0;
       level = replicate 64 0;
       promised = replicate 64 0;
+      follows = replicate 64 0;
     }

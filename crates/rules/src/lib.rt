@@ -1,8 +1,8 @@
 // The words of the product: what a row, a table and each answer about them hold. An order is sixty-four row numbers (rule 5.6).
 // What they mean stands in specs/; this file has no function. Row 1 is the first (rule 1.3). Rules are those of docs/RULES.md.
 
-// A job: release and deadline in slots, work in work units, level 0 (LO) or 1 (HI), and the part of the work that a LO job is promised, in work
-// units (rules 1.1, 1.2, 1.11).
+// A job: release and deadline in slots, work in work units, level 0 (LO) or 1 (HI), the part of the work that a LO job is promised, in work
+// units, and the row that the job follows, 0 if it follows none (rules 1.1, 1.2, 1.11, 1.12).
 #[repr(C)]
 pub struct Row {
     pub release: u32,
@@ -10,6 +10,7 @@ pub struct Row {
     pub deadline: u32,
     pub level: u32,
     pub promised: u32,
+    pub follows: u32,
 }
 
 // A table of n jobs, one column for each figure; row i is at index i - 1, and no figure stands after row n (rules 1.1, 5.4).
@@ -24,9 +25,10 @@ pub struct Table {
     pub deadline: [u32; 64],
     pub level: [u32; 64],
     pub promised: [u32; 64],
+    pub follows: [u32; 64],
 }
 
-// Why a call was refused (rules 10.1 to 10.6, 10.8 to 10.12). The number of each is given by specs/Numbers.
+// Why a call was refused (rules 10.1 to 10.6, 10.8 to 10.15). The number of each is given by specs/Numbers.
 pub enum Refusal {
     Length,
     Malformed,
@@ -39,6 +41,9 @@ pub enum Refusal {
     NoRoom,
     Loading,
     Promised,
+    NotLower,
+    ReleasedLater,
+    FollowsLow,
 }
 
 // A check passed, or what it was refused for (rule 11.1).

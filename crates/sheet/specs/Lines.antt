@@ -47,28 +47,28 @@ module _ (bytes : List ℕ) (start : ℕ) where
 
 -- ---- the lines of the first n rows
 abbrev pub linesOk : List ℕ → ℕ → Bool
-linesOk bytes n = all (λ i. isLine bytes (lineOf i) 5) (rowsTo n)
+linesOk bytes n = all (λ i. isLine bytes (lineOf i) 6) (rowsTo n)
 
 -- bytes as long as a first line and n lines of rows, which are well formed (rule 6.7)
 pub record Lined (bytes : List ℕ) (n : ℕ) : Type 0 where
   pub few : n ≤ 64
-  pub long : length bytes ≡ 33 + 41 * n
+  pub long : length bytes ≡ 33 + 49 * n
   pub lines : linesOk bytes n ≡ true
 
 module _ (bytes : List ℕ) where
   abbrev lineOk : ℕ → Bool
-  lineOk i = isLine bytes (lineOf i) 5
+  lineOk i = isLine bytes (lineOf i) 6
 
-  nth-line : (i : ℕ) (b : Bool) → isLine bytes (33 + 41 * i) 5 ≡ b → lineOk (i + 1) ≡ b
+  nth-line : (i : ℕ) (b : Bool) → isLine bytes (33 + 49 * i) 6 ≡ b → lineOk (i + 1) ≡ b
   nth-line i b e = rw up-down e
 
-  pub lines-go : (i : ℕ) → linesOk bytes i ≡ true → isLine bytes (33 + 41 * i) 5 ≡ true → linesOk bytes (i + 1) ≡ true
+  pub lines-go : (i : ℕ) → linesOk bytes i ≡ true → isLine bytes (33 + 49 * i) 6 ≡ true → linesOk bytes (i + 1) ≡ true
   lines-go i e f = all-rows-more lineOk i ∙ rw e (nth-line i true f)
 
-  pub lines-stop : (i n : ℕ) → i < n → isLine bytes (33 + 41 * i) 5 ≡ false → linesOk bytes n ≡ false
+  pub lines-stop : (i n : ℕ) → i < n → isLine bytes (33 + 49 * i) 6 ≡ false → linesOk bytes n ≡ false
   lines-stop i n h f = all-rows-fail lineOk i n h (nth-line i false f)
 
-  pub lines-line : (i n : ℕ) → linesOk bytes n ≡ true → i < n → isLine bytes (33 + 41 * i) 5 ≡ true
+  pub lines-line : (i n : ℕ) → linesOk bytes n ≡ true → i < n → isLine bytes (33 + 49 * i) 6 ≡ true
   lines-line i n e h = let p = all-rows-each lineOk i n e h in rw up-down at p
 
 -- ---- a column's figures, one row more at a time
@@ -93,13 +93,13 @@ padded-more (y ∷ xs) zero c i x l h k = absurd (omega arith)
 padded-more (y ∷ xs) (suc m) c zero x l h k = absurd (omega arith)
 padded-more (y ∷ xs) (suc m) c (suc i) x l h k = rw (padded-more xs m c i x (omega arith) (omega arith) (omega arith))
 
-pub column-more : (bytes : List ℕ) (i j : ℕ) → i < 64 → columnOf bytes (i + 1) j ≡ set (columnOf bytes i j) i (numberAt bytes (33 + 41 * i) j)
+pub column-more : (bytes : List ℕ) (i j : ℕ) → i < 64 → columnOf bytes (i + 1) j ≡ set (columnOf bytes i j) i (numberAt bytes (33 + 49 * i) j)
 unfolding columnOf
 column-more bytes i j h =
     let e : suc i - 1 ≡ i = omega arith in
     let l : length (map (λ r. numberAt bytes (lineOf r) j) (rowsTo i)) ≡ i = length-map (rowsTo i) (λ r. numberAt bytes (lineOf r) j) ∙ length-rows i in
     rw (add-one, map-append (λ r. numberAt bytes (lineOf r) j) (rowsTo i) (suc i ∷ []), e)
-    (padded-more (map (λ r. numberAt bytes (lineOf r) j) (rowsTo i)) 64 64 i (numberAt bytes (33 + 41 * i) j) l h (omega arith))
+    (padded-more (map (λ r. numberAt bytes (lineOf r) j) (rowsTo i)) 64 64 i (numberAt bytes (33 + 49 * i) j) l h (omega arith))
 
 pub column-start : (bytes : List ℕ) (j : ℕ) → replicate 64 0 ≡ columnOf bytes 0 j
 unfolding columnOf

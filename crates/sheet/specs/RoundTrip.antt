@@ -15,7 +15,7 @@ use Rattle.rules.specs.declared.Check.the-variants.{Passed, Refused}
 use Rattle.rules.specs.declared.Reading.{Reading}
 use Rattle.rules.specs.Fields.{written, isField, fieldAt, line}
 use Rattle.rules.specs.Lists.{allZero, rowsTo, joined}
-use Rattle.rules.specs.Rows.{at, releaseOf, workOf, deadlineOf, promisedOf}
+use Rattle.rules.specs.Rows.{at, releaseOf, workOf, deadlineOf, promisedOf, followsOf}
 use Rattle.rules.specs.Sheets.{isLine, numberAt, columnOf, tableIn, checkSheet, readChecked, readOf, rowLine, sheetOf}
 use Rattle.rules.specs.Tables.{tailOk, Accepted, FullTable}
 use Rattle.checks.specs.RowLists.{zero-at}
@@ -106,7 +106,7 @@ module _ (t : Table) (accepted : Accepted t) where
   head = t .n ∷ t .normal ∷ t .degraded ∷ t .loading ∷ []
 
   abbrev row : ℕ → List ℕ
-  row i = releaseOf t i ∷ workOf t i ∷ deadlineOf t i ∷ at (t .level) i ∷ promisedOf t i ∷ []
+  row i = releaseOf t i ∷ workOf t i ∷ deadlineOf t i ∷ at (t .level) i ∷ promisedOf t i ∷ followsOf t i ∷ []
 
   abbrev lines : List ℕ
   lines = joined (rowLine t) (rowsTo (t .n))
@@ -122,16 +122,25 @@ module _ (t : Table) (accepted : Accepted t) where
       (omega (arith, known .fast, known .slower))
       (omega (arith, known .loads))
 
-  row-small : (i : ℕ) → Row t i → (j : ℕ) → j < 5 → getD (row i) j 0 < 100000000
+  -- the row that a row follows has a lower number, or is none
+  follows-small : (i : ℕ) → Row t i → followsOf t i < 100000000
+  follows-small i r =
+      by-ltb 0 (followsOf t i)
+      (λ _ h. omega (arith, known .lower i r h, r .upTo, known .few))
+      (λ _ h. omega arith)
+
+  row-small : (i : ℕ) → Row t i → (j : ℕ) → j < 6 → getD (row i) j 0 < 100000000
   row-small i r =
       let f = known .row i r in
-      small-first (releaseOf t i) (workOf t i ∷ deadlineOf t i ∷ at (t .level) i ∷ promisedOf t i ∷ [])
+      small-first (releaseOf t i) (workOf t i ∷ deadlineOf t i ∷ at (t .level) i ∷ promisedOf t i ∷ followsOf t i ∷ [])
       (omega (arith, f .before, f .soon))
-      (four-small (workOf t i) (deadlineOf t i) (at (t .level) i) (promisedOf t i)
+      (small-first (workOf t i) (deadlineOf t i ∷ at (t .level) i ∷ promisedOf t i ∷ followsOf t i ∷ [])
       (omega (arith, f .light))
+      (four-small (deadlineOf t i) (at (t .level) i) (promisedOf t i) (followsOf t i)
       (omega (arith, f .soon))
       (omega (arith, f .level))
-      (omega (arith, f .light, known .part i r .within)))
+      (omega (arith, f .light, known .part i r .within))
+      (follows-small i r)))
 
   -- the first line
   head-line : isLine (sheetOf t) 0 4 ≡ true
@@ -150,21 +159,21 @@ module _ (t : Table) (accepted : Accepted t) where
     abbrev front : List ℕ
     front = line head ++ joined (rowLine t) (rowsTo k)
 
-    front-long : length front ≡ 33 + 41 * k
+    front-long : length front ≡ 33 + 49 * k
     front-long = omega (arith, length-append (line head) (joined (rowLine t) (rowsTo k)), head-long t, rows-long t k)
 
     whole : sheetOf t ≡ front ++ (line (row (k + 1)) ++ apart .rest)
     unfolding sheetOf rowLine
     whole = ap (λ (l : List ℕ). line head ++ l) (apart .parts) ∙ sym (append-assoc (line head) (joined (rowLine t) (rowsTo k)) (rowLine t (k + 1) ++ apart .rest))
 
-    small : (j : ℕ) → j < 5 → getD (row (k + 1)) j 0 < 100000000
+    small : (j : ℕ) → j < 6 → getD (row (k + 1)) j 0 < 100000000
     small = row-small (k + 1) (record { from = omega arith; upTo = omega arith })
 
-    row-there : isLine (sheetOf t) (33 + 41 * k) 5 ≡ true
-    row-there = rw whole (line-there front (row (k + 1)) (apart .rest) (33 + 41 * k) front-long small)
+    row-there : isLine (sheetOf t) (33 + 49 * k) 6 ≡ true
+    row-there = rw whole (line-there front (row (k + 1)) (apart .rest) (33 + 49 * k) front-long small)
 
-    row-number : (j : ℕ) → j < 5 → numberAt (sheetOf t) (33 + 41 * k) (j + 1) ≡ getD (row (k + 1)) j 0
-    row-number j l = rw whole (number-there front (row (k + 1)) (apart .rest) (33 + 41 * k) front-long small j l)
+    row-number : (j : ℕ) → j < 6 → numberAt (sheetOf t) (33 + 49 * k) (j + 1) ≡ getD (row (k + 1)) j 0
+    row-number j l = rw whole (number-there front (row (k + 1)) (apart .rest) (33 + 49 * k) front-long small j l)
 
   lines-there : (n : ℕ) → n ≤ t .n → linesOk (sheetOf t) n ≡ true
   lines-there zero h = refl
@@ -173,7 +182,7 @@ module _ (t : Table) (accepted : Accepted t) where
       rw (add-one k) at more
 
   -- a column of the table, read back: j from 0, the row's figure there is the column's
-  column-back : (j : ℕ) (xs : List ℕ) → j < 5 → ((i : ℕ) → getD (row i) j 0 ≡ at xs i) → length xs ≡ 64 → allZero (drop (t .n) xs) ≡ true
+  column-back : (j : ℕ) (xs : List ℕ) → j < 6 → ((i : ℕ) → getD (row i) j 0 ≡ at xs i) → length xs ≡ 64 → allZero (drop (t .n) xs) ≡ true
       → columnOf (sheetOf t) (t .n) (j + 1) ≡ xs
   column-back j xs l same long zeros =
       let c = column-long (sheetOf t) (t .n) (j + 1) in
@@ -189,6 +198,7 @@ module _ (t : Table) (accepted : Accepted t) where
       × (allZero (drop (t .n) (t .deadline)) ≡ true)
       × (allZero (drop (t .n) (t .level)) ≡ true)
       × (allZero (drop (t .n) (t .promised)) ≡ true)
+      × (allZero (drop (t .n) (t .follows)) ≡ true)
   unfolding tailOk
   tails =
       let a = allZero (drop (t .n) (t .release)) in
@@ -196,11 +206,19 @@ module _ (t : Table) (accepted : Accepted t) where
       let d = allZero (drop (t .n) (t .deadline)) in
       let l = allZero (drop (t .n) (t .level)) in
       let p = allZero (drop (t .n) (t .promised)) in
-      let e5 = accepted-tail t accepted in
+      let w = allZero (drop (t .n) (t .follows)) in
+      let e6 = accepted-tail t accepted in
+      let e5 = and-left (a && b && d && l && p) w e6 in
       let e4 = and-left (a && b && d && l) p e5 in
       let e3 = and-left (a && b && d) l e4 in
-      let e2 = and-left (a && b) d e3 in
-      (and-left a b e2, and-right a b e2, and-right (a && b) d e3, and-right (a && b && d) l e4, and-right (a && b && d && l) p e5)
+      let e2 = and-left (a && b) d e3 in (
+        and-left a b e2,
+        and-right a b e2,
+        and-right (a && b) d e3,
+        and-right (a && b && d) l e4,
+        and-right (a && b && d && l) p e5,
+        and-right (a && b && d && l && p) w e6,
+      )
 
   -- the table that the sheet states is the table
   table-back : FullTable t → tableIn (sheetOf t) ≡ t
@@ -216,6 +234,7 @@ module _ (t : Table) (accepted : Accepted t) where
         column-back 2 (t .deadline) (omega arith) (λ i. refl) (f .deadline) (tails .2),
         column-back 3 (t .level) (omega arith) (λ i. refl) (f .level) (tails .3),
         column-back 4 (t .promised) (omega arith) (λ i. refl) (f .promised) (tails .4),
+        column-back 5 (t .follows) (omega arith) (λ i. refl) (f .follows) (tails .5),
       )
 
   -- and no check refuses it
@@ -228,7 +247,7 @@ module _ (t : Table) (accepted : Accepted t) where
         head-number 0 (omega arith),
         le-leb 1 (t .n) (known .some),
         le-leb (t .n) 64 (known .few),
-        eq-eqb (length (sheetOf t)) (33 + 41 * t .n) (sheet-long t),
+        eq-eqb (length (sheetOf t)) (33 + 49 * t .n) (sheet-long t),
         lines-there (t .n) (omega arith),
         table-back f,
       )
@@ -245,7 +264,7 @@ pub table-full : (bytes : List ℕ) → FullTable (tableIn bytes)
 unfolding tableIn
 table-full bytes =
     let n = numberAt bytes 0 1 in
-    record { release = column-long bytes n 1; work = column-long bytes n 2; deadline = column-long bytes n 3; level = column-long bytes n 4; promised = column-long bytes n 5 }
+    record { release = column-long bytes n 1; work = column-long bytes n 2; deadline = column-long bytes n 3; level = column-long bytes n 4; promised = column-long bytes n 5; follows = column-long bytes n 6 }
 
 -- It is the sheet of the table that it states: reading and writing gives the same bytes (rule 15.7).
 pub sheet-back : (bytes : List ℕ) → checkSheet bytes ≡ Passed → sheetOf (tableIn bytes) ≡ bytes

@@ -64,14 +64,14 @@ pub column-long : (bytes : List ℕ) (n j : ℕ) → length (columnOf bytes n j)
 unfolding columnOf
 column-long bytes n j = simp (length-take, length-append, length-replicate) (omega arith)
 
-pub column-at : (bytes : List ℕ) (n j i : ℕ) → n ≤ 64 → i < n → getD (columnOf bytes n j) i 0 ≡ numberAt bytes (33 + 41 * i) j
+pub column-at : (bytes : List ℕ) (n j i : ℕ) → n ≤ 64 → i < n → getD (columnOf bytes n j) i 0 ≡ numberAt bytes (33 + 49 * i) j
 column-at bytes zero j i h k = absurd (omega arith)
 column-at bytes (suc m) j i h k =
     let l = column-long bytes m j in
     rw (← add-one m, column-more bytes m j (omega arith))
     (by-eqb i m
-    (λ _ q. rw (q, getD-set-same (columnOf bytes m j) m (numberAt bytes (33 + 41 * m) j) 0 (omega arith)))
-    (λ _ q. rw (getD-set-other (columnOf bytes m j) m i (numberAt bytes (33 + 41 * m) j) 0 q) (column-at bytes m j i (omega arith) (omega arith))))
+    (λ _ q. rw (q, getD-set-same (columnOf bytes m j) m (numberAt bytes (33 + 49 * m) j) 0 (omega arith)))
+    (λ _ q. rw (getD-set-other (columnOf bytes m j) m i (numberAt bytes (33 + 49 * m) j) 0 q) (column-at bytes m j i (omega arith) (omega arith))))
 
 zero-entry : (m i : ℕ) → getD {A = ℕ} (replicate m 0) i 0 ≡ 0
 zero-entry zero i = refl
@@ -92,7 +92,7 @@ column-zero bytes n j i h k =
 pub record Accepts (bytes : List ℕ) : Type 0 where
   pub first : isLine bytes 0 4 ≡ true
   pub few : numberAt bytes 0 1 ≤ 64
-  pub long : length bytes ≡ 33 + 41 * numberAt bytes 0 1
+  pub long : length bytes ≡ 33 + 49 * numberAt bytes 0 1
   pub lines : linesOk bytes (numberAt bytes 0 1) ≡ true
   pub accepted : Accepted (tableIn bytes)
 
@@ -107,13 +107,13 @@ accepts bytes e =
     (λ f.
     by-bool (countOk n)
     (λ c.
-    by-bool (eqb (length bytes) (33 + 41 * n))
+    by-bool (eqb (length bytes) (33 + 49 * n))
     (λ l.
     by-bool (linesOk bytes n)
     (λ m. record {
       first = f;
       few = leb-true n 64 (and-right (leb 1 n) (leb n 64) c);
-      long = eqb-true (length bytes) (33 + 41 * n) l;
+      long = eqb-true (length bytes) (33 + 49 * n) l;
       lines = m;
       accepted = rw (t, f, c, l, m) at e;
     })
@@ -136,16 +136,17 @@ module _ (a b : List ℕ) (e : tableIn a ≡ tableIn b) where
   same-head (suc (suc (suc zero))) h = ap (λ (t : Table). t .loading) e
   same-head (suc (suc (suc (suc j)))) h = absurd (omega arith)
 
-  same-column : (j : ℕ) → j < 5 → columnOf a (numberAt a 0 1) (j + 1) ≡ columnOf b (numberAt b 0 1) (j + 1)
+  same-column : (j : ℕ) → j < 6 → columnOf a (numberAt a 0 1) (j + 1) ≡ columnOf b (numberAt b 0 1) (j + 1)
   unfolding tableIn
   same-column zero h = ap (λ (t : Table). t .release) e
   same-column (suc zero) h = ap (λ (t : Table). t .work) e
   same-column (suc (suc zero)) h = ap (λ (t : Table). t .deadline) e
   same-column (suc (suc (suc zero))) h = ap (λ (t : Table). t .level) e
   same-column (suc (suc (suc (suc zero)))) h = ap (λ (t : Table). t .promised) e
-  same-column (suc (suc (suc (suc (suc j))))) h = absurd (omega arith)
+  same-column (suc (suc (suc (suc (suc zero))))) h = ap (λ (t : Table). t .follows) e
+  same-column (suc (suc (suc (suc (suc (suc j)))))) h = absurd (omega arith)
 
-  same-row : Accepts a → Accepts b → (i : ℕ) → i < numberAt a 0 1 → (j : ℕ) → j < 5 → numberAt a (33 + 41 * i) (j + 1) ≡ numberAt b (33 + 41 * i) (j + 1)
+  same-row : Accepts a → Accepts b → (i : ℕ) → i < numberAt a 0 1 → (j : ℕ) → j < 6 → numberAt a (33 + 49 * i) (j + 1) ≡ numberAt b (33 + 49 * i) (j + 1)
   same-row ga gb i h j k =
       let n = same-count in
       sym (column-at a (numberAt a 0 1) (j + 1) i (ga .few) h)
@@ -160,13 +161,13 @@ module _ (a b : List ℕ) (e : tableIn a ≡ tableIn b) where
       let at : 0 + i ≡ i = omega arith in
       rw at at (same-line a b 0 4 (ga .first) (gb .first) same-head i (omega arith)))
       (λ _ k.
-      let r = (i - 33) / 41 in
-      let p = (i - 33) % 41 in
+      let r = (i - 33) / 49 in
+      let p = (i - 33) % 49 in
       let row : r < numberAt a 0 1 = omega (arith, ga .long) in
       let row' : r < numberAt b 0 1 = omega arith in
-      let at : 33 + 41 * r + p ≡ i = omega arith in
+      let at : 33 + 49 * r + p ≡ i = omega arith in
       rw at at
-      (same-line a b (33 + 41 * r) 5
+      (same-line a b (33 + 49 * r) 6
       (lines-line a r (numberAt a 0 1) (ga .lines) row)
       (lines-line b r (numberAt b 0 1) (gb .lines) row')
       (same-row ga gb r row)

@@ -20,7 +20,7 @@ use rules::Writing;
 
 // k fields and a line end are well formed from byte start on.
 fn line_ok(bytes: &[u8], start: usize, k: usize) -> bool
-    requires { ⌜ (k ≤ 5) × (start + 8 * k < length (now bytes)) ⌝ }
+    requires { ⌜ (k ≤ 6) × (start + 8 * k < length (now bytes)) ⌝ }
     ensures { λ r. ⌜ r ≡ isLine (now (bytes .entry)) start k ⌝ }
 {
     let mut j: usize = 0;
@@ -35,12 +35,12 @@ fn line_ok(bytes: &[u8], start: usize, k: usize) -> bool
 
 // The lines of all n rows are well formed; row 1's starts at byte 33, after the first line (rules 6.5, 6.6).
 fn lines_ok(bytes: &[u8], n: usize) -> bool
-    requires { ⌜ (n ≤ 64) × (length (now bytes) ≡ 33 + 41 * n) ⌝ }
+    requires { ⌜ (n ≤ 64) × (length (now bytes) ≡ 33 + 49 * n) ⌝ }
     ensures { λ r. ⌜ r ≡ linesOk (now (bytes .entry)) n ⌝ }
 {
     let mut i: usize = 0;
     while i < n {
-        if !line_ok(bytes, 33 + 41 * i, 5) {
+        if !line_ok(bytes, 33 + 49 * i, 6) {
             return false;
         }
         i += 1;
@@ -50,13 +50,13 @@ fn lines_ok(bytes: &[u8], n: usize) -> bool
 
 // The j-th figures (from 1) of the n rows, zeros after.
 fn column(bytes: &[u8], n: usize, j: usize) -> [u32; 64]
-    requires { ⌜ Lined (now bytes) n × (1 ≤ j) × (j ≤ 5) ⌝ }
+    requires { ⌜ Lined (now bytes) n × (1 ≤ j) × (j ≤ 6) ⌝ }
     ensures { λ r. ⌜ r ≡ columnOf (now (bytes .entry)) n j ⌝ }
 {
     let mut figures = [0u32; 64];
     let mut i: usize = 0;
     while i < n {
-        figures[i] = fields::number(bytes, 33 + 41 * i + 8 * (j - 1));
+        figures[i] = fields::number(bytes, 33 + 49 * i + 8 * (j - 1));
         i += 1;
     }
     figures
@@ -76,6 +76,7 @@ fn table_in(bytes: &[u8], n: u32) -> Table
     let deadline = column(bytes, rows, 3);
     let level = column(bytes, rows, 4);
     let promised = column(bytes, rows, 5);
+    let follows = column(bytes, rows, 6);
     Table {
         n,
         normal,
@@ -86,6 +87,7 @@ fn table_in(bytes: &[u8], n: u32) -> Table
         deadline,
         level,
         promised,
+        follows,
     }
 }
 
@@ -104,6 +106,7 @@ fn refused(why: Refusal) -> Reading
         deadline: zeros,
         level: zeros,
         promised: zeros,
+        follows: zeros,
     };
     Reading {
         check: Check::Refused(why),
@@ -125,7 +128,7 @@ fn answer(check: Check, table: Table) -> Reading
 }
 
 // The reader's answer for any bytes: the first check that fails, with the table of zeros, or the table (rules 6.8, 11.2).
-// Checks 4, 11, 5 and 12 come last.
+// Checks 4, 11, 5, 12 and 13 to 15 come last.
 pub fn read(bytes: &[u8]) -> Reading
     ensures { λ r. ⌜ r ≡ readOf (now (bytes .entry)) ⌝ }
 {
@@ -140,8 +143,8 @@ pub fn read(bytes: &[u8]) -> Reading
         return refused(Refusal::RowCount); // 3
     }
     let rows = n as usize;
-    if bytes.len() != 33 + 41 * rows {
-        return refused(Refusal::Length); // 1, for other than 33 + 41 n bytes (rule 6.7)
+    if bytes.len() != 33 + 49 * rows {
+        return refused(Refusal::Length); // 1, for other than 33 + 49 n bytes (rule 6.7)
     }
     if !lines_ok(bytes, rows) {
         return refused(Refusal::Malformed); // 2, in a row
@@ -159,25 +162,26 @@ fn put_four(out: &mut [u8], at: usize, first: u32, second: u32, third: u32, four
     fields::put_triple(out, after_first, second, third, fourth)
 }
 
-// The line of the row at index k: release, work, deadline, level, promised part.
+// The line of the row at index k: release, work, deadline, level, promised part, the row that it follows.
 fn put_row(out: &mut [u8], at: usize, t: Table, k: usize) -> usize
-    requires { ⌜ (k < 64) × (at + 41 ≤ length (now out)) ⌝ }
+    requires { ⌜ (k < 64) × (at + 49 ≤ length (now out)) ⌝ }
     ensures { λ r. ⌜ Wrote (now (out .entry)) at (now (out .exit)) r (rowLine t (k + 1)) ⌝ }
 {
     let after_release = fields::put_field(out, at, t.release[k]);
+    let after_work = fields::put_field(out, after_release, t.work[k]);
     put_four(
         out,
-        after_release,
-        t.work[k],
+        after_work,
         t.deadline[k],
         t.level[k],
         t.promised[k],
+        t.follows[k],
     )
 }
 
 // The lines of all rows, row 1 first.
 fn put_rows(out: &mut [u8], at: usize, t: Table) -> usize
-    requires { ⌜ (t .n ≤ 64) × (at + 41 * t .n ≤ length (now out)) ⌝ }
+    requires { ⌜ (t .n ≤ 64) × (at + 49 * t .n ≤ length (now out)) ⌝ }
     ensures { λ r. ⌜ Wrote (now (out .entry)) at (now (out .exit)) r (joined (rowLine t) (rowsOf t)) ⌝ }
 {
     let rows = t.n as usize;
@@ -192,18 +196,18 @@ fn put_rows(out: &mut [u8], at: usize, t: Table) -> usize
 
 // The sheet of a table, from byte 0 on: the line of n, N, G and K, then the lines of the rows.
 fn put_sheet(out: &mut [u8], t: Table) -> usize
-    requires { ⌜ (t .n ≤ 64) × (33 + 41 * t .n ≤ length (now out)) ⌝ }
+    requires { ⌜ (t .n ≤ 64) × (33 + 49 * t .n ≤ length (now out)) ⌝ }
     ensures { λ r. ⌜ Wrote (now (out .entry)) 0 (now (out .exit)) r (sheetOf t) ⌝ }
 {
     let next = put_four(out, 0, t.n, t.normal, t.degraded, t.loading);
     put_rows(out, next, t)
 }
 
-// The writer's checks: 3, 4, 11, 5, 12, then 10 for a sheet of 33 + 41 n bytes (rules 6.7, 11.6).
+// The writer's checks: 3, 4, 11, 5, 12, 13 to 15, then 10 for a sheet of 33 + 49 n bytes (rules 6.7, 11.6).
 fn check_write(t: Table, room: usize) -> Check
     ensures { λ r. ⌜ r ≡ checkWrite t room ⌝ }
 {
-    let size = 33 + 41 * (t.n as usize);
+    let size = 33 + 49 * (t.n as usize);
     let table = checks::check_table(t);
     let enough = checks::check_room(size, room);
     checks::and_then(table, enough)

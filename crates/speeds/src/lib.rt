@@ -146,7 +146,7 @@ fn refused(why: Refusal) -> Searching
     }
 }
 
-// The answer for any table: checks 3, 4, 11, 5 and 12 with the speeds as they stand, then the search (rules 11.8, 18.4 to 18.6).
+// The answer for any table: checks 3, 4, 11, 5, 12 and 13 to 15 with the speeds as they stand, then the search (rules 11.8, 18.4 to 18.6).
 pub fn least_speed(sought: Sought, t: Table) -> Searching
     ensures { λ r. ⌜ Promise sought t r ⌝ }
 {

@@ -18,6 +18,7 @@ use Rattle.theory.specs.Tests.{by-bool, by-ltb, and-left, and-right}
 use Rattle.theory.specs.Counts.{In, Within, Same, in-last}
 use Rattle.theory.specs.Cells.{at-put-same, at-put-other}
 use Rattle.theory.specs.Results.{moment-sweep}
+use Rattle.theory.specs.Waits.{Stand}
 use Rattle.theory.specs.Sorting.{Sorted, sortBy, sorted-sort, same-sort}
 use Rattle.theory.specs.Sweep.{sweep, sweep-same}
 use Rattle.theory.specs.Caps.{cap, cap-most}
@@ -78,7 +79,8 @@ module _ (t : Table) (accepted : Accepted t) where
       let c = allZero (drop (t .n) (t .deadline)) in
       let d = allZero (drop (t .n) (t .level)) in
       let e = allZero (drop (t .n) (t .promised)) in
-      and-left a b (and-left (a && b) c (and-left (a && b && c) d (and-left (a && b && c && d) e (accepted-tail t accepted))))
+      let g = allZero (drop (t .n) (t .follows)) in
+      and-left a b (and-left (a && b) c (and-left (a && b && c) d (and-left (a && b && c && d) e (and-left (a && b && c && d && e) g (accepted-tail t accepted)))))
 
   early : (j : ℕ) → getD (t .release) j 0 ≤ 1000000
   early j =
@@ -121,14 +123,14 @@ module _ (t : Table) (accepted : Accepted t) where
 
   -- What `part_finish` returns with those columns at G and the need of row i's promised part there, where m is the word of the rows down to i: the
   -- promised moment of row i with the rows of a above it.
-  pub finds-part : (a b : List ℕ) (m i own : ℕ) (queue caps : List ℕ) → Within (a ++ (i ∷ [])) (rowsOf t) → Holds m (a ++ (i ∷ [])) → isPromised t i ≡ true
-      → queue ≡ padded (byRelease t) → caps ≡ padded (map (cap t (t .degraded)) (rowsOf t)) → own ≡ promiseNeed t i
+  pub finds-part : (a b : List ℕ) (m i own : ℕ) (queue caps : List ℕ) → Within (a ++ (i ∷ [])) (rowsOf t) → Stand t a i → Holds m (a ++ (i ∷ []))
+      → isPromised t i ≡ true → queue ≡ padded (byRelease t) → caps ≡ padded (map (cap t (t .degraded)) (rowsOf t)) → own ≡ promiseNeed t i
       → trial (t .release) (put caps i own) m (releaseOf t i) 0 (take (t .n) queue) ≡ promisedMoment t (a ++ (i ∷ b)) i
-  finds-part a b m i own queue caps w h x p q z =
+  finds-part a b m i own queue caps w k h x p q z =
       ap (λ (l : List ℕ). trial (t .release) (put caps i own) m (releaseOf t i) 0 (take (t .n) l)) p
       ∙ ap (trial (t .release) (put caps i own) m (releaseOf t i) 0) (sorted-take (releaseOf t) (t .n) (f .few))
-      ∙ sym (moment-sweep t accepted a b i w x (queued t m) (queued-sorted t m) same (λ j. at (put caps i own) j) (at-put-same caps i own wide (r .from) (omega (arith, r .upTo, f .few)) ∙ z)
-      (λ y k n. let v = rows-in t y (omega (arith, same y, w y)) in
+      ∙ sym (moment-sweep t accepted a b i w k x (queued t m) (queued-sorted t m) same (λ j. at (put caps i own) j) (at-put-same caps i own wide (r .from) (omega (arith, r .upTo, f .few)) ∙ z)
+      (λ y l n. let v = rows-in t y (omega (arith, same y, w y)) in
       at-put-other caps i y own (r .from) (v .from) n ∙ ap (λ (l : List ℕ). at l y) q ∙ padded-at (cap t (t .degraded)) (t .n) y (v .from) (v .upTo) (f .few)))
     where
       r : Row t i

@@ -45,7 +45,7 @@ pub reading-accepted : (bytes : List ℕ) (r : Reading) → r ≡ readOf bytes �
 reading-accepted bytes r e q = rw e (read-accepted bytes (rw e at q))
 
 -- the text of a reading, by its check
-pub reading-text : (input : List ℕ) (r : Reading) (c : Check) → r ≡ readOf (take 2658 input) → r .check ≡ c → readText c (r .table) ≡ programText input
+pub reading-text : (input : List ℕ) (r : Reading) (c : Check) → r ≡ readOf (take 3170 input) → r .check ≡ c → readText c (r .table) ≡ programText input
 unfolding programText
 reading-text input r c e q = ap (λ (d : Check). readText d (r .table)) (sym q) ∙ ap (λ (s : Reading). readText (s .check) (s .table)) e
 
@@ -66,7 +66,7 @@ read-most (Checks.Refused r) t h = omega (arith, pair-long (refusalNumber r) 0)
 
 pub text-most : (input : List ℕ) → length (programText input) ≤ 1617
 unfolding programText
-text-most input = let r = readOf (take 2658 input) in read-most (r .check) (r .table) (read-accepted (take 2658 input))
+text-most input = let r = readOf (take 3170 input) in read-most (r .check) (r .table) (read-accepted (take 3170 input))
 
 -- the text written from byte 0 on
 pub answered : (input out out' : List ℕ) (r : ℕ) → Wrote out 0 out' r (programText input) → Answered input out out' r

@@ -17,7 +17,7 @@ use rules::Reading;
 use rules::Table;
 
 // The bytes kept of an input: one more than the longest sheet has.
-pub const KEPT: usize = 2658;
+pub const KEPT: usize = 3170;
 
 // The bytes of the longest text: a first line of 17 and 64 lines of 25.
 pub const LONGEST: usize = 1617;
@@ -82,7 +82,7 @@ fn put_plan(out: &mut [u8], t: Table) -> usize
 
 // What the bytes kept of an input say.
 fn read_kept(input: &[u8]) -> Reading
-    ensures { λ r. ⌜ r ≡ readOf (take 2658 (now (input .entry))) ⌝ }
+    ensures { λ r. ⌜ r ≡ readOf (take 3170 (now (input .entry))) ⌝ }
 {
     if input.len() <= KEPT {
         return sheet::read(input);

@@ -1,20 +1,20 @@
 -- What a slot does to each row of the state.
-use Prim.Native.Nat.{ℕ, zero, suc, _+_, _-_, _≤_, _<_, min}
-use mathlib.Core.Bool.{true, cond, _&&_}
-use mathlib.Core.Path.{_≡_, refl, sym, _∙_, ap}
-use mathlib.Core.List.{List, _++_}
+use Prim.Native.Nat.{ℕ, suc, _+_, _-_, _≤_, _<_, min}
+use mathlib.Core.Bool.{true, false, cond, not, _&&_}
+use mathlib.Core.Path.{_≡_, refl, sym}
+use mathlib.Core.List.{List}
 use native.Mathlib.Omega.{arith}
 use lib.Dec.{leb, eqb}
 use lib.ListN.{length, length-set, getD-replicate}
 use lib.Seq.{getD-set-same, getD-set-other}
-use borrow.Author.Tests.{lt-ltb, le-ltb, leb-true, eqb-true, ne-eqb}
+use borrow.Author.Tests.{lt-ltb, le-ltb, le-leb, leb-true, eqb-true, eq-eqb, ne-eqb}
 use Rattle.rules.specs.declared.Table.{Table}
 use Rattle.rules.specs.Lists.{first}
-use Rattle.rules.specs.Rows.{at, put, isRow, releaseOf, workOf}
-use Rattle.rules.specs.Slots.{State, fresh, isReady, chosen, isOver, brought, serve, slot}
-use Rattle.theory.specs.Tests.{by-bool, by-eqb, by-leb, and-left, and-right}
-use Rattle.theory.specs.Counts.{In, first-in, first-passes, first-above}
-use Rattle.theory.specs.Facts.{Row, row-is}
+use Rattle.rules.specs.Rows.{at, put, isRow, releaseOf, workOf, followsOf}
+use Rattle.rules.specs.Slots.{State, fresh, isPending, isWaiting, isReady, chosen, isOver, brought, serve, slot}
+use Rattle.theory.specs.Tests.{by-bool, by-eqb, by-leb, by-ltb, and-left, and-right, not-is, not-both}
+use Rattle.theory.specs.Counts.{In, first-in, first-passes}
+use Rattle.theory.specs.Facts.{Row, row-is, is-row}
 
 -- a row's part of the state: work units got, slots used, closing slot
 pub record Cell : Type 0 where
@@ -103,15 +103,15 @@ module _ (t : Table) (o : List ℕ) (v : ℕ) (s : State) where
             (omega arith) p (λ w. h (sym w)),
       ))
 
--- ready: a row of the table, released, open
-pub record Ready (t : Table) (s : State) (i : ℕ) : Type 0 where
+-- a row of the table, released, open
+pub record Pending (t : Table) (s : State) (i : ℕ) : Type 0 where
   pub row : Row t i
   pub released : releaseOf t i ≤ s .clock
   pub still : at (s .closing) i ≡ 0
 
-pub ready-is : (t : Table) (s : State) (i : ℕ) → isReady t s i ≡ true → Ready t s i
-unfolding isReady
-ready-is t s i e =
+pub pending-is : (t : Table) (s : State) (i : ℕ) → isPending t s i ≡ true → Pending t s i
+unfolding isPending
+pending-is t s i e =
     let f = and-left (isRow t i && leb (releaseOf t i) (s .clock)) (eqb (at (s .closing) i) 0) e in
     record {
       row = row-is t i (and-left (isRow t i) (leb (releaseOf t i) (s .clock)) f);
@@ -119,14 +119,52 @@ ready-is t s i e =
       still = eqb-true (at (s .closing) i) 0 (and-right (isRow t i && leb (releaseOf t i) (s .clock)) (eqb (at (s .closing) i) 0) e);
     }
 
--- a row of the table that is not ready: still to be released, or closed
-pub by-ready {ℓ} : {P : Type ℓ} (t : Table) (s : State) (i : ℕ) → isRow t i ≡ true
-    → (isReady t s i ≡ true → P) → ((at (s .closing) i ≡ 0 → s .clock < releaseOf t i) → P) → P
-unfolding isReady
-by-ready t s i r f g =
+pub is-pending : (t : Table) (s : State) (i : ℕ) → Row t i → releaseOf t i ≤ s .clock → at (s .closing) i ≡ 0 → isPending t s i ≡ true
+unfolding isPending
+is-pending t s i r p q = rw (is-row t i r, le-leb (releaseOf t i) (s .clock) p, eq-eqb (at (s .closing) i) 0 q)
+
+-- a row of the table that is not: still to be released, or closed
+pub by-pending {ℓ} : {P : Type ℓ} (t : Table) (s : State) (i : ℕ) → Row t i
+    → (isPending t s i ≡ true → P) → ((at (s .closing) i ≡ 0 → s .clock < releaseOf t i) → P) → P
+by-pending t s i r f g =
     by-leb (releaseOf t i) (s .clock)
-    (λ e p. by-eqb (at (s .closing) i) 0 (λ d q. f (rw (r, e, d))) (λ d q. g (λ z. absurd (q z))))
+    (λ e p. by-eqb (at (s .closing) i) 0 (λ d q. f (is-pending t s i r p q)) (λ d q. g (λ z. absurd (q z))))
     (λ e p. g (λ z. p))
+
+-- a row that waits follows one that is open, and one that does not follows none or one that is closed
+pub by-waiting {ℓ} : {P : Type ℓ} (t : Table) (s : State) (i : ℕ)
+    → (isWaiting t s i ≡ true → 1 ≤ followsOf t i → at (s .closing) (followsOf t i) ≡ 0 → P)
+    → (isWaiting t s i ≡ false → (1 ≤ followsOf t i → 1 ≤ at (s .closing) (followsOf t i)) → P) → P
+unfolding isWaiting
+by-waiting t s i f g =
+    by-ltb 0 (followsOf t i)
+    (λ e p. by-eqb (at (s .closing) (followsOf t i)) 0
+    (λ d q. f (rw (e, d)) p q)
+    (λ d q. g (rw (e, d)) (λ _. omega arith)))
+    (λ e p. g (rw e) (λ h. absurd (omega arith)))
+
+-- ready: released and open, and what it follows is closed
+pub record Ready (t : Table) (s : State) (i : ℕ) : Type 0 where
+  pub row : Row t i
+  pub released : releaseOf t i ≤ s .clock
+  pub still : at (s .closing) i ≡ 0
+  pub free : 1 ≤ followsOf t i → 1 ≤ at (s .closing) (followsOf t i)
+
+pub ready-is : (t : Table) (s : State) (i : ℕ) → isReady t s i ≡ true → Ready t s i
+unfolding isReady
+ready-is t s i e =
+    let p = pending-is t s i (and-left (isPending t s i) (not (isWaiting t s i)) e) in
+    let w : isWaiting t s i ≡ false = not-is (isWaiting t s i) (and-right (isPending t s i) (not (isWaiting t s i)) e) in
+    record {
+      row = p .row;
+      released = p .released;
+      still = p .still;
+      free = by-waiting t s i (λ y _ _. absurd (not-both (isWaiting t s i) y w)) (λ _ h. h);
+    }
+
+pub is-ready : (t : Table) (s : State) (i : ℕ) → isPending t s i ≡ true → isWaiting t s i ≡ false → isReady t s i ≡ true
+unfolding isReady
+is-ready t s i p w = rw (p, w)
 
 module _ (t : Table) (o : List ℕ) (s : State) where
   pub chosen-ready : (i : ℕ) → 1 ≤ i → chosen t o s ≡ i → Ready t s i
@@ -140,8 +178,3 @@ module _ (t : Table) (o : List ℕ) (s : State) where
   chosen-in i p e =
       let h : first (isReady t s) o ≡ 0 → ⊥ = λ z. omega (arith, e, z) in
       rw e at (first-in (isReady t s) o h)
-
--- where a row above is ready, the slot goes to one of those above
-pub chosen-above : (t : Table) (s : State) (a b : List ℕ) (x : ℕ) → In x a → isReady t s x ≡ true → In (chosen t (a ++ b) s) a
-unfolding chosen
-chosen-above t s a b x i e = first-above (isReady t s) a b x i e

@@ -4,9 +4,9 @@
 -- A rule of slots is an instance if it gives, for a list of rows and each slot u before a clock,
 --   calm:  no row's demand grows by more than the row brings with the slot, and
 --   works: after the slot either no demand is left at all, or some row's demand fell by a slot.
--- `works` is what priority gives: while a row of the list is ready, the slot goes to a row of the list.
--- A later rule (a promised part, waits, a start at another clock) supplies these two facts for its own demand and its own `bring`, and the
--- demand at the start; what follows below stays. A rule that closes rows after the slot only takes demand away, and stays an instance
+-- `works` is what priority gives: while a row of the list is released and open, the slot goes to a row of the list, where they wait for none but one
+-- another (Waits). A later rule (a start at another clock) supplies these two facts for its own demand and its own `bring`, and the demand at the start;
+-- what follows below stays. A rule that closes rows after the slot only takes demand away, and stays an instance
 -- (`served-less`).
 -- The instances in this crate are the two rules of a slot at supplies of at least s work units: `planning-serves` and `running-serves` in
 -- Sustain.

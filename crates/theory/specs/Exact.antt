@@ -19,6 +19,7 @@ use Rattle.theory.specs.Ends.{planning}
 use Rattle.theory.specs.Invariant.{Held, Over, by-brought, none-beyond, cell-served, cell-other, ran, held, under}
 use Rattle.theory.specs.Left.{left, bring, left-open, left-late, left-closed, left-waits, left-served-one}
 use Rattle.theory.specs.Sustain.{none-left}
+use Rattle.theory.specs.Waits.{Closed, Stand, stand-closed}
 
 -- work got is what the slots used beyond the loading have brought
 abbrev Brought : Table → ℕ → ℕ → Cell → Type 0
@@ -39,7 +40,7 @@ got-exact t f o s (suc k) i r =
     (λ _ q. subst (Brought t s i) (sym (cell-served t f (planning t) o (λ _. s) k i r q)) (brought-more t s k i (cellAt (after t o (λ _. s) k) i) h))
     (λ _ q. subst (Brought t s i) (sym (cell-other t f (planning t) o (λ _. s) k i r q)) h)
 
-module _ (t : Table) (f : TableFacts t) (a b : List ℕ) (rows : (x : ℕ) → In x a → Row t x) (once : Once a) (s : ℕ) (s1 : 1 ≤ s) (sn : s ≤ t .normal) where
+module _ (t : Table) (f : TableFacts t) (a b : List ℕ) (rows : (x : ℕ) → In x a → Row t x) (once : Once a) (closed : Closed t a) (s : ℕ) (s1 : 1 ≤ s) (sn : s ≤ t .normal) where
   abbrev worstAt : ℕ → State
   worstAt u = after t (a ++ b) (λ _. s) u
 
@@ -91,7 +92,7 @@ module _ (t : Table) (f : TableFacts t) (a b : List ℕ) (rows : (x : ℕ) → I
       ))
     where
       gone : (u x : ℕ) → (In (chosen t (a ++ b) (worstAt u)) a → ⊥) → In x a → leftAt (suc u) x ≡ 0
-      gone u x out j = none-left t f (planning t) (a ++ b) a b refl rows (λ _. s) s u x out j
+      gone u x out j = none-left t f (planning t) (a ++ b) a b refl rows closed (λ _. s) s u x out j
 
   pub left-exact : (u : ℕ) → sum (leftAt u) a ≡ backlog (arrivals (releaseOf t) (cap t s) a) u
   left-exact zero = sum-zero (leftAt 0) a (λ x i. left-late t s 0 x (cellAt (worstAt 0) x) (omega arith))
@@ -109,8 +110,8 @@ module _ (t : Table) (f : TableFacts t) (a b : List ℕ) (rows : (x : ℕ) → I
       )
 
 -- the lowest row i of a list, with a above it
-module _ (t : Table) (f : TableFacts t) (a b : List ℕ) (i : ℕ) (rows : (x : ℕ) → In x (a ++ (i ∷ [])) → Row t x) (once : Once (a ++ (i ∷ []))) (s : ℕ)
-    (s1 : 1 ≤ s) (sn : s ≤ t .normal) where
+module _ (t : Table) (f : TableFacts t) (a b : List ℕ) (i : ℕ) (rows : (x : ℕ) → In x (a ++ (i ∷ [])) → Row t x) (once : Once (a ++ (i ∷ [])))
+    (stand : Stand t a i) (s : ℕ) (s1 : 1 ≤ s) (sn : s ≤ t .normal) where
   abbrev work : ℕ → ℕ
   work = arrivals (releaseOf t) (cap t s) (a ++ (i ∷ []))
 
@@ -139,7 +140,7 @@ module _ (t : Table) (f : TableFacts t) (a b : List ℕ) (i : ℕ) (rows : (x : 
         still = z;
         busy = λ w p q. by-leb w u
             (λ _ k. h .busy w p k)
-            (λ _ k. let e : w ≡ suc u = omega arith in rw e (open-left t f (a ++ (i ∷ [])) b rows once s s1 sn (suc u) i (in-last a i) (omega arith) z));
+            (λ _ k. let e : w ≡ suc u = omega arith in rw e (open-left t f (a ++ (i ∷ [])) b rows once (stand-closed t a i stand) s s1 sn (suc u) i (in-last a i) (omega arith) z));
       }
 
   -- the slot that closes the row leaves nothing: no row above was ready
@@ -147,7 +148,7 @@ module _ (t : Table) (f : TableFacts t) (a b : List ℕ) (i : ℕ) (rows : (x : 
   clear-after u e z =
       omega (
         arith,
-        left-exact t f (a ++ (i ∷ [])) b rows once s s1 sn (suc u),
+        left-exact t f (a ++ (i ∷ [])) b rows once (stand-closed t a i stand) s s1 sn (suc u),
         sum-zero (λ x. left t s (suc u) x (cellAt (after t (a ++ (i ∷ []) ++ b) (λ _. s) (suc u)) x)) (a ++ (i ∷ [])) (λ x j. gone x j),
       )
     where
@@ -156,7 +157,7 @@ module _ (t : Table) (f : TableFacts t) (a b : List ℕ) (i : ℕ) (rows : (x : 
           by-eqb x i
           (λ _ q. rw q (left-closed t s (suc u) i (cellAt (after t (a ++ (i ∷ []) ++ b) (λ _. s) (suc u)) i) z))
           (λ _ q. none-left t f (planning t) (a ++ (i ∷ []) ++ b) a ((i ∷ []) ++ b) (append-assoc a (i ∷ []) b)
-          (λ y k. rows y (omega (arith, count-append y a (i ∷ [])))) (λ _. s) s u x
+          (λ y k. rows y (omega (arith, count-append y a (i ∷ [])))) (stand .0) (λ _. s) s u x
           (λ k. not-above (rw e at k)) (omega (arith, count-append x a (i ∷ []), count-other x i [] q)))
 
   closing-slot : (u : ℕ) → StillOpen u → StillOpen (suc u) ⊎ ClosedAt (suc u)

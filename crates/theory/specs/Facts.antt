@@ -11,10 +11,10 @@ use Rattle.rules.specs.declared.Refusal.{Refusal}
 use Rattle.rules.specs.declared.Check.{Check}
 use Rattle.rules.specs.declared.Check.the-variants.{Passed, Refused}
 use Rattle.rules.specs.Lists.{all, rowsTo, count}
-use Rattle.rules.specs.Rows.{at, isRow, rowsOf, releaseOf, workOf, deadlineOf, promisedOf, isLow}
-use Rattle.rules.specs.Orders.{isOrder, checkOrder, andThen, checkBoth}
-use Rattle.rules.specs.Tables.{countOk, speedsOk, loadingOk, rowOk, promiseOk, tailOk, checkTable, Accepted}
-use Rattle.theory.specs.Tests.{by-bool, by-eqb, by-leb, and-left, and-right, and-both}
+use Rattle.rules.specs.Rows.{at, isRow, rowsOf, releaseOf, workOf, deadlineOf, promisedOf, followsOf, isFollower, isLow, isHigh}
+use Rattle.rules.specs.Orders.{isOrder, checkOrder, checkBoth}
+use Rattle.rules.specs.Tables.{countOk, speedsOk, loadingOk, rowOk, promiseOk, andThen, checkWait, checkWaits, tailOk, checkTable, Accepted}
+use Rattle.theory.specs.Tests.{by-bool, by-eqb, by-leb, by-ltb, and-left, and-right, and-both}
 use Rattle.theory.specs.Counts.{In, count-append, count-other, in-head, in-tail}
 
 -- every element passes
@@ -116,7 +116,50 @@ part-facts t i e =
       )));
     }
 
--- speeds in work units per slot, loading in slots
+-- a refusal is not a check that passed
+pub clash : {A : Type 0} {r : Refusal} → Refused r ≡ Passed → A
+clash e = let z : _≡_ {A = ℕ} 0 1 = cc in absurd (omega arith)
+
+-- two checks, one after the other, pass if both do
+then-first : (c d : Check) → andThen c d ≡ Passed → c ≡ Passed
+then-first Passed d e = refl
+then-first (Refused r) d e = e
+
+then-second : (c d : Check) → andThen c d ≡ Passed → d ≡ Passed
+then-second Passed d e = e
+then-second (Refused r) d e = clash e
+
+-- the row that a row follows: a row of a lower number, released no later, and HI if the follower is
+pub record Follows (t : Table) (i : ℕ) : Type 0 where
+  pub some : 1 ≤ followsOf t i
+  pub lower : followsOf t i < i
+  pub earlier : releaseOf t (followsOf t i) ≤ releaseOf t i
+  pub level : isHigh t i ≡ true → isHigh t (followsOf t i) ≡ true
+
+-- a row that follows one, and whose wait passes
+follows-of : (t : Table) (i : ℕ) → checkWait t i ≡ Passed → 1 ≤ followsOf t i → Follows t i
+unfolding checkWait
+follows-of t i e some =
+    let g : isFollower t i ≡ true = lt-ltb 0 (followsOf t i) some in
+    by-ltb (followsOf t i) i
+    (λ a p. by-leb (releaseOf t (followsOf t i)) (releaseOf t i)
+    (λ b q. record {
+      some = some;
+      lower = p;
+      earlier = q;
+      level = λ h. by-bool (isLow t (followsOf t i)) (λ l. clash (rw (g, a, b, h, l) at e)) (λ l. rw l);
+    })
+    (λ b q. clash (rw (g, a, b) at e)))
+    (λ a p. clash (rw (g, a) at e))
+
+waits-in : (t : Table) (l : List ℕ) → checkWaits t l ≡ Passed → (x : ℕ) → In x l → checkWait t x ≡ Passed
+waits-in t [] e x i = absurd (omega arith)
+waits-in t (y ∷ l) e x i =
+    by-eqb x y
+    (λ f q. rw q (then-first (checkWait t y) (checkWaits t l) e))
+    (λ f q. waits-in t l (then-second (checkWait t y) (checkWaits t l) e) x (rw f at i))
+
+-- speeds in work units per slot, loading in slots; of waits, what runs ask for
 pub record TableFacts (t : Table) : Type 0 where
   pub some : 1 ≤ t .n
   pub few : t .n ≤ 64
@@ -127,10 +170,32 @@ pub record TableFacts (t : Table) : Type 0 where
   pub loads : t .loading ≤ 16
   pub row : (i : ℕ) → Row t i → RowFacts t i
   pub part : (i : ℕ) → Row t i → PartFacts t i
+  pub lower : (i : ℕ) → Row t i → 1 ≤ followsOf t i → followsOf t i < i
+  pub earlier : (i : ℕ) → Row t i → 1 ≤ followsOf t i → releaseOf t (followsOf t i) ≤ releaseOf t i
 
--- a refusal is not a check that passed
-pub clash : {A : Type 0} {r : Refusal} → Refused r ≡ Passed → A
-clash e = let z : _≡_ {A = ℕ} 0 1 = cc in absurd (omega arith)
+-- the row that a row follows is a row of the table
+pub followed-row : (t : Table) → TableFacts t → (i : ℕ) → Row t i → 1 ≤ followsOf t i → Row t (followsOf t i)
+followed-row t f i r some = record { from = some; upTo = omega (arith, f .lower i r some, r .upTo) }
+
+-- checks 13 to 15 come last
+accepted-waits : (t : Table) → Accepted t → checkWaits t (rowsOf t) ≡ Passed
+unfolding checkTable
+accepted-waits t h =
+    by-bool (countOk (t .n))
+    (λ e1. by-bool (speedsOk (t .normal) (t .degraded))
+    (λ e2. by-bool (loadingOk (t .loading))
+    (λ e4. by-bool (all (rowOk t) (rowsOf t) && tailOk t)
+    (λ e3. by-bool (all (promiseOk t) (rowsOf t))
+    (λ e5. rw (e1, e2, e4, e3, e5) at h)
+    (λ e5. clash (rw (e1, e2, e4, e3, e5) at h)))
+    (λ e3. clash (rw (e1, e2, e4, e3) at h)))
+    (λ e4. clash (rw (e1, e2, e4) at h)))
+    (λ e2. clash (rw (e1, e2) at h)))
+    (λ e1. clash (rw e1 at h))
+
+-- what an accepted table says of the row that a row follows
+pub follows : (t : Table) → Accepted t → (i : ℕ) → Row t i → 1 ≤ followsOf t i → Follows t i
+follows t h i r = follows-of t i (waits-in t (rowsOf t) (accepted-waits t h) i (in-rows t i r))
 
 pub facts : (t : Table) → Accepted t → TableFacts t
 unfolding checkTable
@@ -150,6 +215,8 @@ facts t h =
       loads = leb-true (t .loading) 16 e4;
       row = λ i k. row-facts t i (all-in (rowOk t) (rowsOf t) (and-left (all (rowOk t) (rowsOf t)) (tailOk t) e3) i (in-rows t i k));
       part = λ i k. part-facts t i (all-in (promiseOk t) (rowsOf t) e5 i (in-rows t i k));
+      lower = λ i k s. follows t h i k s .lower;
+      earlier = λ i k s. follows t h i k s .earlier;
     })
     (λ e5. clash (rw (e1, e2, e4, e3, e5) at h)))
     (λ e3. clash (rw (e1, e2, e4, e3) at h)))
@@ -190,14 +257,10 @@ both-pass t o a e = rw (a, e)
 
 pub both-accepted : (t : Table) (o : List ℕ) → checkBoth t o ≡ Passed → Accepted t
 unfolding checkBoth
-both-accepted t o e = go (checkTable t) e
-  where
-    go : (c : Check) → andThen c (checkOrder t o) ≡ Passed → c ≡ Passed
-    go Passed f = refl
-    go (Refused r) f = f
+both-accepted t o e = then-first (checkTable t) (checkOrder t o) e
 
 pub both-order : (t : Table) (o : List ℕ) → checkBoth t o ≡ Passed → isOrder t o ≡ true
 unfolding checkBoth checkOrder
 both-order t o e =
-    let f : checkOrder t o ≡ Passed = rw (both-accepted t o e) at e in
+    let f : checkOrder t o ≡ Passed = then-second (checkTable t) (checkOrder t o) e in
     by-bool (isOrder t o) (λ h. h) (λ h. clash (rw h at f))

@@ -19,6 +19,7 @@ use Rattle.theory.specs.Sorting.{Sorted}
 use Rattle.theory.specs.Sweep.{sweep, sweep-finish, Ends, ends}
 use Rattle.theory.specs.Caps.{cap, cap-positive, cap-need}
 use Rattle.theory.specs.Facts.{Row, in-rows, rows-in, TableFacts}
+use Rattle.theory.specs.Waits.{Stand}
 use Rattle.theory.specs.Places.{rows-once}
 use Rattle.theory.specs.Exact.{closes-at}
 
@@ -87,7 +88,7 @@ module _ (t : Table) (f : TableFacts t) where
         sum-le (cap t s) (needFor t s) (rowsOf t) (λ x i. cap-need t s x (f .runs) s1),
       )
 
-  module _ (a b : List ℕ) (i : ℕ) (rows : (x : ℕ) → In x (a ++ (i ∷ [])) → Row t x) (once : Once (a ++ (i ∷ []))) where
+  module _ (a b : List ℕ) (i : ℕ) (rows : (x : ℕ) → In x (a ++ (i ∷ [])) → Row t x) (once : Once (a ++ (i ∷ []))) (stand : Stand t a i) where
     -- the rows from the top down to i, at i's worst speed
     abbrev pub workDownTo : ℕ → ℕ
     workDownTo = arrivals (releaseOf t) (cap t (worstSpeed t i)) (a ++ (i ∷ []))
@@ -104,7 +105,7 @@ module _ (t : Table) (f : TableFacts t) where
     unfolding worstFinish
     worst-is =
         subst (λ (l : List ℕ). at (after t l (λ _. worstSpeed t i) (horizon t (worstSpeed t i)) .closing) i ≡ ends-down .at) (append-assoc a (i ∷ []) b)
-        (closes-at t f a b i rows once (worstSpeed t i) (worst-runs i) (worst-slower i) (ends-down .at) (horizon t (worstSpeed t i)) (ends-down .finish)
+        (closes-at t f a b i rows once stand (worstSpeed t i) (worst-runs i) (worst-slower i) (ends-down .at) (horizon t (worstSpeed t i)) (ends-down .finish)
         (omega (arith, ends-down .bound, horizon-enough (worstSpeed t i) (worst-runs i) (worst-slower i) (a ++ (i ∷ [])) rows once)))
 
     pub worst-finish : Finish workDownTo (releaseOf t i) (worstFinish t (a ++ (i ∷ b)) i)
@@ -115,7 +116,7 @@ module _ (t : Table) (f : TableFacts t) where
         → at (after t (a ++ (i ∷ []) ++ b) (λ _. worstSpeed t i) u .closing) i ≡ worstFinish t (a ++ (i ∷ b)) i
     worst-lasts u h =
         rw worst-is
-        (closes-at t f a b i rows once (worstSpeed t i) (worst-runs i) (worst-slower i) (ends-down .at) u (ends-down .finish)
+        (closes-at t f a b i rows once stand (worstSpeed t i) (worst-runs i) (worst-slower i) (ends-down .at) u (ends-down .finish)
         (omega (arith, h, ends-down .bound, horizon-enough (worstSpeed t i) (worst-runs i) (worst-slower i) (a ++ (i ∷ [])) rows once)))
 
     pub worst-bound : worstFinish t (a ++ (i ∷ b)) i ≤ greatest (releaseOf t) (rowsOf t) + sum (cap t (worstSpeed t i)) (a ++ (i ∷ []))
@@ -130,10 +131,10 @@ module _ (t : Table) (f : TableFacts t) where
         (sweep (releaseOf t) (cap t (worstSpeed t i)) (releaseOf t i) 0 l)
         (sweep-finish (releaseOf t) (cap t (worstSpeed t i)) l sorted i (omega (arith, same i, (in-last a i))) own-cap))
 
-  module _ (a b : List ℕ) (i : ℕ) (rows : (x : ℕ) → In x (a ++ (i ∷ [])) → Row t x) (once : Once (a ++ (i ∷ []))) where
+  module _ (a b : List ℕ) (i : ℕ) (rows : (x : ℕ) → In x (a ++ (i ∷ [])) → Row t x) (once : Once (a ++ (i ∷ []))) (stand : Stand t a i) where
     pub time-clear : onTime t (a ++ (i ∷ b)) i ≡ true → Clear t (a ++ (i ∷ [])) i
     time-clear e =
-        let w = worst-finish a b i rows once in
+        let w = worst-finish a b i rows once stand in
         record { at = worstFinish t (a ++ (i ∷ b)) i; after = w .after; by = leb-true (worstFinish t (a ++ (i ∷ b)) i) (deadlineOf t i) e; clear = w .clear }
 
     pub clear-time : Clear t (a ++ (i ∷ [])) i → onTime t (a ++ (i ∷ b)) i ≡ true
@@ -142,23 +143,23 @@ module _ (t : Table) (f : TableFacts t) where
         (omega (
           arith,
           c .by,
-          finish-first (workDownTo a b i rows once) (releaseOf t i) (worstFinish t (a ++ (i ∷ b)) i) (c .at)
-              (worst-finish a b i rows once) (c .after) (c .clear),
+          finish-first (workDownTo a b i rows once stand) (releaseOf t i) (worstFinish t (a ++ (i ∷ b)) i) (c .at)
+              (worst-finish a b i rows once stand) (c .after) (c .clear),
         ))
 
   -- a row moved: what it met above a list, it meets above another, with no more rows above it
-  pub time-moved : (a b a' b' : List ℕ) (i : ℕ) → Within (a ++ (i ∷ [])) (rowsOf t) → Within (a' ++ (i ∷ [])) (a ++ (i ∷ []))
+  pub time-moved : (a b a' b' : List ℕ) (i : ℕ) → Within (a ++ (i ∷ [])) (rowsOf t) → Within (a' ++ (i ∷ [])) (a ++ (i ∷ [])) → Stand t a i → Stand t a' i
       → onTime t (a ++ (i ∷ b)) i ≡ true → onTime t (a' ++ (i ∷ b')) i ≡ true
-  time-moved a b a' b' i w s m =
+  time-moved a b a' b' i w s c c' m =
       let w' : Within (a' ++ (i ∷ [])) (rowsOf t) = λ x. omega (arith, w x, s x) in
-      clear-time a' b' i (rows-of t (a' ++ (i ∷ [])) w') (once-of t (a' ++ (i ∷ [])) w')
-      (clear-within t (a' ++ (i ∷ [])) (a ++ (i ∷ [])) i s (time-clear a b i (rows-of t (a ++ (i ∷ [])) w) (once-of t (a ++ (i ∷ [])) w) m))
+      clear-time a' b' i (rows-of t (a' ++ (i ∷ [])) w') (once-of t (a' ++ (i ∷ [])) w') c'
+      (clear-within t (a' ++ (i ∷ [])) (a ++ (i ∷ [])) i s (time-clear a b i (rows-of t (a ++ (i ∷ [])) w) (once-of t (a ++ (i ∷ [])) w) c m))
 
   -- the worst finish depends on which rows stand above, and not on their order or on the rows below
   pub finish-set-only : (a b c d : List ℕ) (i : ℕ) → Within (a ++ (i ∷ [])) (rowsOf t) → Within (c ++ (i ∷ [])) (rowsOf t)
-      → Same (a ++ (i ∷ [])) (c ++ (i ∷ [])) → worstFinish t (a ++ (i ∷ b)) i ≡ worstFinish t (c ++ (i ∷ d)) i
-  finish-set-only a b c d i w v both =
-      let p = worst-finish a b i (rows-of t (a ++ (i ∷ [])) w) (once-of t (a ++ (i ∷ [])) w) in
-      let q = worst-finish c d i (rows-of t (c ++ (i ∷ [])) v) (once-of t (c ++ (i ∷ [])) v) in
+      → Stand t a i → Stand t c i → Same (a ++ (i ∷ [])) (c ++ (i ∷ [])) → worstFinish t (a ++ (i ∷ b)) i ≡ worstFinish t (c ++ (i ∷ d)) i
+  finish-set-only a b c d i w v x y both =
+      let p = worst-finish a b i (rows-of t (a ++ (i ∷ [])) w) (once-of t (a ++ (i ∷ [])) w) x in
+      let q = worst-finish c d i (rows-of t (c ++ (i ∷ [])) v) (once-of t (c ++ (i ∷ [])) v) y in
       finish-only _ (releaseOf t i) (worstFinish t (a ++ (i ∷ b)) i) (worstFinish t (c ++ (i ∷ d)) i)
       (finish-set (releaseOf t) (cap t (worstSpeed t i)) (a ++ (i ∷ [])) (c ++ (i ∷ [])) both (releaseOf t i) (worstFinish t (a ++ (i ∷ b)) i) p) q

@@ -57,7 +57,7 @@ module _ (t : Table) (r : Rule t) (s u i : ℕ) (x : Cell) (h : Held t r s u i x
       (λ d k. omega (arith, left-late t s u i x q, left-open t s (suc u) i x (h .unclosed q) (omega arith), h .unused q, bring-now t s u i x k))
       (λ d k. omega (arith, left-late t s u i x q, left-late t s (suc u) i x (omega arith), bring-none t s u i x k)))
 
-  -- what a ready row has left, with what it brings
+  -- what a row that is released and open has left, with what it brings
   pub left-ready : x .closing ≡ 0 → releaseOf t i ≤ u → left t s u i x + bring t s u i ≡ cap t s i - x .used
   left-ready p q =
       by-eqb (releaseOf t i) u

@@ -9,6 +9,7 @@ pub mod Caps
 pub mod Facts
 pub mod Room
 pub mod Cells
+pub mod Waits
 pub mod Late
 pub mod Ends
 pub mod Demand
@@ -23,6 +24,7 @@ pub mod Verdict
 pub mod Promised
 pub mod Choosing
 pub mod Speeds
+pub mod Waiting
 pub mod Runs
 pub mod Results
 pub mod Lost

@@ -15,7 +15,7 @@ use Rattle.rules.specs.declared.Table.{Table}
 use Rattle.rules.specs.Lists.{rowsTo}
 use Rattle.rules.specs.Rows.{at, isLow, workOf, promisedOf}
 use Rattle.rules.specs.Correct.{earliest}
-use Rattle.rules.specs.Slots.{State, isReady, chosen, isOver, brought, serve, slot, allowance}
+use Rattle.rules.specs.Slots.{State, isPending, isWaiting, isReady, chosen, isOver, brought, serve, slot, allowance}
 use Rattle.theory.specs.Tests.{by-bool, by-eqb, by-leb}
 use Rattle.theory.specs.Caps.{need-unused}
 use Rattle.theory.specs.Facts.{Row, TableFacts}
@@ -59,6 +59,7 @@ partTable t i =
       deadline = t .deadline;
       level = figuresOf (besides i 1 (at (t .level)));
       promised = figuresOf (besides i 0 (promisedOf t));
+      follows = t .follows;
     }
 
 pub part-row : (t : Table) (i j : ℕ) → Row t j → Row (partTable t i) j
@@ -138,6 +139,8 @@ module _ (t : Table) (f : TableFacts t) (i : ℕ) where
               within = omega (arith, other-work j q' e, other-promised j q' e, g .within);
               low = λ h. other-low j q' e ∙ g .low (omega (arith, other-promised j q' e));
             });
+        lower = λ j q. f .lower j (row-part t i j q);
+        earlier = λ j q. f .earlier j (row-part t i j q);
       }
 
   -- a rule of a slot for it: the same look at the clock
@@ -180,7 +183,7 @@ module _ (t : Table) (f : TableFacts t) (i : ℕ) (r : Row t i) (o : List ℕ) (
   q = partTable t i
 
   chosen-same : chosen q o s ≡ chosen t o s
-  unfolding chosen isReady
+  unfolding chosen isPending isWaiting isReady
   chosen-same = refl
 
   -- a slot of another row

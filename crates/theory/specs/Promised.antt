@@ -13,7 +13,7 @@ use borrow.Author.Tests.{le-leb, lt-leb, le-ltb, lt-ltb, leb-true, ltb-true}
 use Rattle.rules.specs.declared.Table.{Table}
 use Rattle.rules.specs.Lists.{rowsTo, first}
 use Rattle.rules.specs.Rows.{at, rowsOf, isLow, isPromised, workOf, deadlineOf, releaseOf, promisedOf, needFor, promiseNeed}
-use Rattle.rules.specs.Orders.{isOrder}
+use Rattle.rules.specs.Orders.{isArrangement, isOrder}
 use Rattle.rules.specs.Slots.{State, after}
 use Rattle.rules.specs.Correct.{KeptIn, Correct, earliest, Window}
 use Rattle.rules.specs.Worst.{worstSpeed, horizon, worstFinish, promisedMoment, lesser, slack, meets}
@@ -26,6 +26,7 @@ use Rattle.theory.specs.Cells.{cellAt}
 use Rattle.theory.specs.Ends.{Rule, planning, stateBy}
 use Rattle.theory.specs.Invariant.{Over, held, got-high}
 use Rattle.theory.specs.Exact.{closes-at, closed-finish}
+use Rattle.theory.specs.Waits.{Stand}
 use Rattle.theory.specs.Places.{placed}
 use Rattle.theory.specs.Sorting.{Sorted}
 use Rattle.theory.specs.Sweep.{sweep, sweep-same}
@@ -152,7 +153,7 @@ module _ (t : Table) (f : TableFacts t) (i : ℕ) (r : Row t i) (promise : Part 
   other-cap x q e = rw (other-low t f i x q e, other-work t f i x q e, other-promised t f i x q e)
 
   -- row i below the rows of a, with b below it
-  module _ (a b : List ℕ) (rows : (x : ℕ) → In x (a ++ (i ∷ [])) → Row t x) (once : Once (a ++ (i ∷ []))) where
+  module _ (a b : List ℕ) (rows : (x : ℕ) → In x (a ++ (i ∷ [])) → Row t x) (once : Once (a ++ (i ∷ []))) (stand : Stand t a i) where
     abbrev o : List ℕ
     o = a ++ (i ∷ b)
 
@@ -181,13 +182,13 @@ module _ (t : Table) (f : TableFacts t) (i : ℕ) (r : Row t i) (promise : Part 
         done : finishes ≤ k → closing ≡ finishes
         done h =
             subst (λ (l : List ℕ). at (after p l (λ _. t .degraded) k .closing) i ≡ finishes) whole
-            (closes-at p part-known a b i rows' once (t .degraded) (f .crawls) (f .slower) finishes k
-            (rw speed at (worst-finish p part-known a b i rows' once)) h)
+            (closes-at p part-known a b i rows' once stand (t .degraded) (f .crawls) (f .slower) finishes k
+            (rw speed at (worst-finish p part-known a b i rows' once stand)) h)
 
         since : 1 ≤ closing → finishes ≤ k
         since h =
-            closed-finish p part-known a b i rows' once (t .degraded) (f .crawls) (f .slower) finishes k
-            (rw speed at (worst-finish p part-known a b i rows' once))
+            closed-finish p part-known a b i rows' once stand (t .degraded) (f .crawls) (f .slower) finishes k
+            (rw speed at (worst-finish p part-known a b i rows' once stand))
             (subst (λ (l : List ℕ). 1 ≤ at (after p l (λ _. t .degraded) k .closing) i) (sym whole) h)
 
         still : Together t f i r (promise .some) (planning t) o (λ _. t .degraded) k (λ u _ _. omega arith) k → closing ≡ 0
@@ -213,7 +214,7 @@ module _ (t : Table) (f : TableFacts t) (i : ℕ) (r : Row t i) (promise : Part 
         go (inl x) =
             lt-leb (promisedOf t i) (at (after t o (λ _. t .degraded) k .got) i) (x .short)
             ∙ sym (by-leb finishes k
-            (λ _ h. absurd (omega (arith, still x, done h, worst-finish p part-known a b i rows' once .after)))
+            (λ _ h. absurd (omega (arith, still x, done h, worst-finish p part-known a b i rows' once stand .after)))
             (λ e _. e))
         go (inr x) = le-leb (promisedOf t i) (at (after t o (λ _. t .degraded) k .got) i) (x .has) ∙ sym (le-leb finishes k (since (x .closed)))
 
@@ -223,7 +224,7 @@ module _ (t : Table) (f : TableFacts t) (i : ℕ) (r : Row t i) (promise : Part 
     part-bound =
         omega (
           arith,
-          rw part-speed at (worst-bound p part-known a b i rows' once),
+          rw part-speed at (worst-bound p part-known a b i rows' once stand),
           sum-within (cap p (t .degraded)) (a ++ (i ∷ [])) (rowsOf t) (within-rows t f (a ++ (i ∷ [])) rows once),
           sum-le (cap p (t .degraded)) (needFor t (t .degraded)) (rowsOf t)
               (λ x j. let c = cap-need p (t .degraded) x (f .runs) (f .crawls) in omega (arith, c, part-needs x (rows-in t x j))),
@@ -233,7 +234,7 @@ module _ (t : Table) (f : TableFacts t) (i : ℕ) (r : Row t i) (promise : Part 
     unfolding promisedMoment
     moment-is =
         first-agree (λ k. leb (promisedOf t i) (at (after t o (λ _. t .degraded) k .got) i)) (leb finishes) has-part (rowsTo (horizon t (t .degraded)))
-        ∙ first-on finishes (horizon t (t .degraded)) (omega (arith, worst-finish p part-known a b i rows' once .after))
+        ∙ first-on finishes (horizon t (t .degraded)) (omega (arith, worst-finish p part-known a b i rows' once stand .after))
         ∙ rw (le-leb finishes (horizon t (t .degraded)) part-bound)
 
     -- one pass over the rows down to i by rising release finds it, with the row's own cap set to its need of the part (rule 20.4)
@@ -241,7 +242,7 @@ module _ (t : Table) (f : TableFacts t) (i : ℕ) (r : Row t i) (promise : Part 
         → ((x : ℕ) → In x l → (x ≡ i → ⊥) → c x ≡ cap t (t .degraded) x) → promisedMoment t o i ≡ sweep (releaseOf t) c (releaseOf t i) 0 l
     moment-sweep l sorted same c own other =
         moment-is
-        ∙ rw part-speed at (worst-sweep p part-known a b i rows' once l sorted same)
+        ∙ rw part-speed at (worst-sweep p part-known a b i rows' once stand l sorted same)
         ∙ sweep-same (releaseOf t) (cap p (t .degraded)) c (releaseOf t i) 0 l
         (λ x j. let q = rows x (omega (arith, same x)) in
         by-eqb x i
@@ -259,13 +260,13 @@ module _ (t : Table) (f : TableFacts t) (i : ℕ) (r : Row t i) (promise : Part 
   -- an order under check 6
   module _ (o : List ℕ) (e : isOrder t o ≡ true) where
     part-order : isOrder p o ≡ true
-    unfolding isOrder
+    unfolding isArrangement isOrder
     part-order = e
 
     pub moment-order : promisedMoment t o i ≡ worstFinish p o i
     moment-order =
-        let q = placed t o e i r in
-        subst (λ (l : List ℕ). promisedMoment t l i ≡ worstFinish p l i) (sym (q .whole)) (moment-is (q .above) (q .below) (q .rows) (q .once))
+        let q = placed t f o e i r in
+        subst (λ (l : List ℕ). promisedMoment t l i ≡ worstFinish p l i) (sym (q .whole)) (moment-is (q .above) (q .below) (q .rows) (q .once) (q .stand))
 
     -- A promised moment that is in time is kept by either rule, at every clock from the deadline on, if each slot of the row's window supplies at
     -- least G (rules 9.18, 20.3).
@@ -293,12 +294,12 @@ module _ (t : Table) (f : TableFacts t) (i : ℕ) (r : Row t i) (promise : Part 
 
 module _ (t : Table) (f : TableFacts t) where
   -- what a row has to meet: its own deadline, and with its promised part as well
-  module _ (a b : List ℕ) (i : ℕ) (rows : (x : ℕ) → In x (a ++ (i ∷ [])) → Row t x) (once : Once (a ++ (i ∷ []))) where
+  module _ (a b : List ℕ) (i : ℕ) (rows : (x : ℕ) → In x (a ++ (i ∷ [])) → Row t x) (once : Once (a ++ (i ∷ []))) (stand : Stand t a i) where
     abbrev placedAt : List ℕ
     placedAt = a ++ (i ∷ b)
 
     part-moment : isPromised t i ≡ true → promisedMoment t placedAt i ≡ worstFinish (partTable t i) placedAt i
-    part-moment e = moment-is t f i (rows i (in-last a i)) (part-of t i e) a b rows once
+    part-moment e = moment-is t f i (rows i (in-last a i)) (part-of t i e) a b rows once stand
 
     pub meets-time : meets t placedAt i ≡ true → onTime t placedAt i ≡ true
     meets-time m =
@@ -318,15 +319,15 @@ module _ (t : Table) (f : TableFacts t) where
         (λ e. omega (arith, part-moment e, leb-true (worstFinish (partTable t i) placedAt i) (deadlineOf t i) (y e))))
 
   -- a row moved: what it met above a list, it meets above another, with no more rows above it
-  pub moved : (a b a' b' : List ℕ) (i : ℕ) → Within (a ++ (i ∷ [])) (rowsOf t) → Within (a' ++ (i ∷ [])) (a ++ (i ∷ [])) → meets t (a ++ (i ∷ b)) i ≡ true
-      → meets t (a' ++ (i ∷ b')) i ≡ true
-  moved a b a' b' i w s m =
+  pub moved : (a b a' b' : List ℕ) (i : ℕ) → Within (a ++ (i ∷ [])) (rowsOf t) → Within (a' ++ (i ∷ [])) (a ++ (i ∷ [])) → Stand t a i → Stand t a' i
+      → meets t (a ++ (i ∷ b)) i ≡ true → meets t (a' ++ (i ∷ b')) i ≡ true
+  moved a b a' b' i w s c c' m =
       let w' : Within (a' ++ (i ∷ [])) (rowsOf t) = λ x. omega (arith, w x, s x) in
       let rows = rows-of t (a ++ (i ∷ [])) w in
       let once = once-of t (a ++ (i ∷ [])) w in
-      time-meets a' b' i (rows-of t (a' ++ (i ∷ [])) w') (once-of t (a' ++ (i ∷ [])) w')
-      (time-moved t f a b a' b' i w s (meets-time a b i rows once m))
-      (λ e. time-moved (partTable t i) (part-known t f i (rows i (in-last a i)) (part-of t i e)) a b a' b' i w s (meets-part a b i rows once m e))
+      time-meets a' b' i (rows-of t (a' ++ (i ∷ [])) w') (once-of t (a' ++ (i ∷ [])) w') c'
+      (time-moved t f a b a' b' i w s c c' (meets-time a b i rows once c m))
+      (λ e. time-moved (partTable t i) (part-known t f i (rows i (in-last a i)) (part-of t i e)) a b a' b' i w s c c' (meets-part a b i rows once c m e))
 
   -- an order under check 6
   module _ (o : List ℕ) (e : isOrder t o ≡ true) where
@@ -363,8 +364,8 @@ module _ (t : Table) (f : TableFacts t) where
       where
         moment : isPromised t i ≡ true → promisedMoment t o i ≤ deadlineOf t i
         moment x =
-            let q = placed t o e i r in
+            let q = placed t f o e i r in
             let y = part-of t i x in
             let has = c .promised (λ _. t .degraded) (λ u. omega arith) i (is-row t i r) (y .low) in
             subst (λ (l : List ℕ). promisedOf t i ≤ at (after t l (λ _. t .degraded) (deadlineOf t i) .got) i → promisedMoment t l i ≤ deadlineOf t i) (sym (q .whole))
-            (λ h. moment-first t f i r y (q .above) (q .below) (q .rows) (q .once) (deadlineOf t i) h) has
+            (λ h. moment-first t f i r y (q .above) (q .below) (q .rows) (q .once) (q .stand) (deadlineOf t i) h) has

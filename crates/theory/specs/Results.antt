@@ -1,6 +1,8 @@
 -- The results of this crate, to be cited by name. Each is a statement about the definitions of `rules` and is preceded by what it says.
 -- Lists of rows are compared by how often each row stands in them (Counts): `In x l`, row x stands in l; `Within a b`, what stands in a
--- stands in b; `Same a b`, the two hold the same rows. A list that is within the table's rows holds each row at most once.
+-- stands in b; `Same a b`, the two hold the same rows. A list that is within the table's rows holds each row at most once. `Closed t l` says that l holds
+-- every row which one of its rows follows, and `Stand t a i` that a does so and holds the row which row i follows (Waits): every order that passes
+-- check 6 has such rows above each of its rows.
 use Prim.Native.Nat.{ℕ, _+_, _-_, _≤_, _<_}
 use mathlib.Core.Bool.{true, false, true≢false}
 use mathlib.Core.Path.{_≡_, refl, sym, subst, _∙_}
@@ -11,15 +13,15 @@ use lib.IntN.{ℤ, pos, negsuc, natAbs}
 use lib.Signed.{ltZ}
 use Rattle.rules.specs.declared.Sought.{Sought}
 use Rattle.rules.specs.declared.Table.{Table}
-use Rattle.rules.specs.Lists.{sum, greatest, erase}
-use Rattle.rules.specs.Rows.{at, isRow, isLow, isHigh, isPromised, rowsOf, releaseOf, workOf, deadlineOf, promisedOf, promiseNeed, needFor}
+use Rattle.rules.specs.Lists.{first, sum, greatest, erase}
+use Rattle.rules.specs.Rows.{at, isRow, isLow, isHigh, isPromised, rowsOf, releaseOf, workOf, deadlineOf, promisedOf, followsOf, promiseNeed, needFor}
 use Rattle.rules.specs.Tables.{Accepted}
 use Rattle.rules.specs.Orders.{isOrder}
-use Rattle.rules.specs.Slots.{State, allowance, after}
+use Rattle.rules.specs.Slots.{State, isPending, chosen, allowance, after}
 use Rattle.rules.specs.Correct.{KeptIn, Correct, CorrectOrder, earliest, Window}
 use Rattle.rules.specs.Running.{runAfter, RunServes}
 use Rattle.rules.specs.Worst.{worstSpeed, horizon, worstFinish, promisedMoment, slack}
-use Rattle.rules.specs.Choice.{passes, choice, padded}
+use Rattle.rules.specs.Choice.{lowest, unfollowed, passes, choice, padded}
 use Rattle.rules.specs.Speeds.{withSpeeds, atSpeed, slowest, fastest, InRange, LeastSpeed}
 use Rattle.theory.specs.Tests.{by-bool, not-is}
 use Rattle.theory.specs.Counts.{In, Within, Same, in-head, in-tail, in-last, erase-last, count-append, sum-within, sum-most}
@@ -28,8 +30,11 @@ use Rattle.theory.specs.Sweep.{sweep}
 use Rattle.theory.specs.Caps.{cap, cap-most, slots-most}
 use Rattle.theory.specs.Cells.{cellAt}
 use Rattle.theory.specs.Ends.{running, running-is}
-use Rattle.theory.specs.Facts.{Row, TableFacts, row-is, is-row, rows-in, facts}
+use Rattle.theory.specs.Facts.{Row, TableFacts, row-is, is-row, rows-in, facts, follows, followed-row}
 use Rattle.theory.specs.Runs.{Timely, timely, high-done, dropped, one-run}
+use Rattle.theory.specs.Waits.{Closed, Stand, stand-same}
+use Rattle.theory.specs.Waiting as Waiting
+use Rattle.theory.specs.Waiting.{unbound}
 use Rattle.theory.specs.Places.{placed, length-rows}
 use Rattle.theory.specs.Finishes.{rows-of, once-of, worst-runs, worst-slower, worst-bound, within-rows}
 use Rattle.theory.specs.Finishes as Finishes
@@ -38,7 +43,7 @@ use Rattle.theory.specs.Part.{partTable}
 use Rattle.theory.specs.Promised.{latest, slack-is, slack-meets, meets-slack, latest-by, part-of, moved, meets-kept, meets-promise, all-meet, correct}
 use Rattle.theory.specs.Promised as Promises
 use Rattle.theory.specs.Speeds.{accepted-speeds, finish-falls, moment-falls, latest-falls, correct-faster, correct-at, least-parts}
-use Rattle.theory.specs.Choosing.{choice-filled, no-order}
+use Rattle.theory.specs.Choosing.{choice-filled, no-order, lowest-stands, unfollowed-within}
 use Rattle.theory.specs.Choosing as Choosing
 
 -- row i is LO and dropped in this state: with its allowance used up, at its deadline or before, or with slots left, at its deadline (rule 19.9)
@@ -51,31 +56,32 @@ module _ (t : Table) (accepted : Accepted t) where
   abbrev f : TableFacts t
   f = facts t accepted
 
-  -- 1. SET ONLY. The worst finish of row i depends on which rows stand above it and not on their order; the rows below do not matter.
-  pub set-only : (a b c d : List ℕ) (i : ℕ) → Within (a ++ (i ∷ [])) (rowsOf t) → Same a c → worstFinish t (a ++ (i ∷ b)) i ≡ worstFinish t (c ++ (i ∷ d)) i
-  set-only a b c d i w s =
+  -- 1. SET ONLY. The worst finish of row i depends on which rows stand above it and not on their order, even where that order breaks waits among them;
+  -- the rows below do not matter.
+  pub set-only : (a b c d : List ℕ) (i : ℕ) → Within (a ++ (i ∷ [])) (rowsOf t) → Stand t a i → Same a c → worstFinish t (a ++ (i ∷ b)) i ≡ worstFinish t (c ++ (i ∷ d)) i
+  set-only a b c d i w k s =
       let both : Same (a ++ (i ∷ [])) (c ++ (i ∷ [])) = λ x. omega (arith, s x, count-append x a (i ∷ []), count-append x c (i ∷ [])) in
-      Finishes.finish-set-only t f a b c d i w (λ x. omega (arith, w x, both x)) both
+      Finishes.finish-set-only t f a b c d i w (λ x. omega (arith, w x, both x)) k (stand-same t a c i s k) both
 
   -- So does its promised moment, and so its slack.
-  pub set-only-moment : (a b c d : List ℕ) (i : ℕ) → Within (a ++ (i ∷ [])) (rowsOf t) → Same a c → isPromised t i ≡ true
+  pub set-only-moment : (a b c d : List ℕ) (i : ℕ) → Within (a ++ (i ∷ [])) (rowsOf t) → Stand t a i → Same a c → isPromised t i ≡ true
       → promisedMoment t (a ++ (i ∷ b)) i ≡ promisedMoment t (c ++ (i ∷ d)) i
-  set-only-moment a b c d i w s x =
+  set-only-moment a b c d i w k s x =
       let both : Same (a ++ (i ∷ [])) (c ++ (i ∷ [])) = λ y. omega (arith, s y, count-append y a (i ∷ []), count-append y c (i ∷ [])) in
       let v : Within (c ++ (i ∷ [])) (rowsOf t) = λ y. omega (arith, w y, both y) in
       let promise = part-of t i x in
       let r = rows-of t (a ++ (i ∷ [])) w i (in-last a i) in
       let g = Promises.part-known t f i r promise in
-      Promises.moment-is t f i r promise a b (rows-of t (a ++ (i ∷ [])) w) (once-of t (a ++ (i ∷ [])) w)
-      ∙ Finishes.finish-set-only (partTable t i) g a b c d i w v both
-      ∙ sym (Promises.moment-is t f i r promise c d (rows-of t (c ++ (i ∷ [])) v) (once-of t (c ++ (i ∷ [])) v))
+      Promises.moment-is t f i r promise a b (rows-of t (a ++ (i ∷ [])) w) (once-of t (a ++ (i ∷ [])) w) k
+      ∙ Finishes.finish-set-only (partTable t i) g a b c d i w v k (stand-same t a c i s k) both
+      ∙ sym (Promises.moment-is t f i r promise c d (rows-of t (c ++ (i ∷ [])) v) (once-of t (c ++ (i ∷ [])) v) (stand-same t a c i s k))
 
-  pub set-only-slack : (a b c d : List ℕ) (i : ℕ) → Within (a ++ (i ∷ [])) (rowsOf t) → Same a c → slack t (a ++ (i ∷ b)) i ≡ slack t (c ++ (i ∷ d)) i
+  pub set-only-slack : (a b c d : List ℕ) (i : ℕ) → Within (a ++ (i ∷ [])) (rowsOf t) → Stand t a i → Same a c → slack t (a ++ (i ∷ b)) i ≡ slack t (c ++ (i ∷ d)) i
   unfolding slack
-  set-only-slack a b c d i w s =
+  set-only-slack a b c d i w k s =
       by-bool (isPromised t i)
-      (λ e. rw (e, set-only a b c d i w s, set-only-moment a b c d i w s e))
-      (λ e. rw (e, set-only a b c d i w s))
+      (λ e. rw (e, set-only a b c d i w k s, set-only-moment a b c d i w k s e))
+      (λ e. rw (e, set-only a b c d i w k s))
 
   module _ (o : List ℕ) (order : isOrder t o ≡ true) where
     -- 2. SUSTAINABILITY. A row whose slack is not below zero has kept its deadline at every clock from d on, if every slot from the
@@ -118,25 +124,29 @@ module _ (t : Table) (accepted : Accepted t) where
 
   -- 4. SWEEP. One pass over the rows down to i, sorted by release, finds i's worst finish: the busy time grows by each row's cap from its
   -- release on, and the pass stops at a row released after i that finds the processor free.
-  pub worst-sweep : (a b : List ℕ) (i : ℕ) → Within (a ++ (i ∷ [])) (rowsOf t) → (l : List ℕ) → Sorted (releaseOf t) 0 l → Same l (a ++ (i ∷ []))
+  pub worst-sweep : (a b : List ℕ) (i : ℕ) → Within (a ++ (i ∷ [])) (rowsOf t) → Stand t a i → (l : List ℕ) → Sorted (releaseOf t) 0 l → Same l (a ++ (i ∷ []))
       → worstFinish t (a ++ (i ∷ b)) i ≡ sweep (releaseOf t) (cap t (worstSpeed t i)) (releaseOf t i) 0 l
-  worst-sweep a b i w l s p = Finishes.worst-sweep t f a b i (rows-of t (a ++ (i ∷ [])) w) (once-of t (a ++ (i ∷ [])) w) l s p
+  worst-sweep a b i w k l s p = Finishes.worst-sweep t f a b i (rows-of t (a ++ (i ∷ [])) w) (once-of t (a ++ (i ∷ [])) w) k l s p
 
   -- The promised moment is found by such a pass with the caps at G, but for i its need of the promised part there.
-  pub moment-sweep : (a b : List ℕ) (i : ℕ) → Within (a ++ (i ∷ [])) (rowsOf t) → isPromised t i ≡ true → (l : List ℕ) → Sorted (releaseOf t) 0 l
+  pub moment-sweep : (a b : List ℕ) (i : ℕ) → Within (a ++ (i ∷ [])) (rowsOf t) → Stand t a i → isPromised t i ≡ true → (l : List ℕ) → Sorted (releaseOf t) 0 l
       → Same l (a ++ (i ∷ [])) → (c : ℕ → ℕ) → c i ≡ promiseNeed t i → ((x : ℕ) → In x l → (x ≡ i → ⊥) → c x ≡ cap t (t .degraded) x)
       → promisedMoment t (a ++ (i ∷ b)) i ≡ sweep (releaseOf t) c (releaseOf t i) 0 l
-  moment-sweep a b i w x l s p c own other =
+  moment-sweep a b i w k x l s p c own other =
       let rows = rows-of t (a ++ (i ∷ [])) w in
-      Promises.moment-sweep t f i (rows i (in-last a i)) (part-of t i x) a b rows (once-of t (a ++ (i ∷ [])) w) l s p c own other
+      Promises.moment-sweep t f i (rows i (in-last a i)) (part-of t i x) a b rows (once-of t (a ++ (i ∷ [])) w) k l s p c own other
 
-  -- 5. ANTITONE. A row that passes lowest in a set passes lowest in every subset that holds it.
-  pub antitone : (s r : List ℕ) (i : ℕ) → Within s (rowsOf t) → Within r s → In i r → passes t s i ≡ true → passes t r i ≡ true
+  -- 5. ANTITONE. A row that no row of a set follows, and that passes lowest in it, passes lowest in every subset that holds it; both sets hold what their
+  -- rows follow.
+  pub antitone : (s r : List ℕ) (i : ℕ) → Within s (rowsOf t) → Closed t s → Within r s → Closed t r → In i r → unfollowed t s i ≡ true → passes t s i ≡ true
+      → passes t r i ≡ true
   unfolding passes
-  antitone s r i w v k p =
+  antitone s r i w x v y k u p =
       let j : In i s = omega (arith, v i) in
+      let less : Within r (rowsOf t) = λ z. omega (arith, w z, v z) in
       moved t f (erase i s) [] (erase i r) [] i (λ x. omega (arith, w x, erase-last i s j x))
-      (λ x. omega (arith, v x, erase-last i s j x, erase-last i r k x)) p
+      (λ x. omega (arith, v x, erase-last i s j x, erase-last i r k x)) (lowest-stands t f s (rows-of t s w) x i j u)
+      (lowest-stands t f r (rows-of t r less) y i k (unfollowed-within t s r i v u)) p
 
   -- 6. CHOICE. If the choice leaves no row, the order that it makes passes check 6 and is correct.
   pub choice-order : choice t .left ≡ [] → isOrder t (padded (choice t .placed)) ≡ true
@@ -145,21 +155,24 @@ module _ (t : Table) (accepted : Accepted t) where
   pub choice-correct : choice t .left ≡ [] → Correct t (padded (choice t .placed))
   choice-correct none = Choosing.choice-correct t f none
 
-  -- If the choice leaves rows, no order that passes check 6 is correct.
+  -- If the choice leaves rows, no order that passes check 6 is correct: none that keeps all waits.
   pub choice-none : (x : ℕ) → In x (choice t .left) → (o : List ℕ) → isOrder t o ≡ true → Correct t o → ⊥
   choice-none x i o e c = Choosing.choice-none t f x i o e c
 
-  -- In the set that the choice leaves no row passes lowest.
-  pub choice-stuck : (x : ℕ) → In x (choice t .left) → passes t (choice t .left) x ≡ false
+  -- The set that the choice leaves holds what its rows follow, and in it no row that none of them follows passes lowest.
+  pub choice-closed : Closed t (choice t .left)
+  choice-closed = choice-filled t f .filling .closed
+
+  pub choice-stuck : (x : ℕ) → In x (choice t .left) → unfollowed t (choice t .left) x ≡ true → passes t (choice t .left) x ≡ false
   choice-stuck = choice-filled t f .stuck
 
   -- The rows placed and the rows left are together the rows of the table.
   pub choice-every : Same (choice t .left ++ choice t .placed) (rowsOf t)
   choice-every = choice-filled t f .filling .every
 
-  -- Any set of rows in which no row passes lowest rules out every order.
-  pub stuck-none : (s : List ℕ) → Within s (rowsOf t) → ((x : ℕ) → In x s → passes t s x ≡ false) → (x : ℕ) → In x s → (o : List ℕ)
-      → isOrder t o ≡ true → Correct t o → ⊥
+  -- Any such set of rows rules out every order.
+  pub stuck-none : (s : List ℕ) → Within s (rowsOf t) → Closed t s → ((x : ℕ) → In x s → unfollowed t s x ≡ true → passes t s x ≡ false) → (x : ℕ) → In x s
+      → (o : List ℕ) → isOrder t o ≡ true → Correct t o → ⊥
   stuck-none = no-order t f
 
   latest-release : (l : List ℕ) → ((x : ℕ) → In x l → Row t x) → greatest (releaseOf t) l ≤ 1000000
@@ -182,20 +195,20 @@ module _ (t : Table) (accepted : Accepted t) where
       )
 
   -- A worst finish is at most 65,001,024 slots.
-  pub finish-bound : (a b : List ℕ) (i : ℕ) → Within (a ++ (i ∷ [])) (rowsOf t) → worstFinish t (a ++ (i ∷ b)) i ≤ 65001024
-  finish-bound a b i w =
+  pub finish-bound : (a b : List ℕ) (i : ℕ) → Within (a ++ (i ∷ [])) (rowsOf t) → Stand t a i → worstFinish t (a ++ (i ∷ b)) i ≤ 65001024
+  finish-bound a b i w k =
       omega (
         arith,
-        worst-bound t f a b i (rows-of t (a ++ (i ∷ [])) w) (once-of t (a ++ (i ∷ [])) w),
+        worst-bound t f a b i (rows-of t (a ++ (i ∷ [])) w) (once-of t (a ++ (i ∷ [])) w) k,
         sum-bound (worstSpeed t i) (worst-runs t f i) (a ++ (i ∷ [])) w,
       )
 
   -- Under an order that passes check 6 this holds of every row.
   pub order-bound : (o : List ℕ) → isOrder t o ≡ true → (i : ℕ) → isRow t i ≡ true → worstFinish t o i ≤ 65001024
   order-bound o e i r =
-      let p = placed t o e i (row-is t i r) in
+      let p = placed t f o e i (row-is t i r) in
       subst (λ (l : List ℕ). worstFinish t l i ≤ 65001024) (sym (p .whole))
-      (finish-bound (p .above) (p .below) i (within-rows t f (p .above ++ (i ∷ [])) (p .rows) (p .once)))
+      (finish-bound (p .above) (p .below) i (within-rows t f (p .above ++ (i ∷ [])) (p .rows) (p .once)) (p .stand))
 
   -- The run at exactly G, in which promised moments are looked for, is as short.
   pub horizon-bound : (s : ℕ) → 1 ≤ s → horizon t s ≤ 65001024
@@ -214,11 +227,11 @@ module _ (t : Table) (accepted : Accepted t) where
   pub latest-bound : (o : List ℕ) → isOrder t o ≡ true → (i : ℕ) → isRow t i ≡ true → latest t o i ≤ 65001024
   latest-bound o e i r =
       latest-by t o i 65001024 (order-bound o e i r)
-      (λ x. let p = placed t o e i (row-is t i r) in
+      (λ x. let p = placed t f o e i (row-is t i r) in
       subst (λ (l : List ℕ). promisedMoment t l i ≤ 65001024) (sym (p .whole))
       (omega (
         arith,
-        Promises.moment-bound t f i (row-is t i r) (part-of t i x) (p .above) (p .below) (p .rows) (p .once),
+        Promises.moment-bound t f i (row-is t i r) (part-of t i x) (p .above) (p .below) (p .rows) (p .once) (p .stand),
         horizon-bound (t .degraded) (f .crawls),
       )))
 
@@ -318,3 +331,59 @@ module _ (t : Table) (accepted : Accepted t) where
     running-dropped i r σ k =
         subst (λ (x : State). 1 ≤ at (x .closing) i → (at (x .got) i ≡ workOf t i → ⊥) → DroppedIn t x i)
         (running-is t o σ k) (λ c n. let d = dropped t f o σ i (row-is t i r) k c n in (d .low, d .why))
+
+    -- 10. WAITS. Under an order that passes check 6 waiting changes no slot, whatever the state: the row that a slot runs is the first from the top that is
+    -- released and open.
+    pub first-pending : (s : State) → chosen t o s ≡ first (isPending t s) o
+    first-pending s = Waiting.chosen-pending t f o order s
+
+    -- So its runs, by either rule, are those of the table that states no wait, and it is correct there exactly if it is here, with the same
+    -- worst finishes, promised moments and slacks.
+    pub waits-run : (σ : ℕ → ℕ) (k : ℕ) → (after t o σ k ≡ after (unbound t) o σ k) × (runAfter t o σ k ≡ runAfter (unbound t) o σ k)
+    waits-run σ k = (Waiting.same-after t f o order σ k, Waiting.same-run t f o order σ k)
+
+    pub waits-correct : Correct t o ↔ Correct (unbound t) o
+    waits-correct = Waiting.same-correct t f o order
+
+    pub waits-finish : (i : ℕ) → worstFinish t o i ≡ worstFinish (unbound t) o i
+    waits-finish = Waiting.same-finish t f o order
+
+    pub waits-moment : (i : ℕ) → promisedMoment t o i ≡ promisedMoment (unbound t) o i
+    waits-moment = Waiting.same-moment t f o order
+
+    pub waits-slack : (i : ℕ) → slack t o i ≡ slack (unbound t) o i
+    waits-slack = Waiting.same-slack t f o order
+
+    -- In every run by the running rule, at every clock k, the row that a follower with a slot used follows is closed, and all slots that the follower has used
+    -- came after that: closing slot and slots used are together no more than k.
+    pub follower-later : (i : ℕ) → isRow t i ≡ true → 1 ≤ followsOf t i → (σ : ℕ → ℕ) (k : ℕ) → 1 ≤ at (runAfter t o σ k .used) i
+        → (1 ≤ at (runAfter t o σ k .closing) (followsOf t i)) × (at (runAfter t o σ k .closing) (followsOf t i) + at (runAfter t o σ k .used) i ≤ k)
+    follower-later i r some σ k =
+        subst (λ (x : State). 1 ≤ at (x .used) i → (1 ≤ at (x .closing) (followsOf t i)) × (at (x .closing) (followsOf t i) + at (x .used) i ≤ k)) (running-is t o σ k)
+        (λ h. let l = Waiting.used-later t f (running t) o σ i (row-is t i r) some k h in (l .closed, l .after))
+
+    -- If that row is HI, the row that it follows is done: a HI row follows no LO row, and a HI row is closed by nothing else.
+    pub high-follower-later : (i : ℕ) → isRow t i ≡ true → isHigh t i ≡ true → 1 ≤ followsOf t i → (σ : ℕ → ℕ) (k : ℕ) → 1 ≤ at (runAfter t o σ k .used) i
+        → at (runAfter t o σ k .got) (followsOf t i) ≡ workOf t (followsOf t i)
+    high-follower-later i r h some σ k used =
+        let own = row-is t i r in
+        running-high (followsOf t i) (is-row t (followsOf t i) (followed-row t f i own some)) (follows t accepted i own some .level h) σ k (follower-later i r some σ k used .0)
+
+  -- In a trial the rows above stand in trial sequence, which may break waits among them. Of rows left that hold what one of them follows, a row that none of
+  -- them follows has the slack lowest that it has below them in any other order, and that it has in the table without waits.
+  module _ (left : List ℕ) (within : Within left (rowsOf t)) (closed : Closed t left) (i : ℕ) (own : In i left) (alone : unfollowed t left i ≡ true) where
+    trial-within : Within (lowest left i) (rowsOf t)
+    trial-within x = omega (arith, within x, erase-last i left own x)
+
+    trial-stand : Stand t (erase i left) i
+    trial-stand = lowest-stands t f left (rows-of t left within) closed i own alone
+
+    pub trial-set : (c : List ℕ) → Same (erase i left) c → slack t (lowest left i) i ≡ slack t (c ++ (i ∷ [])) i
+    trial-set c same = set-only-slack (erase i left) [] c [] i trial-within trial-stand same
+
+    pub trial-free : slack t (lowest left i) i ≡ slack (unbound t) (lowest left i) i
+    trial-free = Waiting.lowest-slack t f (erase i left) [] i (rows-of t (lowest left i) trial-within) (once-of t (lowest left i) trial-within) trial-stand
+
+  -- Every accepted table has an order that passes check 6: its rows by their numbers.
+  pub some-order : isOrder t (padded (rowsOf t)) ≡ true
+  some-order = Choosing.numbered-order t f

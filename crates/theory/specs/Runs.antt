@@ -2,29 +2,29 @@
 -- their deadlines and HI rows only when they are done (rules 19.2, 19.4); why a row was dropped (rule 19.9); and under a correct order, at
 -- supplies of at least N, the two rules make one run (rule 19.6).
 use Prim.Native.Nat.{ℕ, zero, suc, _+_, _≤_, _<_}
-use mathlib.Core.Bool.{Bool, true, false, _&&_, cond}
-use mathlib.Core.Path.{_≡_, refl, sym, ap, subst, _∙_}
+use mathlib.Core.Bool.{true, false, _&&_}
+use mathlib.Core.Path.{_≡_, refl, sym, ap, _∙_}
 use mathlib.Core.List.{List, _++_}
 use mathlib.Core.Logic.{_⊎_, inl, inr}
 use native.Mathlib.Omega.{arith}
-use lib.Dec.{eqb, leb}
+use lib.Dec.{leb}
 use lib.ListN.{length, take, drop, take-append-drop}
-use borrow.Author.Tests.{le-leb, lt-leb, eq-eqb}
 use Rattle.rules.specs.declared.Table.{Table}
 use Rattle.rules.specs.Correct.{Correct, earliest}
 use Rattle.rules.specs.Orders.{isOrder}
-use Rattle.rules.specs.Rows.{at, isRow, isLow, releaseOf, workOf, deadlineOf}
+use Rattle.rules.specs.Rows.{at, isRow, isLow, workOf, deadlineOf}
 use Rattle.rules.specs.Running.{isDue, closeLate, runSlot, runAfter}
-use Rattle.rules.specs.Slots.{State, allowance, isReady, chosen, isOver, slot, after}
+use Rattle.rules.specs.Slots.{State, allowance, isPending, chosen, isOver, slot, after}
 use Rattle.theory.specs.Tests.{by-bool, by-eqb, by-leb, not-both, and-left}
 use Rattle.theory.specs.Counts.{In}
-use Rattle.theory.specs.Facts.{Row, row-is, is-row, in-rows, count-zero, TableFacts}
-use Rattle.theory.specs.Cells.{Cell, cellAt, grown, served, fresh-cell, sized-slot, chosen-above}
+use Rattle.theory.specs.Facts.{Row, row-is, is-row, in-rows, rows-in, count-zero, TableFacts}
+use Rattle.theory.specs.Cells.{Cell, cellAt, grown, served, fresh-cell, sized-slot, pending-is, is-pending}
 use Rattle.theory.specs.Ends.{planning, running, stateBy, sized-by, clock-by}
 use Rattle.theory.specs.Finishes.{worst-slower}
 use Rattle.theory.specs.Invariant.{Held, Over, workedBy, cell-served, cell-other, clock-worked, ran, held}
 use Rattle.theory.specs.Late.{closed-at, closed-none}
-use Rattle.theory.specs.Places.{order-rows}
+use Rattle.theory.specs.Waits.{chosen-above}
+use Rattle.theory.specs.Places.{order-rows, order-closed}
 use Rattle.theory.specs.Verdict.{kept, all-timely}
 
 -- no open row of the table is due: the look at the clock changes nothing
@@ -41,29 +41,27 @@ pub step-none : (t : Table) (o : List ℕ) (v : ℕ) (s : State)
 unfolding runSlot
 step-none t o v s h = close-none t (slot t o v s) h
 
--- an idle slot: no row of the table is ready
-pub none-ready : (t : Table) (o : List ℕ) → isOrder t o ≡ true → (s : State) → chosen t o s ≡ 0 → (i : ℕ) → Row t i → isReady t s i ≡ true → ⊥
-none-ready t o e s z i r ready =
+-- an idle slot: no row of the table is released and open
+pub none-pending : (t : Table) → TableFacts t → (o : List ℕ) → isOrder t o ≡ true → (s : State) → chosen t o s ≡ 0 → (i : ℕ) → isPending t s i ≡ true → ⊥
+none-pending t f o e s z i pending =
+    let r = pending-is t s i pending .row in
     let n = t .n in
     let rows = order-rows t o e in
-    let above : In (chosen t (take n o ++ drop n o) s) (take n o) = chosen-above t s (take n o) (drop n o) i (omega (arith, rows i, in-rows t i r)) ready in
+    let above : In (chosen t (take n o ++ drop n o) s) (take n o) =
+    chosen-above t f s (take n o) (λ x j. rows-in t x (omega (arith, rows x))) (order-closed t f o e) (drop n o) i (omega (arith, rows i, in-rows t i r)) pending in
     let zero-above : In 0 (take n o) = rw (take-append-drop n o, z) at above in
     omega (arith, rows 0, count-zero n, zero-above)
 
--- So it drops nothing: an open row that is due after it was released before its deadline, and would be ready.
+-- So it drops nothing: an open row that is due after it was released before its deadline, and would be such a row.
 pub idle-step : (t : Table) → TableFacts t → (o : List ℕ) → isOrder t o ≡ true → (v : ℕ) (s : State) → chosen t o s ≡ 0 → runSlot t o v s ≡ slot t o v s
-unfolding slot isReady
+unfolding slot
 idle-step t f o e v s z = step-none t o v s not-due
   where
     not-due : (i : ℕ) → isRow t i ≡ true → at (slot t o v s .closing) i ≡ 0 → isDue t (slot t o v s .clock) i ≡ false
     not-due i r c =
         by-bool (isLow t i)
         (λ l. by-leb (deadlineOf t i) (s .clock + 1)
-        (λ _ d. absurd (none-ready t o e s z i (row-is t i r) (rw (
-          r,
-          le-leb (releaseOf t i) (s .clock) (omega (arith, d, f .row i (row-is t i r) .before)),
-          eq-eqb (at (s .closing) i) 0 (rw z at c),
-        ))))
+        (λ _ d. absurd (none-pending t f o e s z i (is-pending t s i (row-is t i r) (omega (arith, d, f .row i (row-is t i r) .before)) (rw z at c))))
         (λ w _. rw (z, l, w)))
         (λ l. rw l)
 

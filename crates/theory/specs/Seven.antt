@@ -2,25 +2,25 @@
 -- are gone through slot by slot: a slot that supplies more than the largest work does what one does that supplies just that.
 use Prim.Native.Nat.{ℕ, zero, suc, _+_, _-_, _≤_, min}
 use mathlib.Core.Bool.{Bool, true, false, _&&_, true≢false}
-use mathlib.Core.Path.{_≡_, refl, sym, _∙_}
+use mathlib.Core.Path.{_≡_, refl, sym}
 use mathlib.Core.List.{List, [], _∷_}
 use native.Mathlib.Omega.{arith}
-use lib.Dec.{T, eqb, ltb, leb}
+use lib.Dec.{eqb, ltb, leb}
 use lib.ListN.{getD}
 use borrow.Author.Tests.{leb-true, eqb-true}
 use Rattle.rules.specs.declared.Table.{Table}
-use Rattle.rules.specs.Choice.{padded, choice, sequence, fill, taker, passes, word, planOf}
-use Rattle.rules.specs.Correct.{KeptIn, Correct, CorrectOrder}
+use Rattle.rules.specs.Choice.{padded, choice, sequence, fill, taker, unfollowed, passes, word, planOf}
+use Rattle.rules.specs.Correct.{KeptIn, CorrectOrder}
 use Rattle.rules.specs.Judge.{tableOf}
 use Rattle.rules.specs.LateCases.{trouble}
 use Rattle.rules.specs.Lists.{all}
 use Rattle.rules.specs.Need.{workSlots}
 use Rattle.rules.specs.Numbers.{plannedNumber}
-use Rattle.rules.specs.Orders.{isOrder}
+use Rattle.rules.specs.Orders.{isArrangement, isOrder}
 use Rattle.rules.specs.Rows.{at, isRow, isHigh, workOf, deadlineOf, promisedOf}
 use Rattle.rules.specs.Running.{closeLate, runSlot, runAfter, RunServes}
-use Rattle.rules.specs.Slots.{State, fresh, isReady, chosen, isOver, brought, serve, slot}
-use Rattle.rules.specs.Tables.{rowOk, promiseOk, tailOk, checkTable, Accepted}
+use Rattle.rules.specs.Slots.{State, fresh, isPending, isWaiting, isReady, chosen, isOver, brought, serve, slot}
+use Rattle.rules.specs.Tables.{rowOk, promiseOk, checkWait, tailOk, checkTable, Accepted}
 use Rattle.rules.specs.Worst.{horizon, worstFinish, slack, meets}
 use Rattle.theory.specs.Counts.{In}
 use Rattle.theory.specs.Facts.{row-is}
@@ -103,11 +103,11 @@ each-course low speeds cover σ h (suc k) p e =
 kept-normal : (each trouble order (2 ∷ 3 ∷ []) 2 (hasKept trouble 1) ≡ true)
     × (each trouble order (2 ∷ 3 ∷ []) 3 (hasKept trouble 2) ≡ true)
     × (each trouble order (2 ∷ 3 ∷ []) 4 (hasKept trouble 3) ≡ true)
-unfolding fresh isReady chosen isOver brought serve slot workSlots tableOf padded closeLate runSlot
+unfolding fresh isPending isWaiting isReady chosen isOver brought serve slot workSlots tableOf padded closeLate runSlot
 kept-normal = (refl, refl, refl)
 
 kept-degraded : (each trouble order (1 ∷ 2 ∷ 3 ∷ []) 2 (hasKept trouble 1) ≡ true) × (each trouble order (1 ∷ 2 ∷ 3 ∷ []) 4 (hasKept trouble 3) ≡ true)
-unfolding fresh isReady chosen isOver brought serve slot workSlots tableOf padded closeLate runSlot
+unfolding fresh isPending isWaiting isReady chosen isOver brought serve slot workSlots tableOf padded closeLate runSlot
 kept-degraded = (refl, refl)
 
 by-row {ℓ} : (P : ℕ → Type ℓ) (i : ℕ) → isRow trouble i ≡ true → P 1 → P 2 → P 3 → P i
@@ -136,20 +136,20 @@ trouble-serves =
 
 -- it is an order of an accepted table
 pub trouble-order : isOrder trouble order ≡ true
-unfolding tableOf isOrder padded
+unfolding tableOf isArrangement isOrder padded
 trouble-order = refl
 
 pub trouble-accepted : Accepted trouble
-unfolding tableOf checkTable rowOk promiseOk tailOk
+unfolding tableOf checkTable rowOk promiseOk checkWait tailOk
 trouble-accepted = refl
 
 -- the planner's number is 7, and indeed no order is correct
 pub trouble-seven : plannedNumber (planOf trouble .answer) ≡ 7
-unfolding plannedNumber planOf padded passes sequence choice fill taker word tableOf workSlots fresh isReady chosen isOver brought serve slot checkTable rowOk promiseOk tailOk horizon worstFinish slack meets
+unfolding plannedNumber planOf padded unfollowed passes sequence choice fill taker word tableOf workSlots fresh isPending isWaiting isReady chosen isOver brought serve slot checkTable rowOk promiseOk checkWait tailOk horizon worstFinish slack meets
 trouble-seven = refl
 
 pub trouble-none : CorrectOrder trouble → ⊥
-unfolding padded passes sequence choice fill taker tableOf workSlots fresh isReady chosen isOver brought serve slot horizon worstFinish slack meets
+unfolding padded unfollowed passes sequence choice fill taker tableOf workSlots fresh isPending isWaiting isReady chosen isOver brought serve slot horizon worstFinish slack meets
 trouble-none c = choice-none trouble trouble-accepted 1 left (c .order) (c .passes) (c .correct)
   where
     left : In 1 (choice trouble .left)

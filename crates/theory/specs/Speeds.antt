@@ -3,16 +3,16 @@
 -- not do: allowances change with the speeds.
 use Prim.Native.Nat.{ℕ, _≤_}
 use mathlib.Core.Bool.{true}
-use mathlib.Core.Path.{_≡_, refl, sym, subst, _∙_}
+use mathlib.Core.Path.{_≡_, refl, sym, ap, subst, _∙_}
 use mathlib.Core.List.{List, [], _∷_, _++_}
 use mathlib.Core.Logic.{_↔_}
 use native.Mathlib.Omega.{arith}
 use lib.Dec.{eqb}
 use borrow.Author.Tests.{leb-true, le-leb}
 use Rattle.rules.specs.declared.Table.{Table}
-use Rattle.rules.specs.Rows.{isLow, isPromised, releaseOf, workOf, promisedOf, deadlineOf}
-use Rattle.rules.specs.Tables.{speedsOk, rowOk, promiseOk, tailOk, checkTable, Accepted}
-use Rattle.rules.specs.Orders.{isOrder}
+use Rattle.rules.specs.Rows.{rowsOf, isLow, isPromised, releaseOf, workOf, promisedOf, deadlineOf}
+use Rattle.rules.specs.Tables.{speedsOk, rowOk, promiseOk, andThen, checkWait, checkWaits, tailOk, checkTable, Accepted}
+use Rattle.rules.specs.Orders.{isArrangement, isOrder}
 use Rattle.rules.specs.Correct.{Correct, CorrectOrder}
 use Rattle.rules.specs.Worst.{worstSpeed, worstFinish, promisedMoment}
 use Rattle.rules.specs.declared.Sought.{Sought}
@@ -23,6 +23,7 @@ use Rattle.theory.specs.Counts.{In, Once, sum-le}
 use Rattle.theory.specs.Backlog.{backlog, backlog-mono, finish-first, brings, arrivals}
 use Rattle.theory.specs.Caps.{cap, slots-fall}
 use Rattle.theory.specs.Facts.{Row, TableFacts, facts}
+use Rattle.theory.specs.Waits.{Stand}
 use Rattle.theory.specs.Places.{placed}
 use Rattle.theory.specs.Finishes.{worst-runs, worst-finish}
 use Rattle.theory.specs.Part.{partTable, part-row}
@@ -39,13 +40,19 @@ caps-backlog rel less more l h u =
 same-row : (t : Table) (n g m h i : ℕ) → Row (withSpeeds t n g) i → Row (withSpeeds t m h) i
 same-row t n g m h i r = record { from = r .from; upTo = r .upTo }
 
+-- nor which waits pass
+waits-same : (t : Table) (n g : ℕ) (l : List ℕ) → checkWaits (withSpeeds t n g) l ≡ checkWaits t l
+unfolding checkWait
+waits-same t n g [] = refl
+waits-same t n g (i ∷ l) = ap (andThen (checkWait t i)) (waits-same t n g l)
+
 -- other speeds within their limits leave an accepted table accepted
 pub accepted-speeds : (t : Table) → Accepted t → (n g : ℕ) → n ≤ 1000 → 1 ≤ g → g ≤ n → Accepted (withSpeeds t n g)
 unfolding checkTable rowOk promiseOk tailOk
 accepted-speeds t accepted n g fast crawls slower =
     let f = facts t accepted in
     let old : speedsOk (t .normal) (t .degraded) ≡ true = speeds-ok (t .normal) (t .degraded) (f .fast) (f .crawls) (f .slower) in
-    rw (speeds-ok n g fast crawls slower) (rw old at accepted)
+    rw (speeds-ok n g fast crawls slower, waits-same t n g (rowsOf t)) (rw old at accepted)
   where
     speeds-ok : (n g : ℕ) → n ≤ 1000 → 1 ≤ g → g ≤ n → speedsOk n g ≡ true
     speeds-ok n g fast crawls slower = rw (le-leb 1 n (omega arith), le-leb n 1000 fast, le-leb 1 g crawls, le-leb g n slower)
@@ -77,18 +84,18 @@ module _ (t : Table) (n g m h : ℕ) (normal : n ≤ m) (degraded : g ≤ h) whe
 
   -- check 6 does not look at speeds
   pub order-same : (o : List ℕ) → isOrder slow o ≡ isOrder fast o
-  unfolding isOrder
+  unfolding isArrangement isOrder
   order-same o = refl
 
   module _ (f : TableFacts slow) (k : TableFacts fast) where
     -- row i with the rows of a above it and b below it
-    finish-below : (a b : List ℕ) (i : ℕ) → ((x : ℕ) → In x (a ++ (i ∷ [])) → Row slow x) → Once (a ++ (i ∷ []))
+    finish-below : (a b : List ℕ) (i : ℕ) → ((x : ℕ) → In x (a ++ (i ∷ [])) → Row slow x) → Once (a ++ (i ∷ [])) → Stand t a i
         → worstFinish fast (a ++ (i ∷ b)) i ≤ worstFinish slow (a ++ (i ∷ b)) i
-    finish-below a b i rows once =
-        let before = worst-finish slow f a b i rows once in
+    finish-below a b i rows once stand =
+        let before = worst-finish slow f a b i rows once stand in
         finish-first (arrivals (releaseOf t) (cap fast (worstSpeed fast i)) (a ++ (i ∷ []))) (releaseOf t i)
         (worstFinish fast (a ++ (i ∷ b)) i) (worstFinish slow (a ++ (i ∷ b)) i)
-        (worst-finish fast k a b i (λ x j. same-row t n g m h x (rows x j)) once) (before .after)
+        (worst-finish fast k a b i (λ x j. same-row t n g m h x (rows x j)) once stand) (before .after)
         (omega (
           arith,
           before .clear,
@@ -101,8 +108,8 @@ module _ (t : Table) (n g m h : ℕ) (normal : n ≤ m) (degraded : g ≤ h) whe
     -- no row finishes later in its worst run
     pub finish-falls : (i : ℕ) → Row slow i → worstFinish fast o i ≤ worstFinish slow o i
     finish-falls i r =
-        let p = placed slow o e i r in
-        subst (λ (l : List ℕ). worstFinish fast l i ≤ worstFinish slow l i) (sym (p .whole)) (finish-below f k (p .above) (p .below) i (p .rows) (p .once))
+        let p = placed slow f o e i r in
+        subst (λ (l : List ℕ). worstFinish fast l i ≤ worstFinish slow l i) (sym (p .whole)) (finish-below f k (p .above) (p .below) i (p .rows) (p .once) (p .stand))
 
 module _ (t : Table) (n g m h : ℕ) (normal : n ≤ m) (degraded : g ≤ h) (f : TableFacts (withSpeeds t n g)) (k : TableFacts (withSpeeds t m h)) (o : List ℕ)
     (e : isOrder (withSpeeds t n g) o ≡ true) where
@@ -117,7 +124,7 @@ module _ (t : Table) (n g m h : ℕ) (normal : n ≤ m) (degraded : g ≤ h) (f 
 
   -- no row gets its promised part later: the part, as a job of its own, finishes no later
   pub moment-falls : (i : ℕ) → Row was i → isPromised t i ≡ true → promisedMoment is o i ≤ promisedMoment was o i
-  unfolding isOrder
+  unfolding isArrangement isOrder
   moment-falls i r x =
       let r' = same-row t n g m h i r in
       let before = part-known was f i r (part-of was i x) in
@@ -157,7 +164,7 @@ accepted-at Normal t accepted s q = accepted-speeds t accepted s (t .degraded) (
 
 -- and check 6 passes the same orders there
 pub order-at : (f : Sought) (t : Table) (s : ℕ) (o : List ℕ) → isOrder (atSpeed f t s) o ≡ isOrder t o
-unfolding isOrder
+unfolding isArrangement isOrder
 order-at Degraded t s o = refl
 order-at Normal t s o = refl
 

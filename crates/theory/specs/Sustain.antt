@@ -14,21 +14,22 @@ use Rattle.theory.specs.Tests.{by-eqb, by-leb}
 use Rattle.theory.specs.Counts.{In, sum-zero, sum-part}
 use Rattle.theory.specs.Backlog.{backlog, arrivals}
 use Rattle.theory.specs.Caps.{cap}
-use Rattle.theory.specs.Facts.{Row, is-row, TableFacts}
-use Rattle.theory.specs.Cells.{Cell, cellAt, served, grown, by-ready, chosen-above}
+use Rattle.theory.specs.Facts.{Row, TableFacts}
+use Rattle.theory.specs.Cells.{Cell, cellAt, served, grown, by-pending}
+use Rattle.theory.specs.Waits.{Closed, chosen-above}
 use Rattle.theory.specs.Demand.{Served, served-less, served-sum, sustained}
 use Rattle.theory.specs.Ends.{Rule, Shut, planning, running, stateBy, clock-by}
 use Rattle.theory.specs.Invariant.{Held, Over, by-over, workedBy, cell-served, cell-other, looked, clock-worked, ran, held, held-worked, under}
 use Rattle.theory.specs.Left.{left, bring, left-open, left-late, left-closed, left-waits, left-served}
 
--- the slot goes to no row of a, the rows at the top of the order: none of them has anything left after it
-pub none-left : (t : Table) (f : TableFacts t) (r : Rule t) (o a b : List ℕ) → o ≡ a ++ b → ((x : ℕ) → In x a → Row t x) → (σ : ℕ → ℕ) (s u x : ℕ)
+-- the slot goes to no row of a, the rows at the top of the order, which wait for none but rows of a: none of them has anything left after it
+pub none-left : (t : Table) (f : TableFacts t) (r : Rule t) (o a b : List ℕ) → o ≡ a ++ b → ((x : ℕ) → In x a → Row t x) → Closed t a → (σ : ℕ → ℕ) (s u x : ℕ)
     → (In (chosen t o (stateBy r o σ u)) a → ⊥) → In x a → left t s (suc u) x (cellAt (workedBy t f r o σ u) x) ≡ 0
-none-left t f rule o a b whole rows σ s u x out i =
+none-left t f rule o a b whole rows closed σ s u x out i =
     let same = cell-other t f rule o σ u x (rows x i) (λ q. out (rw q i)) in
     let now = stateBy rule o σ u in
-    by-ready t now x (is-row t x (rows x i))
-    (λ r. absurd (out (subst (λ (l : List ℕ). In (chosen t l now) a) (sym whole) (chosen-above t now a b x i r))))
+    by-pending t now x (rows x i)
+    (λ r. absurd (out (subst (λ (l : List ℕ). In (chosen t l now) a) (sym whole) (chosen-above t f now a rows closed b x i r))))
     (λ r. rw same (by-eqb (at (now .closing) x) 0
     (λ _ z. left-late t s (suc u) x (cellAt now x) (omega (arith, r z, clock-by t rule o σ u)))
     (λ _ z. left-closed t s (suc u) x (cellAt now x) z)))
@@ -42,7 +43,7 @@ closed-served t i v k y x e c =
     (λ w m n. let z : y .closing ≡ 0 = ap (λ (q : Cell). q .closing) e ∙ rw w in absurd (omega arith))
 
 -- a are the rows at the top of the order, b all below; e is not after any release
-module _ (t : Table) (f : TableFacts t) (rule : Rule t) (a b : List ℕ) (rows : (x : ℕ) → In x a → Row t x) (σ : ℕ → ℕ) where
+module _ (t : Table) (f : TableFacts t) (rule : Rule t) (a b : List ℕ) (rows : (x : ℕ) → In x a → Row t x) (closed : Closed t a) (σ : ℕ → ℕ) where
   abbrev pub stateAt : ℕ → State
   stateAt u = stateBy rule (a ++ b) σ u
 
@@ -73,7 +74,7 @@ module _ (t : Table) (f : TableFacts t) (rule : Rule t) (a b : List ℕ) (rows :
                 among = i;
                 falls = served-left (chosen t (a ++ b) (stateAt u)) (rows (chosen t (a ++ b) (stateAt u)) i) refl;
               }))
-              (λ _ i. inl (λ x j. none-left t f rule (a ++ b) a b refl rows σ s u x (λ k. omega arith) j));
+              (λ _ i. inl (λ x j. none-left t f rule (a ++ b) a b refl rows closed σ s u x (λ k. omega arith) j));
         }
 
     -- the look at the clock takes demand away, or leaves it
@@ -174,14 +175,14 @@ module _ (t : Table) (f : TableFacts t) (rule : Rule t) (o : List ℕ) (σ : ℕ
       ∙ q
 
 -- the two instances: the planning rule and the running rule, each from slot to slot
-module _ (t : Table) (f : TableFacts t) (a b : List ℕ) (rows : (x : ℕ) → In x a → Row t x) (σ : ℕ → ℕ) (s : ℕ) (s1 : 1 ≤ s) (u : ℕ) where
+module _ (t : Table) (f : TableFacts t) (a b : List ℕ) (rows : (x : ℕ) → In x a → Row t x) (closed : Closed t a) (σ : ℕ → ℕ) (s : ℕ) (s1 : 1 ≤ s) (u : ℕ) where
   abbrev leftBy : Rule t → ℕ → ℕ → ℕ
   leftBy r k x = left t s k x (cellAt (stateBy r (a ++ b) σ k) x)
 
   pub planning-serves : ((x : ℕ) → Row t x → Held t (planning t) s u x (cellAt (stateBy (planning t) (a ++ b) σ u) x))
       → Served a (bring t s u) (leftBy (planning t) u) (leftBy (planning t) (suc u))
-  planning-serves = rule-serves t f (planning t) a b rows σ s s1 u
+  planning-serves = rule-serves t f (planning t) a b rows closed σ s s1 u
 
   pub running-serves : ((x : ℕ) → Row t x → Held t (running t) s u x (cellAt (stateBy (running t) (a ++ b) σ u) x))
       → Served a (bring t s u) (leftBy (running t) u) (leftBy (running t) (suc u))
-  running-serves = rule-serves t f (running t) a b rows σ s s1 u
+  running-serves = rule-serves t f (running t) a b rows closed σ s s1 u

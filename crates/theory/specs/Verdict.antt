@@ -24,6 +24,7 @@ use Rattle.theory.specs.Ends.{Rule, planning, stateBy}
 use Rattle.theory.specs.Invariant.{Held, Over, workedBy, held, held-worked, got-high, got-normal}
 use Rattle.theory.specs.Sustain.{closed-by, over-by, look-stays, closed-stays}
 use Rattle.theory.specs.Exact.{closed-finish}
+use Rattle.theory.specs.Waits.{Closed, stand-closed}
 use Rattle.theory.specs.Places.{placed}
 use Rattle.theory.specs.Finishes.{earliest-first, worst-runs, worst-slower, worst-finish, worst-lasts, Clear, onTime, time-clear}
 
@@ -73,9 +74,9 @@ module _ (t : Table) (f : TableFacts t) where
 
   -- Row i below the rows of a, with b below it, by either rule: the slot before its finish makes it done, and no look at a clock up to
   -- its deadline can have closed it before (rule 19.3).
-  kept-below : (rule : Rule t) (a b : List ℕ) (i : ℕ) → ((x : ℕ) → In x (a ++ (i ∷ [])) → Row t x) → Clear t (a ++ (i ∷ [])) i → (σ : ℕ → ℕ)
+  kept-below : (rule : Rule t) (a b : List ℕ) (i : ℕ) → ((x : ℕ) → In x (a ++ (i ∷ [])) → Row t x) → Closed t (a ++ (i ∷ [])) → Clear t (a ++ (i ∷ [])) i → (σ : ℕ → ℕ)
       → Window t σ i (worstSpeed t i) → (k : ℕ) → deadlineOf t i ≤ k → KeptIn t (stateBy rule (a ++ (i ∷ []) ++ b) σ k) i
-  kept-below rule a b i rows c σ w k q =
+  kept-below rule a b i rows shut c σ w k q =
       let x : KeptCell t i (cellAt (stateBy rule (a ++ (i ∷ []) ++ b) σ k) i) =
       subst (KeptCell t i) (sym later)
       (record { done = got-all rule (suc last) i now hold over; closed = closed; inTime = omega (arith, hold .past, c .by) }) in
@@ -104,12 +105,12 @@ module _ (t : Table) (f : TableFacts t) where
 
       closed : 1 ≤ now .closing
       closed =
-          closed-by t f rule (a ++ (i ∷ [])) b rows σ (worstSpeed t i) (earliest t) (suc last) (worst-runs t f i) (earliest-first t) enough
+          closed-by t f rule (a ++ (i ∷ [])) b rows shut σ (worstSpeed t i) (earliest t) (suc last) (worst-runs t f i) (earliest-first t) enough
           last (omega arith) (rw next at (c .clear)) i (in-last a i) (omega (arith, c .after))
 
       over : Over t i (now .got) (now .used)
       over =
-          over-by t f rule (a ++ (i ∷ [])) b rows σ (worstSpeed t i) (earliest t) (suc last) (worst-runs t f i) (earliest-first t) enough
+          over-by t f rule (a ++ (i ∷ [])) b rows shut σ (worstSpeed t i) (earliest t) (suc last) (worst-runs t f i) (earliest-first t) enough
           last (omega arith) i own (omega (arith, next, c .by)) closed
 
       looked : cellAt (stateBy rule (a ++ (i ∷ []) ++ b) σ (suc last)) i ≡ now
@@ -127,10 +128,10 @@ module _ (t : Table) (f : TableFacts t) where
     pub kept-by : (rule : Rule t) (i : ℕ) → Row t i → onTime t o i ≡ true → (σ : ℕ → ℕ) → Window t σ i (worstSpeed t i) → (k : ℕ) → deadlineOf t i ≤ k
         → KeptIn t (stateBy rule o σ k) i
     kept-by rule i r m σ w k q =
-        let p = placed t o e i r in
+        let p = placed t f o e i r in
         let whole : o ≡ p .above ++ (i ∷ []) ++ p .below = p .whole ∙ sym (append-assoc (p .above) (i ∷ []) (p .below)) in
-        let c = time-clear t f (p .above) (p .below) i (p .rows) (p .once) (subst (λ (l : List ℕ). onTime t l i ≡ true) (p .whole) m) in
-        subst (λ (l : List ℕ). KeptIn t (stateBy rule l σ k) i) (sym whole) (kept-below rule (p .above) (p .below) i (p .rows) c σ w k q)
+        let c = time-clear t f (p .above) (p .below) i (p .rows) (p .once) (p .stand) (subst (λ (l : List ℕ). onTime t l i ≡ true) (p .whole) m) in
+        subst (λ (l : List ℕ). KeptIn t (stateBy rule l σ k) i) (sym whole) (kept-below rule (p .above) (p .below) i (p .rows) (stand-closed t (p .above) i (p .stand)) c σ w k q)
 
     pub kept : (i : ℕ) → Row t i → onTime t o i ≡ true → (σ : ℕ → ℕ) → Window t σ i (worstSpeed t i) → (k : ℕ) → deadlineOf t i ≤ k → KeptIn t (after t o σ k) i
     kept = kept-by (planning t)
@@ -138,13 +139,13 @@ module _ (t : Table) (f : TableFacts t) where
     -- row i's worst run at a clock k that is not before the horizon
     pub finished : (i : ℕ) → Row t i → (k : ℕ) → horizon t (worstSpeed t i) ≤ k → Finished t o i k
     finished i r k h =
-        let p = placed t o e i r in
+        let p = placed t f o e i r in
         let whole : p .above ++ (i ∷ []) ++ p .below ≡ o = append-assoc (p .above) (i ∷ []) (p .below) ∙ sym (p .whole) in
         let same : worstFinish t (p .above ++ (i ∷ p .below)) i ≡ worstFinish t o i = ap (λ (l : List ℕ). worstFinish t l i) (sym (p .whole)) in
-        let w = worst-finish t f (p .above) (p .below) i (p .rows) (p .once) .after in
+        let w = worst-finish t f (p .above) (p .below) i (p .rows) (p .once) (p .stand) .after in
         let closing : at (after t o (λ _. worstSpeed t i) k .closing) i ≡ worstFinish t o i =
         subst (λ (l : List ℕ). at (after t l (λ _. worstSpeed t i) k .closing) i ≡ worstFinish t o i) whole
-        (worst-lasts t f (p .above) (p .below) i (p .rows) (p .once) k h ∙ same) in
+        (worst-lasts t f (p .above) (p .below) i (p .rows) (p .once) (p .stand) k h ∙ same) in
         record {
           closing = closing;
           from = omega (arith, w, same);
@@ -170,12 +171,12 @@ module _ (t : Table) (f : TableFacts t) where
 
     pub all-timely : Correct t o → (i : ℕ) → Row t i → onTime t o i ≡ true
     all-timely c i r =
-        let p = placed t o e i r in
+        let p = placed t f o e i r in
         let whole : o ≡ p .above ++ (i ∷ []) ++ p .below = p .whole ∙ sym (append-assoc (p .above) (i ∷ []) (p .below)) in
         let k = kept-worst c i r .closed in
         subst (λ (l : List ℕ). leb (worstFinish t l i) (deadlineOf t i) ≡ true) (sym (p .whole))
         (le-leb (worstFinish t (p .above ++ (i ∷ p .below)) i) (deadlineOf t i)
-        (closed-finish t f (p .above) (p .below) i (p .rows) (p .once) (worstSpeed t i) (worst-runs t f i) (worst-slower t f i)
+        (closed-finish t f (p .above) (p .below) i (p .rows) (p .once) (p .stand) (worstSpeed t i) (worst-runs t f i) (worst-slower t f i)
         (worstFinish t (p .above ++ (i ∷ p .below)) i) (deadlineOf t i)
-        (worst-finish t f (p .above) (p .below) i (p .rows) (p .once))
+        (worst-finish t f (p .above) (p .below) i (p .rows) (p .once) (p .stand))
         (subst (λ (l : List ℕ). 1 ≤ at (after t l (λ _. worstSpeed t i) (deadlineOf t i) .closing) i) whole k)))

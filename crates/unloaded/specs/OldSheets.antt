@@ -1,5 +1,5 @@
 -- What the rules said of sheets before jobs could load: a first line of 25 bytes with n, N and G, and lines of 33 bytes for the rows. The table read
--- has K = 0, and r = 0 in every row. The program took such sheets.
+-- has K = 0, and r = 0 and w = 0 in every row. The program took such sheets.
 use Prim.Native.Nat.{ℕ, _+_, _-_, _*_}
 use mathlib.Core.Bool.{cond}
 use mathlib.Core.List.{List, [], _∷_, _++_, map}
@@ -15,9 +15,9 @@ use Rattle.rules.specs.Lists.{all, rowsTo, joined}
 use Rattle.rules.specs.Rows.{rowsOf}
 use Rattle.rules.specs.Sheets.{isLine, numberAt, readChecked}
 use Rattle.rules.specs.Tables.{countOk}
-use Rattle.unpromised.specs.OldSheets.{rowLine}
-use Rattle.unpromised.specs.OldTexts.{readText}
-use Rattle.unpromised.specs.Unpromised.{checkTable}
+use Rattle.unwaited.specs.OldSheets.{rowLine}
+use Rattle.unwaited.specs.OldTexts.{readText}
+use Rattle.unwaited.specs.Unwaited.{checkTable}
 use Rattle.unloaded.specs.Unloaded.{without}
 
 -- the byte at which row i's line starts
@@ -40,6 +40,7 @@ tableIn bytes =
       deadline = columnOf bytes n 3;
       level = columnOf bytes n 4;
       promised = replicate 64 0;
+      follows = replicate 64 0;
     }
 
 -- the reader
@@ -60,7 +61,7 @@ readOf bytes = readChecked (checkSheet bytes) (tableIn bytes)
 
 -- the sheet of a table
 unfoldable pub sheetOf : Table → List ℕ
-sheetOf t = line (t .n ∷ t .normal ∷ t .degraded ∷ []) ++ joined (rowLine t) (rowsOf t)
+sheetOf t = line (t .n ∷ t .normal ∷ t .degraded ∷ []) ++ joined (rowLine 4 t) (rowsOf t)
 
 -- the program from input to output; of its input it looked at 2,138 bytes
 unfoldable pub programText : List ℕ → List ℕ

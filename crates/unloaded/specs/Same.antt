@@ -1,5 +1,5 @@
--- A table with K = 0 whose r is all 0: what the rules say of it is what they said before jobs could load. That table is one of before for `without`, so
--- that all theorems of the crate unpromised hold of it: here they are for what the calls answer, for what a correct order is and for runs.
+-- A table with K = 0 whose r and w are all 0: what the rules say of it is what they said before jobs could load. That table is one of before for `without`,
+-- so that all theorems of the crate unwaited hold of it: here they are for what the calls answer, for what a correct order is and for runs.
 use Prim.Native.Nat.{ℕ}
 use mathlib.Core.List.{List}
 use mathlib.Core.Logic.{_↔_}
@@ -7,6 +7,7 @@ use mathlib.Core.Bool.{true}
 use mathlib.Core.Path.{_≡_, refl}
 use native.Mathlib.Omega.{arith}
 use Rattle.rules.specs.declared.Table.{Table}
+use Rattle.rules.specs.declared.Sought.{Sought}
 use Rattle.rules.specs.Calls.{Call, tellAll}
 use Rattle.rules.specs.Choice.{planOf}
 use Rattle.rules.specs.Correct.{Correct}
@@ -16,17 +17,19 @@ use Rattle.rules.specs.Need.{workSlots}
 use Rattle.rules.specs.Reports.{reportOf}
 use Rattle.rules.specs.Rows.{needOf, workOf}
 use Rattle.rules.specs.Slots.{State, after}
+use Rattle.rules.specs.Speeds.{searchOf}
 use Rattle.rules.specs.Worst.{slack}
 use Rattle.record.specs.declared.Run.{Run}
 use Rattle.record.specs.Records.{isSound, freshOf, comingSlot, oneSlot, forwardOver}
 use Rattle.theory.specs.Cells.{brought-all}
-use Rattle.unpromised.specs.OldRecords as Records
-use Rattle.unpromised.specs.OldTexts as Texts
-use Rattle.unpromised.specs.Same as Since
-use Rattle.unpromised.specs.SameRecords as SinceRecords
-use Rattle.unpromised.specs.SameTexts as SinceTexts
-use Rattle.unpromised.specs.Unpromised as Then
-use Rattle.unpromised.specs.Unpromised.{Agrees, Before, CorrectThen}
+use Rattle.unwaited.specs.OldRecords as Records
+use Rattle.unwaited.specs.OldTexts as Texts
+use Rattle.unwaited.specs.Same as Since
+use Rattle.unwaited.specs.SameAnswers as SinceAnswers
+use Rattle.unwaited.specs.SameRecords as SinceRecords
+use Rattle.unwaited.specs.SameTexts as SinceTexts
+use Rattle.unwaited.specs.Unwaited as Then
+use Rattle.unwaited.specs.Unwaited.{Agrees, Before, CorrectThen}
 use Rattle.unloaded.specs.Unloaded.{need, without}
 
 -- with K = 0, needs and what slots bring are those without loading, and check 11 passes (rules 1.8, 1.10, 2.14, 5.8)
@@ -34,9 +37,9 @@ agrees : Agrees without 0
 unfolding workSlots need
 agrees = record { need = λ c s. omega arith; brought = λ u v. brought-all 0 u v (omega arith); fits = refl }
 
-module _ (t : Table) (none : t .loading ≡ 0) (free : allZero (t .promised) ≡ true) where
+module _ (t : Table) (none : t .loading ≡ 0) (nothing : allZero (t .promised) ≡ true) (free : allZero (t .follows) ≡ true) where
   pub before : Before without t
-  before = record { loads = rw none agrees; none = free }
+  before = record { loads = rw none agrees; none = λ _. nothing; free = free }
 
   pub need-same : (i : ℕ) → needOf t i ≡ need (workOf t i) (t .normal)
   need-same = Since.need-same without t before (t .normal)
@@ -55,7 +58,7 @@ module _ (t : Table) (none : t .loading ≡ 0) (free : allZero (t .promised) ≡
     slack-same = Since.slack-same without t before o
 
     pub verdict-same : judgeOf t o ≡ Then.judgeOf without t o
-    verdict-same = Since.verdict-same without t before o
+    verdict-same = SinceAnswers.verdict-same without t before o
 
     pub report-same : (lent : List ℕ) → reportOf t o lent ≡ Texts.reportOf without t o lent
     report-same = SinceTexts.report-same without t before o
@@ -64,12 +67,15 @@ module _ (t : Table) (none : t .loading ≡ 0) (free : allZero (t .promised) ≡
     fresh-same = SinceRecords.fresh-same without t before o
 
   pub plan-same : planOf t ≡ Then.planOf without t
-  plan-same = Since.plan-same without t before
+  plan-same = SinceAnswers.plan-same without t before
+
+  pub search-same : (f : Sought) → searchOf f t ≡ Then.searchOf without f t
+  search-same f = SinceAnswers.search-same without f t before
 
 -- a record of such a table, sound or not
-module _ (r : Run) (none : r .table .loading ≡ 0) (free : allZero (r .table .promised) ≡ true) where
+module _ (r : Run) (none : r .table .loading ≡ 0) (nothing : allZero (r .table .promised) ≡ true) (free : allZero (r .table .follows) ≡ true) where
   abbrev held : Before without (r .table)
-  held = before (r .table) none free
+  held = before (r .table) none nothing free
 
   pub sound-same : isSound r ≡ Records.isSound without r
   sound-same = SinceRecords.sound-same without r held

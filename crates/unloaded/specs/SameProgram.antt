@@ -1,4 +1,4 @@
--- The program's text for any input with the fields of K = 0 and r = 0 put in is that of the program from before loading (rules 12.1, 12.2, 17.2).
+-- The program's text for any input with the fields of K = 0, r = 0 and w = 0 put in is that of the program from before loading (rules 12.1, 12.2, 17.2).
 use Prim.Native.Nat.{ℕ, _+_, _≤_}
 use mathlib.Core.Bool.{true}
 use mathlib.Core.List.{List, _++_}
@@ -13,14 +13,16 @@ use Rattle.rules.specs.Fields.{written}
 use Rattle.rules.specs.Lists.{allZero}
 use Rattle.rules.specs.Program.{programText}
 use Rattle.rules.specs.Sheets.{readChecked}
+use Rattle.rules.specs.Tables.{zeroTable}
 use Rattle.theory.specs.Tests.{by-ltb}
 use Rattle.fields.specs.Lengths.{written-long}
-use Rattle.unpromised.specs.OldSheets.{widen}
-use Rattle.unpromised.specs.OldTexts as Texts
+use Rattle.unwaited.specs.OldSheets.{lineSize, widen}
+use Rattle.unwaited.specs.OldTexts as Texts
+use Rattle.unwaited.specs.SameTexts.{text-between}
+use Rattle.unwaited.specs.Unwaited.{Before}
 use Rattle.unpromised.specs.Same.{own}
 use Rattle.unpromised.specs.SameTexts as Since
-use Rattle.unpromised.specs.SameTexts.{read-text-same}
-use Rattle.unpromised.specs.Unpromised.{loading}
+use Rattle.unpromised.specs.Unpromised.{withLoading}
 use Rattle.unloaded.specs.OldSheets.{withField}
 use Rattle.unloaded.specs.OldSheets as Old
 use Rattle.unloaded.specs.Same.{before}
@@ -61,25 +63,25 @@ kept-field bytes =
         ∙ ap (λ (l : List ℕ). take 24 bytes ++ l) (take-after (written 0) (drop 24 bytes) 8 2114 (written-long 0))
         ∙ ap₂ (λ (l m : List ℕ). l ++ (written 0 ++ m)) (sym (take-take 24 2138 bytes (omega arith))) (sym (rest-kept h))
 
--- every table that the old reader answers has K = 0, and no r but 0
-old-none : (bytes : List ℕ) → (Old.readOf bytes .table .loading ≡ 0) × (allZero (Old.readOf bytes .table .promised) ≡ true)
+-- every table that the old reader answers is one of before, without loading and with it
+both-before : (bytes : List ℕ) → let t = Old.readOf bytes .table in Before withLoading t × Before without t
 unfolding Old.readOf Old.tableIn
-old-none bytes = by (Old.checkSheet bytes)
+both-before bytes = by (Old.checkSheet bytes)
   where
-    by : (c : Check) → let t = readChecked c (Old.tableIn bytes) .table in (t .loading ≡ 0) × (allZero (t .promised) ≡ true)
-    by Passed = (refl, refl)
-    by (Refused r) = (refl, refl)
+    both : (t : Table) → t .loading ≡ 0 → allZero (t .promised) ≡ true → allZero (t .follows) ≡ true → Before withLoading t × Before without t
+    both t none nothing free = (own t nothing free, before t none nothing free)
 
--- the text for such a table, with loading and without
-text-same : (t : Table) → t .loading ≡ 0 → allZero (t .promised) ≡ true → (c : Check) → Texts.readText loading c t ≡ Texts.readText without c t
-text-same t none free c = sym (read-text-same loading t (own t free) c) ∙ read-text-same without t (before t none free) c
+    by : (c : Check) → let t = readChecked c (Old.tableIn bytes) .table in Before withLoading t × Before without t
+    by Passed = both (Old.tableIn bytes) refl refl refl
+    by (Refused r) = both zeroTable refl refl refl
 
-then-program : (bytes : List ℕ) → Texts.programText (withField bytes) ≡ Old.programText bytes
-unfolding Texts.programText Old.programText
+then-program : (bytes : List ℕ) → Texts.programText withLoading (withField bytes) ≡ Old.programText bytes
+unfolding lineSize Texts.programText Old.programText
 then-program bytes =
     let kept = take 2138 bytes in
-    let none = old-none kept in
-    rw (kept-field bytes, then-read kept) (text-same (Old.readOf kept .table) (none .0) (none .1) (Old.readOf kept .check))
+    let t = Old.readOf kept .table in
+    let b = both-before kept in
+    rw (kept-field bytes, then-read kept) (text-between withLoading without t (b .0) (b .1) (Old.readOf kept .check))
 
-pub program-same : (bytes : List ℕ) → programText (widen (withField bytes)) ≡ Old.programText bytes
+pub program-same : (bytes : List ℕ) → programText (widen 5 (widen 4 (withField bytes))) ≡ Old.programText bytes
 program-same bytes = Since.program-same (withField bytes) ∙ then-program bytes

@@ -1,6 +1,6 @@
--- Old sheets. Whatever the bytes, with the fields of K = 0 and r = 0 put in they are answered as the old reader answered them without; bytes that the
--- old reader accepted are answered 2; and the sheet of a table with K = 0 and an r of all 0 is its old sheet with those fields. The field of r = 0 is
--- put in by the crate unpromised, with whose reader, Then, the one of before K is compared first.
+-- Old sheets. Whatever the bytes, with the fields of K = 0, r = 0 and w = 0 put in they are answered as the old reader answered them without; bytes that
+-- the old reader accepted are answered 2; and the sheet of a table with K = 0 and an r and a w of all 0 is its old sheet with those fields. The fields of
+-- r = 0 and w = 0 are put in by the crates unpromised and unwaited; here the reader of before K is compared with the one of before r.
 use Prim.Native.Nat.{ℕ, _+_, _-_, _*_, _/_, _%_, _≤_, _<_}
 use mathlib.Core.Bool.{Bool, true, false, _||_, true≢false}
 use mathlib.Core.Path.{_≡_, refl, sym, ap, subst, _∙_}
@@ -23,19 +23,23 @@ use Rattle.theory.specs.Tests.{by-bool, by-ltb, by-eqb, and-left, and-right}
 use Rattle.theory.specs.Facts.{all-in, clash}
 use Rattle.fields.specs.Bytes.{field-within}
 use Rattle.fields.specs.Lengths.{written-long}
-use Rattle.unpromised.specs.OldSheets as Then
-use Rattle.unpromised.specs.OldSheets.{rowLine, widen}
+use Rattle.unwaited.specs.OldSheets as Then
+use Rattle.unwaited.specs.OldSheets.{lineSize, checkLines, readLines, rowLine, widen}
+use Rattle.unwaited.specs.Same.{check-between}
+use Rattle.unwaited.specs.Unwaited.{checkTable}
+use Rattle.unwaited.specs.Widened.{zero-field, zero-value}
+use Rattle.unpromised.specs.Same.{own}
 use Rattle.unpromised.specs.SameSheets as Since
-use Rattle.unpromised.specs.SameSheets.{zero-field, zero-value}
-use Rattle.unpromised.specs.Unpromised.{loading, checkTable}
+use Rattle.unpromised.specs.Unpromised.{withLoading}
 use Rattle.unloaded.specs.OldSheets as Old
 use Rattle.unloaded.specs.OldSheets.{withField}
+use Rattle.unloaded.specs.Same.{before}
 use Rattle.unloaded.specs.Unloaded.{without}
 
--- check 11 lets K = 0 through
-check-none : (t : Table) → t .loading ≡ 0 → checkTable loading t ≡ checkTable without t
-unfolding checkTable
-check-none t none = rw none
+-- a table that an old sheet states passes check 11, which was not there then
+check-then : (bytes : List ℕ) → checkTable withLoading (Old.tableIn bytes) ≡ checkTable without (Old.tableIn bytes)
+unfolding Old.tableIn
+check-then bytes = let t = Old.tableIn bytes in check-between withLoading without t (own t refl refl) (before t refl refl refl)
 
 -- a are the three fields of the first line, r all bytes after them
 module _ (a r : List ℕ) (head : length a ≡ 24) where
@@ -118,13 +122,13 @@ module _ (a r : List ℕ) (head : length a ≡ 24) where
   unfolding numberAt
   count-same = ap valueOf (field-kept 0 (omega arith))
 
-  column-same : (n j : ℕ) → Then.columnOf now n j ≡ Old.columnOf was n j
-  unfolding Then.columnOf Old.columnOf
-  column-same n j =
-      rw (map-agree (λ i. numberAt now (Then.lineOf i) j) (λ i. numberAt was (Old.lineOf i) j) (λ i. number-moved (33 * (i - 1)) j) (rowsTo n))
+  column-same : (n j : ℕ) → leb j 4 ≡ true → Then.columnOf 4 now n j ≡ Old.columnOf was n j
+  unfolding lineSize Then.columnOf Old.columnOf
+  column-same n j e =
+      rw (e, map-agree (λ i. numberAt now (Then.lineOf 4 i) j) (λ i. numberAt was (Old.lineOf i) j) (λ i. number-moved (33 * (i - 1)) j) (rowsTo n))
 
-  table-same : Then.tableIn now ≡ Old.tableIn was
-  unfolding Then.tableIn Old.tableIn numberAt
+  table-same : Then.tableIn 4 now ≡ Old.tableIn was
+  unfolding Then.tableIn Then.columnOf Old.tableIn numberAt
   table-same =
       rw (
         field-kept 0 (omega arith),
@@ -132,10 +136,10 @@ module _ (a r : List ℕ) (head : length a ≡ 24) where
         field-kept 16 (omega arith),
         field-new,
         zero-value,
-        column-same (valueOf (fieldAt was 0)) 1,
-        column-same (valueOf (fieldAt was 0)) 2,
-        column-same (valueOf (fieldAt was 0)) 3,
-        column-same (valueOf (fieldAt was 0)) 4,
+        column-same (valueOf (fieldAt was 0)) 1 refl,
+        column-same (valueOf (fieldAt was 0)) 2 refl,
+        column-same (valueOf (fieldAt was 0)) 3 refl,
+        column-same (valueOf (fieldAt was 0)) 4 refl,
       )
 
   short-same : ltb (length now) 33 ≡ ltb (length was) 25
@@ -150,26 +154,22 @@ module _ (a r : List ℕ) (head : length a ≡ 24) where
       (λ e h. rw e (eq-eqb (length now) (33 + 33 * n) (omega (arith, longer))))
       (λ e h. rw (e, ne-eqb (length now) (33 + 33 * n) (λ q. h (omega (arith, longer)))))
 
-  none-was : Old.tableIn was .loading ≡ 0
-  unfolding Old.tableIn
-  none-was = refl
-
   -- the whole reader
-  check-now : Then.checkSheet now ≡ Old.checkSheet was
-  unfolding Then.checkSheet Old.checkSheet
+  check-now : Then.checkSheet withLoading now ≡ Old.checkSheet was
+  unfolding lineSize checkLines Old.checkSheet
   check-now =
       rw (
         short-same,
         first-same,
         count-same,
         long-same (numberAt was 0 1),
-        all-agree (λ i. isLine now (Then.lineOf i) 4) (λ i. isLine was (Old.lineOf i) 4) (λ i. line-moved (33 * (i - 1)) 4) (rowsTo (numberAt was 0 1)),
+        all-agree (λ i. isLine now (Then.lineOf 4 i) 4) (λ i. isLine was (Old.lineOf i) 4) (λ i. line-moved (33 * (i - 1)) 4) (rowsTo (numberAt was 0 1)),
         table-same,
-        check-none (Old.tableIn was) none-was,
+        check-then was,
       )
 
-  read-now : Then.readOf now ≡ Old.readOf was
-  unfolding Then.readOf Old.readOf
+  read-now : Then.readOf withLoading now ≡ Old.readOf was
+  unfolding readLines Old.readOf
   read-now = rw (check-now, table-same)
 
 -- any bytes are 8 longer by the field
@@ -185,12 +185,12 @@ field-long bytes =
       length-drop 24 bytes,
     )
 
-pub then-read : (bytes : List ℕ) → Then.readOf (withField bytes) ≡ Old.readOf bytes
-unfolding withField Then.readOf Then.checkSheet Old.readOf Old.checkSheet
+pub then-read : (bytes : List ℕ) → Then.readOf withLoading (withField bytes) ≡ Old.readOf bytes
+unfolding withField readLines checkLines Old.readOf Old.checkSheet
 then-read bytes =
     by-ltb (length bytes) 24
     (λ _ h. short h)
-    (λ _ h. subst (λ (l : List ℕ). Then.readOf (take 24 bytes ++ (written 0 ++ drop 24 bytes)) ≡ Old.readOf l) (take-append-drop 24 bytes)
+    (λ _ h. subst (λ (l : List ℕ). Then.readOf withLoading (take 24 bytes ++ (written 0 ++ drop 24 bytes)) ≡ Old.readOf l) (take-append-drop 24 bytes)
     (read-now (take 24 bytes) (drop 24 bytes) (length-take-le 24 bytes h)))
   where
     with : List ℕ
@@ -199,11 +199,11 @@ then-read bytes =
     size : length with ≡ length bytes + 8
     size = field-long bytes
 
-    short : length bytes < 24 → Then.readOf with ≡ Old.readOf bytes
+    short : length bytes < 24 → Then.readOf withLoading with ≡ Old.readOf bytes
     short h = rw (lt-ltb (length with) 33 (omega (arith, size)), lt-ltb (length bytes) 25 (omega arith))
 
--- 1. With the fields of K = 0 and r = 0 put in, bytes are answered as they were by the old reader: number and table, refusals included.
-pub read-same : (bytes : List ℕ) → readOf (widen (withField bytes)) ≡ Old.readOf bytes
+-- 1. With the fields of K = 0, r = 0 and w = 0 put in, bytes are answered as they were by the old reader: number and table, refusals included.
+pub read-same : (bytes : List ℕ) → readOf (widen 5 (widen 4 (withField bytes))) ≡ Old.readOf bytes
 read-same bytes = Since.read-same (withField bytes) ∙ then-read bytes
 
 -- no byte of a field is a line end
@@ -264,17 +264,17 @@ first-malformed bytes h e = rw (le-ltb (length bytes) 33 h, no-fourth bytes (ome
 pub old-malformed : (bytes : List ℕ) → Old.checkSheet bytes ≡ Passed → readOf bytes ≡ record { check = Refused Malformed; table = zeroTable }
 old-malformed bytes h = let o = old-sheet bytes h in first-malformed bytes (o .long) (o .first)
 
--- 3. The sheet of a table with K = 0 and an r of all 0 is its old sheet with the field of K = 0, and with that of r = 0 at each row, and so 8 bytes
--- longer for each of these fields.
-then-sheet : (t : Table) → t .loading ≡ 0 → Then.sheetOf t ≡ withField (Old.sheetOf t)
+-- 3. The sheet of a table with K = 0 and an r and a w of all 0 is its old sheet with the field of K = 0, and with those of r = 0 and w = 0 at each row, and so
+-- 8 bytes longer for each of these fields.
+then-sheet : (t : Table) → t .loading ≡ 0 → Then.sheetOf 4 t ≡ withField (Old.sheetOf t)
 unfolding Then.sheetOf Old.sheetOf withField
-then-sheet t none = ap (λ (k : ℕ). line (t .n ∷ t .normal ∷ t .degraded ∷ k ∷ []) ++ joined (rowLine t) (rowsOf t)) none ∙ sym whole
+then-sheet t none = ap (λ (k : ℕ). line (t .n ∷ t .normal ∷ t .degraded ∷ k ∷ []) ++ joined (rowLine 4 t) (rowsOf t)) none ∙ sym whole
   where
     a : List ℕ
     a = written (t .n) ++ (written (t .normal) ++ written (t .degraded))
 
     r : List ℕ
-    r = 10 ∷ joined (rowLine t) (rowsOf t)
+    r = 10 ∷ joined (rowLine 4 t) (rowsOf t)
 
     head : length a ≡ 24
     head =
@@ -287,17 +287,19 @@ then-sheet t none = ap (λ (k : ℕ). line (t .n ∷ t .normal ∷ t .degraded �
           written-long (t .degraded),
         )
 
-    old : line (t .n ∷ t .normal ∷ t .degraded ∷ []) ++ joined (rowLine t) (rowsOf t) ≡ a ++ r
+    old : line (t .n ∷ t .normal ∷ t .degraded ∷ []) ++ joined (rowLine 4 t) (rowsOf t) ≡ a ++ r
     old = simp append-assoc
 
-    whole : take 24 (line (t .n ∷ t .normal ∷ t .degraded ∷ []) ++ joined (rowLine t) (rowsOf t))
-        ++ (written 0 ++ drop 24 (line (t .n ∷ t .normal ∷ t .degraded ∷ []) ++ joined (rowLine t) (rowsOf t)))
-        ≡ line (t .n ∷ t .normal ∷ t .degraded ∷ 0 ∷ []) ++ joined (rowLine t) (rowsOf t)
+    whole : take 24 (line (t .n ∷ t .normal ∷ t .degraded ∷ []) ++ joined (rowLine 4 t) (rowsOf t))
+        ++ (written 0 ++ drop 24 (line (t .n ∷ t .normal ∷ t .degraded ∷ []) ++ joined (rowLine 4 t) (rowsOf t)))
+        ≡ line (t .n ∷ t .normal ∷ t .degraded ∷ 0 ∷ []) ++ joined (rowLine 4 t) (rowsOf t)
     whole = rw (old, take-at a r 24 head, drop-at a r 24 head) (simp append-assoc)
 
-pub sheet-longer : (t : Table) → t .loading ≡ 0 → allZero (t .promised) ≡ true → sheetOf t ≡ widen (withField (Old.sheetOf t))
-sheet-longer t none free = Since.sheet-wider t free ∙ ap widen (then-sheet t none)
+pub sheet-longer : (t : Table) → t .loading ≡ 0 → allZero (t .promised) ≡ true → allZero (t .follows) ≡ true
+    → sheetOf t ≡ widen 5 (widen 4 (withField (Old.sheetOf t)))
+sheet-longer t none nothing free = Since.sheet-wider t nothing free ∙ ap (λ (l : List ℕ). widen 5 (widen 4 l)) (then-sheet t none)
 
-pub eights-longer : (t : Table) → t .loading ≡ 0 → allZero (t .promised) ≡ true → length (sheetOf t) ≡ length (Old.sheetOf t) + 8 + 8 * t .n
-eights-longer t none free =
-    Since.wider-by t free ∙ ap (λ (k : ℕ). k + 8 * t .n) (ap length (then-sheet t none) ∙ field-long (Old.sheetOf t))
+pub eights-longer : (t : Table) → t .loading ≡ 0 → allZero (t .promised) ≡ true → allZero (t .follows) ≡ true
+    → length (sheetOf t) ≡ length (Old.sheetOf t) + 8 + 16 * t .n
+eights-longer t none nothing free =
+    Since.wider-by t nothing free ∙ ap (λ (k : ℕ). k + 16 * t .n) (ap length (then-sheet t none) ∙ field-long (Old.sheetOf t))

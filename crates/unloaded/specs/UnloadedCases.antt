@@ -1,5 +1,5 @@
--- That the rules from before loading are those without it: P1 and P3 with a K beyond every limit, which they do not look at, and sheets of before.
--- One table of cases, computed and checked by one theorem.
+-- That the rules from before loading are those without it: P1 and P3 with a K, an r and a w beyond every limit, which they do not look at, and sheets of
+-- before. One table of cases, computed and checked by one theorem.
 use Prim.Native.Nat.{ℕ}
 use mathlib.Core.Bool.{Bool, not, _&&_}
 use mathlib.Core.List.{List, [], _∷_, map}
@@ -7,31 +7,31 @@ use lib.Dec.{T, eqb}
 use lib.ListN.{replicate}
 use Rattle.rules.specs.declared.Table.{Table}
 use Rattle.rules.specs.Calls.{one, forward}
-use Rattle.rules.specs.Cases.{job}
+use Rattle.rules.specs.Cases.{sixFigures}
 use Rattle.rules.specs.Choice.{padded, sequence, word}
 use Rattle.rules.specs.Fields.{digitAt, digitOf, written, valueOf, isField}
 use Rattle.rules.specs.Judge.{tableOf}
 use Rattle.rules.specs.Lists.{same}
 use Rattle.rules.specs.Numbers.{refusalNumber, checkNumber, plannedNumber, rowsLeft, verdictNumber, verdictYes, verdictRow}
-use Rattle.rules.specs.Orders.{isOrder, checkOrder}
+use Rattle.rules.specs.Orders.{isArrangement}
 use Rattle.rules.specs.Rows.{at, rowsOf}
 use Rattle.rules.specs.Sheets.{isLine, numberAt}
 use Rattle.rules.specs.Running.{closeLate}
-use Rattle.rules.specs.Slots.{State, fresh, isReady, chosen}
+use Rattle.rules.specs.Slots.{State, fresh, isPending}
 use Rattle.rules.specs.Tables.{rowOk}
 use Rattle.rules.specs.TextCases.{bytes}
 use Rattle.record.specs.Records.{recordOf, tailSound}
-use Rattle.unpromised.specs.OldRecords as Records
-use Rattle.unpromised.specs.Unpromised as Then
+use Rattle.unwaited.specs.OldRecords as Records
+use Rattle.unwaited.specs.Unwaited as Then
 use Rattle.unloaded.specs.OldSheets as Sheets
 use Rattle.unloaded.specs.Unloaded.{need, without}
 
--- P1 and P3 with K = 99 slots
+-- P1 and P3 with K = 99 slots; every row is promised 99 work units and follows row 99
 abbrev p1 : Table
-p1 = tableOf (job 0 20 10 1 ∷ job 5 15 10 0 ∷ job 5 11 19 1 ∷ job 0 5 5 0 ∷ []) 5 2 99
+p1 = tableOf (sixFigures 0 20 10 1 99 99 ∷ sixFigures 5 15 10 0 99 99 ∷ sixFigures 5 11 19 1 99 99 ∷ sixFigures 0 5 5 0 99 99 ∷ []) 5 2 99
 
 abbrev p3 : Table
-p3 = tableOf (job 0 2 2 0 ∷ job 0 4 4 1 ∷ []) 2 1 99
+p3 = tableOf (sixFigures 0 2 2 0 99 99 ∷ sixFigures 0 4 4 1 99 99 ∷ []) 2 1 99
 
 abbrev order : List ℕ
 order = padded (1 ∷ 2 ∷ [])
@@ -71,5 +71,5 @@ sheets =
     (bytes "       1       3       2       0\n       4      56     789       1\n")
 
 pub before-loading : T (verdicts && runs && sheets)
-unfolding padded sequence word tableOf refusalNumber checkNumber plannedNumber rowsLeft verdictNumber verdictYes verdictRow isOrder checkOrder fresh isReady chosen rowOk Then.tailOk tailSound digitAt digitOf written valueOf isField isLine numberAt Records.rowSound Records.isSound Records.nextRun Sheets.columnOf Sheets.tableIn Sheets.checkSheet Sheets.withField need Then.isOver Then.serve Then.slot Then.horizon Then.worstFinish Then.slack Then.checkTable Then.checkBoth Then.passes Then.taker Then.fill Then.choice Then.planOf Then.tightest Then.judgeOf Then.runSlot Then.tellOne Then.tellForward Then.tellAll closeLate
+unfolding padded sequence word tableOf refusalNumber checkNumber plannedNumber rowsLeft verdictNumber verdictYes verdictRow isArrangement fresh isPending rowOk tailSound digitAt digitOf written valueOf isField isLine numberAt Records.rowSound Records.isSound Records.nextRun Sheets.columnOf Sheets.tableIn Sheets.checkSheet Sheets.withField need Then.chosen Then.isOver Then.serve Then.slot Then.horizon Then.worstFinish Then.slack Then.meets Then.tailOk Then.promisesOk Then.checkTable Then.checkOrder Then.checkBoth Then.passes Then.taker Then.fill Then.choice Then.planOf Then.tightest Then.judgeOf Then.runSlot Then.tellOne Then.tellForward Then.tellAll closeLate
 before-loading = tt

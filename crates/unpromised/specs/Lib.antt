@@ -1,7 +1,4 @@
 pub mod Unpromised
-pub mod OldRecords
-pub mod OldSheets
-pub mod OldTexts
 pub mod UnpromisedCases
 pub mod Same
 pub mod SameRecords

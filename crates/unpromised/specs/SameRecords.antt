@@ -1,47 +1,37 @@
--- A record of a table whose r is all 0, sound or not, is answered as by the rules from before r (rule 20.2): check 9, fresh record, coming slot, one
+-- A record of a table whose r and w are all 0, sound or not, is answered as by the rules from before r (rule 20.2): check 9, fresh record, coming slot, one
 -- slot, forward.
-use Prim.Native.Nat.{ℕ, _+_}
-use mathlib.Core.List.{List, [], _∷_}
-use mathlib.Core.Path.{_≡_, refl}
+use Prim.Native.Nat.{ℕ}
+use mathlib.Core.Bool.{true}
+use mathlib.Core.List.{List}
+use mathlib.Core.Path.{_≡_}
 use Rattle.rules.specs.declared.Table.{Table}
-use Rattle.rules.specs.Rows.{at, rowsOf}
+use Rattle.rules.specs.Lists.{allZero}
 use Rattle.record.specs.declared.Run.{Run}
-use Rattle.record.specs.Records.{stateOf, rowSound, isSound, freshOf, nextRun, comingSlot, oneSlot, workOn, forwardOver}
-use Rattle.theory.specs.Agree.{all-agree}
-use Rattle.unpromised.specs.OldRecords as Then
-use Rattle.unpromised.specs.Unpromised.{Loads, Before}
-use Rattle.unpromised.specs.Same.{over-same, step-same, both-same}
+use Rattle.record.specs.Records.{isSound, freshOf, nextRun, comingSlot, oneSlot, forwardOver}
+use Rattle.unwaited.specs.OldRecords as Then
+use Rattle.unwaited.specs.SameRecords as Since
+use Rattle.unwaited.specs.Unwaited.{Before}
+use Rattle.unpromised.specs.Same.{own}
+use Rattle.unpromised.specs.Unpromised.{withLoading}
 
-pub fresh-same : (l : Loads) (t : Table) → Before l t → (o : List ℕ) → freshOf t o ≡ Then.freshOf l t o
-unfolding freshOf Then.freshOf
-fresh-same l t b o = rw (both-same l t b o)
+pub fresh-same : (t : Table) → allZero (t .promised) ≡ true → allZero (t .follows) ≡ true → (o : List ℕ) → freshOf t o ≡ Then.freshOf withLoading t o
+fresh-same t none free = Since.fresh-same withLoading t (own t none free)
 
-module _ (l : Loads) (r : Run) (b : Before l (r .table)) where
-  row-same : (i : ℕ) → rowSound r i ≡ Then.rowSound l r i
-  unfolding rowSound Then.rowSound
-  row-same i = rw (over-same l (r .table) b i (at (r .got) i) (at (r .used) i))
+module _ (r : Run) (none : allZero (r .table .promised) ≡ true) (free : allZero (r .table .follows) ≡ true) where
+  abbrev held : Before withLoading (r .table)
+  held = own (r .table) none free
 
-  pub sound-same : isSound r ≡ Then.isSound l r
-  unfolding isSound Then.isSound
-  sound-same = rw (both-same l (r .table) b (r .order), all-agree (rowSound r) (Then.rowSound l r) row-same (rowsOf (r .table)))
+  pub sound-same : isSound r ≡ Then.isSound withLoading r
+  sound-same = Since.sound-same withLoading r held
 
-  pub next-same : (v : ℕ) → nextRun r v ≡ Then.nextRun l r v
-  unfolding nextRun Then.nextRun
-  next-same v = rw (step-same l (r .table) b (r .order) v (stateOf r))
+  pub next-same : (v : ℕ) → nextRun r v ≡ Then.nextRun withLoading r v
+  next-same = Since.next-same withLoading r held
 
-  pub coming-same : comingSlot r ≡ Then.comingSlot l r
-  unfolding comingSlot Then.comingSlot
-  coming-same = rw sound-same
+  pub coming-same : comingSlot r ≡ Then.comingSlot withLoading r
+  coming-same = Since.coming-same withLoading r held
 
-  pub one-same : (v : ℕ) → oneSlot r v ≡ Then.oneSlot l r v
-  unfolding oneSlot Then.oneSlot
-  one-same v = rw (sound-same, next-same v)
+  pub one-same : (v : ℕ) → oneSlot r v ≡ Then.oneSlot withLoading r v
+  one-same = Since.one-same withLoading r held
 
-work-same : (l : Loads) (k : ℕ) (vs : List ℕ) (r : Run) → Before l (r .table) → workOn k vs r ≡ Then.workOn l k vs r
-unfolding workOn Then.workOn Then.nextRun
-work-same l k [] r b = refl
-work-same l k (v ∷ vs) r b = rw (next-same l r b v, work-same l (k + 1) vs (Then.nextRun l r v) b)
-
-pub forward-same : (l : Loads) (r : Run) → Before l (r .table) → (vs : List ℕ) → forwardOver r vs ≡ Then.forwardOver l r vs
-unfolding forwardOver Then.forwardOver
-forward-same l r b vs = rw (sound-same l r b, work-same l 0 vs r b)
+  pub forward-same : (vs : List ℕ) → forwardOver r vs ≡ Then.forwardOver withLoading r vs
+  forward-same = Since.forward-same withLoading r held

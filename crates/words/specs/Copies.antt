@@ -1,4 +1,4 @@
--- The turns of the two loops that copy a column, and what five or three columns written one after another make.
+-- The turns of the two loops that copy a column, and what six or three columns written one after another make.
 use Prim.Native.Nat.{ℕ, _+_, _≤_, _<_}
 use mathlib.Core.List.{List, [], _∷_, _++_, append-assoc}
 use mathlib.Core.Path.{_≡_, sym, ap, _∙_}
@@ -8,7 +8,7 @@ use lib.ListN.{length, getD, take, drop, set, length-drop}
 use lib.Seq.{take-all, take-suc, take-suc-set, getD-drop, paste, paste-suc, take-paste, length-paste}
 use Rattle.rules.specs.declared.Table.{Table}
 use Rattle.record.specs.declared.Run.{Run}
-use Rattle.words.specs.Words.{releaseFrom, workFrom, deadlineFrom, levelFrom, promisedFrom, gotFrom, usedFrom, closingFrom, wordsOf, stateWords}
+use Rattle.words.specs.Words.{releaseFrom, workFrom, deadlineFrom, levelFrom, promisedFrom, followsFrom, gotFrom, usedFrom, closingFrom, wordsOf, stateWords}
 
 -- one entry more is copied out of the words
 pub column-turn : (words out : List ℕ) (from i : ℕ) → i < length out → from + i < length words → take i out ≡ take i (drop from words)
@@ -35,34 +35,38 @@ module _ (words after column : List ℕ) (from : ℕ) (h : from + 64 ≤ length 
   put-length = rw e (length-paste words from column 64 h (omega arith))
 
 -- the words of a table, written column by column over words that begin with its four numbers
-pub table-written : (t : Table) (w a b d f g : List ℕ)
-    → length w ≡ 324
+pub table-written : (t : Table) (w a b d f g h : List ℕ)
+    → length w ≡ 388
     → take releaseFrom w ≡ t .n ∷ t .normal ∷ t .degraded ∷ t .loading ∷ []
     → length (t .release) ≡ 64
     → length (t .work) ≡ 64
     → length (t .deadline) ≡ 64
     → length (t .level) ≡ 64
     → length (t .promised) ≡ 64
+    → length (t .follows) ≡ 64
     → a ≡ paste w releaseFrom (t .release) 64
     → b ≡ paste a workFrom (t .work) 64
     → d ≡ paste b deadlineFrom (t .deadline) 64
     → f ≡ paste d levelFrom (t .level) 64
     → g ≡ paste f promisedFrom (t .promised) 64
-    → g ≡ wordsOf t
+    → h ≡ paste g followsFrom (t .follows) 64
+    → h ≡ wordsOf t
 unfolding wordsOf
-table-written t w a b d f g lw head k₁ k₂ k₃ k₄ k₅ p q r s x =
+table-written t w a b d f g h lw head k₁ k₂ k₃ k₄ k₅ k₆ p q r s x y =
     let la = put-length w a (t .release) releaseFrom (omega arith) k₁ p in
     let lb = put-length a b (t .work) workFrom (omega arith) k₂ q in
     let ld = put-length b d (t .deadline) deadlineFrom (omega arith) k₃ r in
     let lf = put-length d f (t .level) levelFrom (omega arith) k₄ s in
     let lg = put-length f g (t .promised) promisedFrom (omega arith) k₅ x in
+    let lh = put-length g h (t .follows) followsFrom (omega arith) k₆ y in
     let fa : take workFrom a ≡ take releaseFrom w ++ t .release = put-front w a (t .release) releaseFrom (omega arith) k₁ p in
     let fb : take deadlineFrom b ≡ take workFrom a ++ t .work = put-front a b (t .work) workFrom (omega arith) k₂ q in
     let fd : take levelFrom d ≡ take deadlineFrom b ++ t .deadline = put-front b d (t .deadline) deadlineFrom (omega arith) k₃ r in
     let ff : take promisedFrom f ≡ take levelFrom d ++ t .level = put-front d f (t .level) levelFrom (omega arith) k₄ s in
-    let fg : take 324 g ≡ take promisedFrom f ++ t .promised = put-front f g (t .promised) promisedFrom (omega arith) k₅ x in
-    let whole : g ≡ ((((t .n ∷ t .normal ∷ t .degraded ∷ t .loading ∷ []) ++ t .release) ++ t .work) ++ t .deadline) ++ t .level ++ t .promised =
-    sym (take-all 324 g (omega arith)) ∙ cc in
+    let fg : take followsFrom g ≡ take promisedFrom f ++ t .promised = put-front f g (t .promised) promisedFrom (omega arith) k₅ x in
+    let fh : take 388 h ≡ take followsFrom g ++ t .follows = put-front g h (t .follows) followsFrom (omega arith) k₆ y in
+    let whole : h ≡ (((((t .n ∷ t .normal ∷ t .degraded ∷ t .loading ∷ []) ++ t .release) ++ t .work) ++ t .deadline) ++ t .level) ++ t .promised ++ t .follows =
+    sym (take-all 388 h (omega arith)) ∙ cc in
     whole ∙ simp append-assoc
 
 -- the words of a state, written column by column over words that begin with its clock

@@ -23,8 +23,9 @@ last-column from l e = take-all 64 (drop from l) (simp length-drop (omega arith)
 three-columns : (l : List ℕ) → length l ≡ 192 → columnAt 0 l ++ (columnAt 64 l ++ columnAt 128 l) ≡ l
 three-columns l e = rw (last-column 128 l e, next-column 64 l, next-column 0 l)
 
-five-columns : (l : List ℕ) → length l ≡ 320 → columnAt 0 l ++ (columnAt 64 l ++ (columnAt 128 l ++ (columnAt 192 l ++ columnAt 256 l))) ≡ l
-five-columns l e = rw (last-column 256 l e, next-column 192 l, next-column 128 l, next-column 64 l, next-column 0 l)
+six-columns : (l : List ℕ) → length l ≡ 384
+    → columnAt 0 l ++ (columnAt 64 l ++ (columnAt 128 l ++ (columnAt 192 l ++ (columnAt 256 l ++ columnAt 320 l)))) ≡ l
+six-columns l e = rw (last-column 320 l e, next-column 256 l, next-column 192 l, next-column 128 l, next-column 64 l, next-column 0 l)
 
 drop-two : (a b y : List ℕ) → length a ≡ 64 → length b ≡ 64 → drop 128 (a ++ (b ++ y)) ≡ y
 drop-two a b y p q = sym (drop-drop 64 64 (a ++ (b ++ y))) ∙ ap (drop 64) (drop-at a (b ++ y) 64 p) ∙ drop-at b y 64 q
@@ -36,16 +37,21 @@ drop-four : (a b d l y : List ℕ) → length a ≡ 64 → length b ≡ 64 → l
 drop-four a b d l y p q r s =
     sym (drop-drop 64 192 (a ++ (b ++ (d ++ (l ++ y))))) ∙ ap (drop 64) (drop-three a b d (l ++ y) p q r) ∙ drop-at l y 64 s
 
+drop-five : (a b d l g y : List ℕ) → length a ≡ 64 → length b ≡ 64 → length d ≡ 64 → length l ≡ 64 → length g ≡ 64
+    → drop 320 (a ++ (b ++ (d ++ (l ++ (g ++ y))))) ≡ y
+drop-five a b d l g y p q r s x =
+    sym (drop-drop 64 256 (a ++ (b ++ (d ++ (l ++ (g ++ y)))))) ∙ ap (drop 64) (drop-four a b d l (g ++ y) p q r s) ∙ drop-at g y 64 x
+
 -- ---- tables
 
--- 324 words are the words of the table that they hold
-pub words-of-table-in : (words : List ℕ) → length words ≡ 324 → wordsOf (tableIn words) ≡ words
+-- 388 words are the words of the table that they hold
+pub words-of-table-in : (words : List ℕ) → length words ≡ 388 → wordsOf (tableIn words) ≡ words
 unfolding wordsOf tableIn
 words-of-table-in [] e = absurd (omega arith)
 words-of-table-in (n ∷ []) e = absurd (omega arith)
 words-of-table-in (n ∷ normal ∷ []) e = absurd (omega arith)
 words-of-table-in (n ∷ normal ∷ degraded ∷ []) e = absurd (omega arith)
-words-of-table-in (n ∷ normal ∷ degraded ∷ loading ∷ l) e = ap (λ (k : List ℕ). n ∷ normal ∷ degraded ∷ loading ∷ k) (five-columns l (omega arith))
+words-of-table-in (n ∷ normal ∷ degraded ∷ loading ∷ l) e = ap (λ (k : List ℕ). n ∷ normal ∷ degraded ∷ loading ∷ k) (six-columns l (omega arith))
 
 -- a table is the one that its words hold
 pub table-in-words-of : (t : Table) → FullTable t → tableIn (wordsOf t) ≡ t
@@ -56,16 +62,19 @@ table-in-words-of t f =
     let d = t .deadline in
     let l = t .level in
     let p = t .promised in
+    let w = t .follows in
     rw (
-      take-at a (b ++ (d ++ (l ++ p))) 64 (f .release),
-      drop-at a (b ++ (d ++ (l ++ p))) 64 (f .release),
-      take-at b (d ++ (l ++ p)) 64 (f .work),
-      drop-two a b (d ++ (l ++ p)) (f .release) (f .work),
-      take-at d (l ++ p) 64 (f .deadline),
-      drop-three a b d (l ++ p) (f .release) (f .work) (f .deadline),
-      take-at l p 64 (f .level),
-      drop-four a b d l p (f .release) (f .work) (f .deadline) (f .level),
-      take-all 64 p (omega (arith, f .promised)),
+      take-at a (b ++ (d ++ (l ++ (p ++ w)))) 64 (f .release),
+      drop-at a (b ++ (d ++ (l ++ (p ++ w)))) 64 (f .release),
+      take-at b (d ++ (l ++ (p ++ w))) 64 (f .work),
+      drop-two a b (d ++ (l ++ (p ++ w))) (f .release) (f .work),
+      take-at d (l ++ (p ++ w)) 64 (f .deadline),
+      drop-three a b d (l ++ (p ++ w)) (f .release) (f .work) (f .deadline),
+      take-at l (p ++ w) 64 (f .level),
+      drop-four a b d l (p ++ w) (f .release) (f .work) (f .deadline) (f .level),
+      take-at p w 64 (f .promised),
+      drop-five a b d l p w (f .release) (f .work) (f .deadline) (f .level) (f .promised),
+      take-all 64 w (omega (arith, f .follows)),
     )
 
 -- ---- states

@@ -1,5 +1,6 @@
--- Tables (rules 1.7, 1.10, 1.11, 5.4) and run records (rule 8.1) as the words that a C caller lends.
--- A table is n, N, G (work units per slot), K (slots), then the columns release, work, deadline, level, promised of 64 entries each: 324 words.
+-- Tables (rules 1.7, 1.10 to 1.12, 5.4) and run records (rule 8.1) as the words that a C caller lends.
+-- A table is n, N, G (work units per slot), K (slots), then the columns release, work, deadline, level, promised, follows of 64 entries each:
+-- 388 words.
 -- A run's state is the clock in slots, then the columns got, used, closing of 64 entries each: 193 words (rule 2.13).
 use Prim.Native.Nat.{ℕ, _+_, _*_}
 use mathlib.Core.List.{List, _∷_, _++_}
@@ -23,6 +24,9 @@ levelFrom = 4 + 64 * 3
 abbrev pub promisedFrom : ℕ
 promisedFrom = 4 + 64 * 4
 
+abbrev pub followsFrom : ℕ
+followsFrom = 4 + 64 * 5
+
 -- where the columns of a state's words begin, after the clock (rule 2.13)
 abbrev pub gotFrom : ℕ
 gotFrom = 1
@@ -37,7 +41,7 @@ closingFrom = 1 + 64 * 2
 abbrev pub columnAt : ℕ → List ℕ → List ℕ
 columnAt from words = take 64 (drop from words)
 
--- the table that words hold (rules 1.1, 1.7, 1.10, 1.11, 5.4)
+-- the table that words hold (rules 1.1, 1.7, 1.10 to 1.12, 5.4)
 unfoldable pub tableIn : List ℕ → Table
 tableIn words =
     record {
@@ -50,11 +54,12 @@ tableIn words =
       deadline = columnAt deadlineFrom words;
       level = columnAt levelFrom words;
       promised = columnAt promisedFrom words;
+      follows = columnAt followsFrom words;
     }
 
--- the words of a table (rules 1.1, 1.7, 1.10, 1.11, 5.4)
+-- the words of a table (rules 1.1, 1.7, 1.10 to 1.12, 5.4)
 unfoldable pub wordsOf : Table → List ℕ
-wordsOf t = t .n ∷ t .normal ∷ t .degraded ∷ t .loading ∷ (t .release ++ (t .work ++ (t .deadline ++ (t .level ++ t .promised))))
+wordsOf t = t .n ∷ t .normal ∷ t .degraded ∷ t .loading ∷ (t .release ++ (t .work ++ (t .deadline ++ (t .level ++ (t .promised ++ t .follows)))))
 
 -- the run record that the words of a table, an order and the words of a state hold (rule 8.1)
 unfoldable pub runIn : List ℕ → List ℕ → List ℕ → Run

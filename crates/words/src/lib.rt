@@ -18,6 +18,8 @@ const LEVEL: usize = 4 + 64 * 3;
 
 const PROMISED: usize = 4 + 64 * 4;
 
+const FOLLOWS: usize = 4 + 64 * 5;
+
 // Where the columns of a state's words begin, after the clock.
 const GOT: usize = 1;
 
@@ -52,7 +54,7 @@ fn put_column(words: &mut [u32], from: usize, entries: [u32; 64])
 }
 
 // The table that the words hold, as specs/Words lays it out.
-pub fn table_in(words: &[u32; 324]) -> Table
+pub fn table_in(words: &[u32; 388]) -> Table
     ensures { λ t. ⌜ t ≡ tableIn (now (words .entry)) ⌝ }
 {
     let n = words[0];
@@ -64,6 +66,7 @@ pub fn table_in(words: &[u32; 324]) -> Table
     let deadline = column(words, DEADLINE);
     let level = column(words, LEVEL);
     let promised = column(words, PROMISED);
+    let follows = column(words, FOLLOWS);
     Table {
         n,
         normal,
@@ -74,14 +77,15 @@ pub fn table_in(words: &[u32; 324]) -> Table
         deadline,
         level,
         promised,
+        follows,
     }
 }
 
 // The words of a table.
-pub fn words_of(t: Table) -> [u32; 324]
+pub fn words_of(t: Table) -> [u32; 388]
     ensures { λ r. ⌜ r ≡ wordsOf t ⌝ }
 {
-    let mut words = [0u32; 324];
+    let mut words = [0u32; 388];
     words[0] = t.n;
     words[1] = t.normal;
     words[2] = t.degraded;
@@ -91,16 +95,18 @@ pub fn words_of(t: Table) -> [u32; 324]
     let deadline = t.deadline;
     let level = t.level;
     let promised = t.promised;
+    let follows = t.follows;
     put_column(&mut words, RELEASE, release);
     put_column(&mut words, WORK, work);
     put_column(&mut words, DEADLINE, deadline);
     put_column(&mut words, LEVEL, level);
     put_column(&mut words, PROMISED, promised);
+    put_column(&mut words, FOLLOWS, follows);
     words
 }
 
 // The run record that the words of a table, an order and the words of a state hold.
-pub fn run_in(table: &[u32; 324], order: [u8; 64], state: [u32; 193]) -> Run
+pub fn run_in(table: &[u32; 388], order: [u8; 64], state: [u32; 193]) -> Run
     ensures { λ r. ⌜ r ≡ runIn (now (table .entry)) order state ⌝ }
 {
     let t = table_in(table);

@@ -9,6 +9,8 @@ use Rattle.rules.specs.Lists.{all}
 use Rattle.rules.specs.Rows.{rowsOf}
 use Rattle.rules.specs.Tables.{countOk, speedsOk, loadingOk, rowOk, tailOk, checkTable}
 use Rattle.theory.specs.Tests.{and-right}
+use Rattle.checks.specs.Limits.{limits-rows, tail-columns, parts-rows}
+use Rattle.checks.specs.Keeping.{waits-columns}
 use borrow.Author.Needs.{needs}
 use Rattle.checks.proofs.check_table.Statement.{statement}
 use Rattle.checks.proofs.check_table.Tie as tie
@@ -16,22 +18,37 @@ use Rattle.checks.proofs.check_table.Tie as tie
 count-ok-requires : tie.Need-count-ok-requires
 count-ok-requires c κs = search needs
 
--- the places of the code past a check that passed, from the places past the next check
+-- the places of the code past a check that passed, from the places past the next check; a check's columns are lent one after the other
 abbrev count-passed : tie.Else2 → tie.Else1
 count-passed c = c .before .before
 
 abbrev speeds-passed : tie.Else3 → tie.Else2
 speeds-passed c = c .before .before
 
+abbrev loading-of : tie.After-rows-ok-arg4 → tie.Else3
+loading-of c = c .before .before .before .before .before
+
 abbrev loading-passed : tie.Else4 → tie.Else3
-loading-passed c = c .before .before
+loading-passed c = loading-of (c .before .before)
+
+abbrev limits-of : tie.After-tail-ok-arg6 → tie.Else4
+limits-of c = c .before .before .before .before .before .before .before
 
 abbrev limits-passed : tie.Else5 → tie.Else4
-limits-passed c = c .before .before
+limits-passed c = limits-of (c .before .before)
+
+abbrev tail-of : tie.After-promises-ok-arg3 → tie.Else5
+tail-of c = c .before .before .before .before
+
+abbrev tail-passed : tie.Else6 → tie.Else5
+tail-passed c = tail-of (c .before .before)
+
+abbrev promises-of : tie.After-check-waits-arg3 → tie.Else6
+promises-of c = c .before .before .before .before
 
 -- the table, past each check that passed
 abbrev table1 : tie.Else1 → Table
-table1 c = c .before .before .args .t
+table1 c = c .before .before .args .t1
 
 abbrev table2 : tie.Else2 → Table
 table2 c = table1 (count-passed c)
@@ -60,10 +77,10 @@ loaded : (c : tie.Else3) → loadingOk (table3 c .loading) ≡ true
 loaded c = sym (c .before .loading-ok .ensures) ∙ not-false _ (c .if3 .left)
 
 limited : (c : tie.Else4) → all (rowOk (table4 c)) (rowsOf (table4 c)) ≡ true
-limited c = sym (c .before .rows-ok .ensures) ∙ not-false _ (c .if4 .left)
+limited c = sym (c .before .rows-ok .ensures ∙ limits-rows (table4 c) (rowsOf (table4 c))) ∙ not-false _ (c .if4 .left)
 
 tailed : (c : tie.Else5) → tailOk (table5 c) ≡ true
-tailed c = sym (c .before .tail-ok .ensures) ∙ not-false _ (c .if5 .left)
+tailed c = sym (c .before .tail-ok .ensures ∙ tail-columns (table5 c)) ∙ not-false _ (c .if5 .left)
 
 returns : tie.Need-returns
 unfolding checkTable
@@ -88,17 +105,22 @@ returns-3 c =
       sym (c .before .loading-ok .ensures) ∙ not-true _ (c .if3 .taken),
     )
 
+cast-n : tie.Need-cast-n
+cast-n c = search needs
+
 rows-ok-requires : tie.Need-rows-ok-requires
-rows-ok-requires c κs = few (count-passed (speeds-passed c))
+rows-ok-requires c κs = few (count-passed (speeds-passed (loading-of c)))
 
 returns-4 : tie.Need-returns-4
 unfolding checkTable
 returns-4 c =
+    let g = loading-of (c .before .before) in
+    let t = table3 g in
     rw (
-      counted (count-passed (speeds-passed (c .before .before))),
-      paced (speeds-passed (c .before .before)),
-      loaded (c .before .before),
-      sym (c .before .rows-ok .ensures) ∙ not-true _ (c .if4 .taken),
+      counted (count-passed (speeds-passed g)),
+      paced (speeds-passed g),
+      loaded g,
+      sym (c .before .rows-ok .ensures ∙ limits-rows t (rowsOf t)) ∙ not-true _ (c .if4 .taken),
     )
 
 tail-ok-requires : tie.Need-tail-ok-requires
@@ -107,42 +129,51 @@ tail-ok-requires c κs = search needs
 returns-5 : tie.Need-returns-5
 unfolding checkTable
 returns-5 c =
+    let g = limits-of (c .before .before) in
     rw (
-      counted (count-passed (speeds-passed (loading-passed (c .before .before)))),
-      paced (speeds-passed (loading-passed (c .before .before))),
-      loaded (loading-passed (c .before .before)),
-      limited (c .before .before),
-      sym (c .before .tail-ok .ensures) ∙ not-true _ (c .if5 .taken),
+      counted (count-passed (speeds-passed (loading-passed g))),
+      paced (speeds-passed (loading-passed g)),
+      loaded (loading-passed g),
+      limited g,
+      sym (c .before .tail-ok .ensures ∙ tail-columns (table4 g)) ∙ not-true _ (c .if5 .taken),
     )
 
 promises-ok-requires : tie.Need-promises-ok-requires
-promises-ok-requires c κs = few (count-passed (speeds-passed (loading-passed (limits-passed c))))
+promises-ok-requires c κs = few (count-passed (speeds-passed (loading-passed (limits-passed (tail-of c)))))
 
 returns-6 : tie.Need-returns-6
 unfolding checkTable
 returns-6 c =
-    let d = limits-passed (c .before .before) in
+    let g = tail-of (c .before .before) in
+    let d = limits-passed g in
+    let t = table5 g in
     rw (
       counted (count-passed (speeds-passed (loading-passed d))),
       paced (speeds-passed (loading-passed d)),
       loaded (loading-passed d),
       limited d,
-      tailed (c .before .before),
-      sym (c .before .promises-ok .ensures) ∙ not-true _ (c .if6 .taken),
+      tailed g,
+      sym (c .before .promises-ok .ensures ∙ parts-rows t (rowsOf t)) ∙ not-true _ (c .if6 .taken),
     )
+
+check-waits-requires : tie.Need-check-waits-requires
+check-waits-requires c κs = few (count-passed (speeds-passed (loading-passed (limits-passed (tail-passed (promises-of c))))))
 
 returns-7 : tie.Need-returns-7
 unfolding checkTable
 returns-7 c =
-    let d = limits-passed (c .before .before) in
+    let h = promises-of (c .before) in
+    let g = tail-passed h in
+    let d = limits-passed g in
+    let t = table5 g in
     rw (
       counted (count-passed (speeds-passed (loading-passed d))),
       paced (speeds-passed (loading-passed d)),
       loaded (loading-passed d),
       limited d,
-      tailed (c .before .before),
-      sym (c .before .promises-ok .ensures) ∙ not-false _ (c .if6 .left),
-    )
+      tailed g,
+      sym (h .before .promises-ok .ensures ∙ parts-rows t (rowsOf t)) ∙ not-false _ (h .if6 .left),
+    ) (c .check-waits .ensures ∙ waits-columns t (t .n))
 
 pub check-table-spec : {M : Type 1} → statement M
 check-table-spec =
@@ -154,10 +185,12 @@ check-table-spec =
     returns-2
     loading-ok-requires
     returns-3
+    cast-n
     rows-ok-requires
     returns-4
     tail-ok-requires
     returns-5
     promises-ok-requires
     returns-6
+    check-waits-requires
     returns-7)

@@ -4,26 +4,23 @@ use mathlib.Core.Bool.{true}
 use mathlib.Core.Path.{_≡_, refl, sym, _∙_}
 use native.Mathlib.Omega.{arith}
 use borrow.Author.Needs.{needs}
+use denote.Ref.{now}
 use borrow.Author.Tests.{not-true, not-false}
 use Rattle.rules.specs.Lists.{all, rowsTo}
-use Rattle.rules.specs.Tables.{promiseOk}
-use Rattle.checks.specs.Limits.{row-part}
+use Rattle.checks.specs.Limits.{partIn, row-part}
 use Rattle.checks.specs.RowLists.{all-rows-more, all-rows-fail}
 use Rattle.checks.proofs.promises_ok.Statement.{statement}
 use Rattle.checks.proofs.promises_ok.Tie as tie
 
 abbrev Inv-loop : tie.InvT-loop
-Inv-loop t n k₀ k = (k ≤ n) × (n ≤ 64) × (all (promiseOk t) (rowsTo k) ≡ true)
+Inv-loop work level promised n k₀ k = (k ≤ n) × (n ≤ 64) × (all (partIn work level promised) (rowsTo k) ≡ true)
 
 abbrev μ-loop : tie.MeasureT-loop
-μ-loop t n k₀ k = n - k
+μ-loop work level promised n k₀ k = n - k
 
 -- the turn that a row was tested in
 abbrev turn-of : tie.After-promise-ok Inv-loop μ-loop → tie.In-loop Inv-loop μ-loop
 turn-of c = c .before .before .before .before
-
-cast-n : tie.Need-cast-n Inv-loop μ-loop
-cast-n c = search needs
 
 loop-holds : tie.Need-loop-holds Inv-loop μ-loop
 loop-holds c = (search needs, search needs, refl)
@@ -52,10 +49,10 @@ promise-ok-requires c κs = search needs
 returns : tie.Need-returns Inv-loop μ-loop
 returns c =
     let turn = turn-of (c .before) in
-    let s = turn .before .before in
+    let a = turn .before .before .args in
     let l = turn .before .loop in
-    let bad = row-part (s .args .t1) (l .k) ∙ sym (c .before .promise-ok .ensures) ∙ not-true _ (c .if1 .taken) in
-    sym (all-rows-fail (promiseOk (s .args .t1)) (l .k) (s .args .t1 .n) (omega arith) bad)
+    let bad = row-part (now (a .work)) (now (a .level)) (now (a .promised)) (l .k) ∙ sym (c .before .promise-ok .ensures) ∙ not-true _ (c .if1 .taken) in
+    sym (all-rows-fail (partIn (now (a .work)) (now (a .level)) (now (a .promised))) (l .k) (a .n) (omega arith) bad)
 
 add-k : tie.Need-add-k Inv-loop μ-loop
 add-k c = search needs
@@ -66,16 +63,16 @@ loop-less c = search needs
 loop-again : tie.Need-loop-again Inv-loop μ-loop
 loop-again c =
     let turn = turn-of (c .before) in
-    let s = turn .before .before in
+    let a = turn .before .before .args in
     let l = turn .before .loop in
-    let good = row-part (s .args .t1) (l .k) ∙ sym (c .before .promise-ok .ensures) ∙ not-false _ (c .if1 .left) in
-    (omega arith, omega arith, all-rows-more (promiseOk (s .args .t1)) (l .k) ∙ rw (l .inv .2) good)
+    let good = row-part (now (a .work)) (now (a .level)) (now (a .promised)) (l .k) ∙ sym (c .before .promise-ok .ensures) ∙ not-false _ (c .if1 .left) in
+    (omega arith, omega arith, all-rows-more (partIn (now (a .work)) (now (a .level)) (now (a .promised))) (l .k) ∙ rw (l .inv .2) good)
 
 returns-2 : tie.Need-returns-2 Inv-loop μ-loop
 returns-2 c =
     let s = c .before .before in
     let l = c .before .loop in
-    let e : l .k ≡ s .args .t1 .n = omega arith in
+    let e : l .k ≡ s .args .n = omega arith in
     sym (rw e at (l .inv .2))
 
 pub promises-ok-spec : {M : Type 1} → statement M
@@ -84,7 +81,6 @@ promises-ok-spec =
     (tie.spec
     Inv-loop
     μ-loop
-    cast-n
     loop-holds
     mul-promise-ok
     element-copy-out-promise-ok

@@ -1,4 +1,4 @@
--- `columns::chosen_row` meets its contract: no row of a place passed is ready, so the choice over the whole order is the choice over
+-- `columns::chosen_row` meets its contract: no row of a place passed is released and open, so the choice over the whole order is the choice over
 -- what is left, and after the first n places only zeros are left. Assumes nothing.
 use Prim.Native.Nat.{ℕ, _≤_, _-_}
 use mathlib.Core.Bool.{Bool}
@@ -8,13 +8,13 @@ use lib.ListN.{drop}
 use borrow.Author.Needs.{needs}
 use Rattle.rules.specs.Lists.{first}
 use Rattle.columns.specs.AllRows.{first-zeros, first-here, first-after}
-use Rattle.columns.specs.Figures.{readyAt, ready-row}
+use Rattle.columns.specs.Figures.{pendingAt, pending-row}
 use Rattle.columns.proofs.chosen_row.Statement.{statement}
 use Rattle.columns.proofs.chosen_row.Tie as tie
 
 abbrev Inv-loop : tie.InvT-loop
 Inv-loop n clock order release closing k₀ k =
-    (k ≤ n) × (first (readyAt n clock release closing) (drop k order) ≡ first (readyAt n clock release closing) order)
+    (k ≤ n) × (first (pendingAt n clock release closing) (drop k order) ≡ first (pendingAt n clock release closing) order)
 
 abbrev μ-loop : tie.MeasureT-loop
 μ-loop n clock order release closing k₀ k = n - k
@@ -46,44 +46,44 @@ cast-i c = omega (arith, high c)
 sub-i : tie.Need-sub-i Inv-loop μ-loop
 sub-i c = low c
 
-mul-is-ready : tie.Need-mul-is-ready Inv-loop μ-loop
-mul-is-ready c = omega (arith, high c)
+mul-is-pending : tie.Need-mul-is-pending Inv-loop μ-loop
+mul-is-pending c = omega (arith, high c)
 
-element-copy-out-is-ready : tie.Need-element-copy-out-is-ready Inv-loop μ-loop
-element-copy-out-is-ready c = omega (arith, high c)
+element-copy-out-is-pending : tie.Need-element-copy-out-is-pending Inv-loop μ-loop
+element-copy-out-is-pending c = omega (arith, high c)
 
-mul-is-ready-2 : tie.Need-mul-is-ready-2 Inv-loop μ-loop
-mul-is-ready-2 c = omega (arith, high (c .before))
+mul-is-pending-2 : tie.Need-mul-is-pending-2 Inv-loop μ-loop
+mul-is-pending-2 c = omega (arith, high (c .before))
 
-element-copy-out-is-ready-2 : tie.Need-element-copy-out-is-ready-2 Inv-loop μ-loop
-element-copy-out-is-ready-2 c = omega (arith, high (c .before))
+element-copy-out-is-pending-2 : tie.Need-element-copy-out-is-pending-2 Inv-loop μ-loop
+element-copy-out-is-pending-2 c = omega (arith, high (c .before))
 
-is-ready-requires : tie.Need-is-ready-requires Inv-loop μ-loop
-is-ready-requires c κs = search needs
+is-pending-requires : tie.Need-is-pending-requires Inv-loop μ-loop
+is-pending-requires c κs = search needs
 
 -- the test on the row's two entries is the test on the row
-abbrev ready : (c : tie.Start Inv-loop μ-loop) → ℕ → Bool
-ready c = readyAt (c .args .n) (c .args .clock) (c .args .release .now) (c .args .closing .now)
+abbrev pending : (c : tie.Start Inv-loop μ-loop) → ℕ → Bool
+pending c = pendingAt (c .args .n) (c .args .clock) (c .args .release .now) (c .args .closing .now)
 
 -- the place where the row is known, from where it is tested
-abbrev row-known : tie.After-is-ready Inv-loop μ-loop → tie.After-place Inv-loop μ-loop
+abbrev row-known : tie.After-is-pending Inv-loop μ-loop → tie.After-place Inv-loop μ-loop
 row-known c = c .before .before .before
 
 -- the start, from where the row is known
 abbrev start : tie.After-place Inv-loop μ-loop → tie.Start Inv-loop μ-loop
 start p = p .before .before .before
 
-tested : (c : tie.After-is-ready Inv-loop μ-loop) → ready (start (row-known c)) (row (row-known c)) ≡ c .is-ready .result
+tested : (c : tie.After-is-pending Inv-loop μ-loop) → pending (start (row-known c)) (row (row-known c)) ≡ c .is-pending .result
 tested c =
     let p = row-known c in
     let x = start p .args in
-    ready-row (x .n) (x .clock) (x .release .now) (x .closing .now) (row p) (low p) (high p .0) ∙ sym (c .is-ready .ensures)
+    pending-row (x .n) (x .clock) (x .release .now) (x .closing .now) (row p) (low p) (high p .0) ∙ sym (c .is-pending .ensures)
 
 returns : tie.Need-returns Inv-loop μ-loop
 returns c =
     let p = row-known (c .before) in
     let a = p .before .before in
-    let r = ready (a .before) in
+    let r = pending (a .before) in
     let e = p .place .ensures in
     e
     ∙ sym (first-here r (a .before .args .order .now) (a .loop .k) (omega (arith, low p)) (sym (ap r e) ∙ tested (c .before) ∙ c .if1 .taken))
@@ -99,7 +99,7 @@ loop-again : tie.Need-loop-again Inv-loop μ-loop
 loop-again c =
     let p = row-known (c .before) in
     let a = p .before .before in
-    let r = ready (a .before) in
+    let r = pending (a .before) in
     let e = p .place .ensures in (
       search needs,
       sym (first-after r (a .before .args .order .now) (a .loop .k) (omega (arith, low p))
@@ -110,7 +110,7 @@ returns-2 : tie.Need-returns-2 Inv-loop μ-loop
 returns-2 c =
     let a = c .before in
     let x = a .before .args in
-    let r = ready (a .before) in
+    let r = pending (a .before) in
     let e : a .loop .k ≡ x .n = omega arith in
     sym (first-zeros r (drop (x .n) (x .order .now)) (a .before .pre .after))
     ∙ sym (ap (λ (k : ℕ). first r (drop k (x .order .now))) e)
@@ -127,11 +127,11 @@ chosen-row-spec =
     place-requires
     cast-i
     sub-i
-    mul-is-ready
-    element-copy-out-is-ready
-    mul-is-ready-2
-    element-copy-out-is-ready-2
-    is-ready-requires
+    mul-is-pending
+    element-copy-out-is-pending
+    mul-is-pending-2
+    element-copy-out-is-pending-2
+    is-pending-requires
     returns
     add-k
     loop-less

@@ -12,7 +12,7 @@ jb-forward-requires c κs = search needs
 returns : tie.Need-returns
 returns c =
     let a = c .before .before .before .before .before .before .args in
-    let tables : length (a .t1) ≡ 324 = search needs in
+    let tables : length (a .t1) ≡ 388 = search needs in
     let states : length (a .state) ≡ 193 = search needs in
     let e = c .jb-forward .ensures in
     rw (e .0, e .1, e .2) (forwarded (a .t1) (a .t2) tables (a .supplies .now) (a .state) states)

@@ -12,7 +12,7 @@ jb-fresh-requires c κs = search needs
 returns : tie.Need-returns
 returns c =
     let a = c .before .before .before .before .before .before .args in
-    let tables : length (a .t1) ≡ 324 = search needs in
+    let tables : length (a .t1) ≡ 388 = search needs in
     let e = c .jb-fresh .ensures in
     rw (e .0, e .1, e .2, e .3) (begun (a .t1) (a .t2) tables)
 

@@ -15,7 +15,7 @@ jb-slot-requires c κs = search needs
 returns : tie.Need-returns
 returns c =
     let a = c .before .before .before .before .before .before .before .before .before .before .args in
-    let tables : length (a .t1) ≡ 324 = search needs in
+    let tables : length (a .t1) ≡ 388 = search needs in
     let states : length (a .t3) ≡ 193 = search needs in
     let e = c .jb-slot .ensures in
     let k = c .before .before .before .before .before .jb-coming .ensures in

@@ -12,7 +12,7 @@ jb-least-normal-requires c κs = search needs
 returns : tie.Need-returns
 returns c =
     let s = c .before .before .before .before in
-    let l : length (s .args .t1) ≡ 324 = search needs in
+    let l : length (s .args .t1) ≡ 388 = search needs in
     let e = c .jb-least-normal .ensures in
     rw (e .0, e .1, e .2) (cooled-normal (s .args .t1) l)
 

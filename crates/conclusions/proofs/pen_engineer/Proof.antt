@@ -28,7 +28,7 @@ started c = planned c .before .before .before .before .before
 returns : tie.Need-returns
 returns c =
     let a = started c .args in
-    let tables : length (a .t1) ≡ 324 = search needs in
+    let tables : length (a .t1) ≡ 388 = search needs in
     let p = planned c .jb-plan .ensures in
     let f = begun c .jb-fresh .ensures in
     let g = c .jb-forward .ensures in

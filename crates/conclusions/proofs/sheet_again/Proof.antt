@@ -16,7 +16,7 @@ returns : tie.Need-returns
 returns c =
     let r = c .before .before .before .before in
     let s = r .before .before .before in
-    let l : length (s .args .out .now) ≡ 2657 = search needs in
+    let l : length (s .args .out .now) ≡ 3169 = search needs in
     let e = r .jb-read .ensures in
     let w = c .jb-write .ensures in
     rw (w .0, w .1, w .2, e .0, e .1) (again (s .args .sheet .now) (s .args .out .now) l)

@@ -16,7 +16,7 @@ returns : tie.Need-returns
 returns c =
     let w = c .before .before in
     let s = w .before .before .before .before .before in
-    let l : length (s .args .t1) ≡ 324 = search needs in
+    let l : length (s .args .t1) ≡ 388 = search needs in
     let e = w .jb-write .ensures in
     rw (e .0, e .1, e .2) (written-back (s .args .t1) (s .args .sheet .now) l)
 

@@ -119,9 +119,9 @@ record State (ys : List Row) (n m k : ℕ) : Type 0 where
   so-far : gathered t (dropN i ys) ≡ gathered (noRows n m k) ys
 
 abbrev zero-row : Row
-zero-row = record { release = 0; work = 0; deadline = 0; level = 0; promised = 0 }
+zero-row = record { release = 0; work = 0; deadline = 0; level = 0; promised = 0; follows = 0 }
 
-times-fits : (i n : ℕ) → i < n → n * 20 < 2 ^ 63 → i * 20 < 2 ^ 64
+times-fits : (i n : ℕ) → i < n → n * 24 < 2 ^ 63 → i * 24 < 2 ^ 64
 times-fits i n l h = omega (arith)
 
 module _ {M : Type 1} (𝓤 : URA M) (H : Heap 𝓤) (A : Atoms 𝓤) (mem : Memory → SProp 𝓤) (run : Routine → Fun 𝓤) where
@@ -274,7 +274,7 @@ module _ {M : Type 1} (𝓤 : URA M) (H : Heap 𝓤) (A : Atoms 𝓤) (W : Given
           (store ! 8 refl (tt, record { fits = off })) $
           assigns ! (bin ! (load ! (from ! (fld ! refl (stop !))) (look-in ! 22 (sub ! 0 refl (whole !)))) (load ! (from ! (stop !)) (look ! 8 refl)) tt)
           (from ! (stop !)) (init ! 4 refl (tt, tt)) $
-          rewrite ! 4 (λ (p : ℕ). ‵ (fat fullShare tyPtr l₁₀ 0 (vptr b p))) (sym (place-is 20 o (st .i))) refl $
+          rewrite ! 4 (λ (p : ℕ). ‵ (fat fullShare tyPtr l₁₀ 0 (vptr b p))) (sym (place-is 24 o (st .i))) refl $
           looks-slice ! tt R.the-row (Is R.the-row) (shows 𝓤 H A R.the-row) row-vals (LL.tells R.the-type R′.the-laws)
           (LL.copy R.the-type R′.the-copy 𝓤 H A W) ys b o (λ q′.
           elem-out ! R.the-row (Is R.the-row) (shows 𝓤 H A R.the-row) row-vals (LL.tells R.the-type R′.the-laws) q′ ys (st .i) zero-row b o l (λ g.

@@ -39,16 +39,22 @@ mul-promised c = search needs
 array-write-promised : tie.Need-array-write-promised
 array-write-promised c = search needs
 
-add-t22 : tie.Need-add-t22
-add-t22 c = search needs
+mul-follows : tie.Need-mul-follows
+mul-follows c = search needs
+
+array-write-follows : tie.Need-array-write-follows
+array-write-follows c = search needs
+
+add-t25 : tie.Need-add-t25
+add-t25 c = search needs
 
 returns : tie.Need-returns
 unfolding withRow
-returns c = rw (lt-ltb (c .before .before .before .before .before .before .args .t .n) 64 (omega arith))
+returns c = rw (lt-ltb (c .before .before .before .before .before .before .before .args .t .n) 64 (omega arith))
 
 returns-2 : tie.Need-returns-2
 unfolding withRow
-returns-2 c = rw (le-ltb (c .before .before .before .before .before .before .args .t .n) 64 (omega arith))
+returns-2 c = rw (le-ltb (c .before .before .before .before .before .before .before .args .t .n) 64 (omega arith))
 
 pub with-row-spec : {M : Type 1} → statement M
 with-row-spec =
@@ -65,6 +71,8 @@ with-row-spec =
     array-write-level
     mul-promised
     array-write-promised
-    add-t22
+    mul-follows
+    array-write-follows
+    add-t25
     returns
     returns-2)

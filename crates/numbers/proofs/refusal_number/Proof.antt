@@ -37,6 +37,15 @@ enum-told-10 c = search needs
 enum-told-11 : tie.Need-enum-told-11
 enum-told-11 c = search needs
 
+enum-told-12 : tie.Need-enum-told-12
+enum-told-12 c = search needs
+
+enum-told-13 : tie.Need-enum-told-13
+enum-told-13 c = search needs
+
+enum-told-14 : tie.Need-enum-told-14
+enum-told-14 c = search needs
+
 returns : tie.Need-returns
 unfolding refusalNumber
 returns c = search needs
@@ -81,6 +90,18 @@ returns-11 : tie.Need-returns-11
 unfolding refusalNumber
 returns-11 c = search needs
 
+returns-12 : tie.Need-returns-12
+unfolding refusalNumber
+returns-12 c = search needs
+
+returns-13 : tie.Need-returns-13
+unfolding refusalNumber
+returns-13 c = search needs
+
+returns-14 : tie.Need-returns-14
+unfolding refusalNumber
+returns-14 c = search needs
+
 pub refusal-number-spec : {M : Type 1} → statement M
 refusal-number-spec =
     tie.close
@@ -96,6 +117,9 @@ refusal-number-spec =
     enum-told-9
     enum-told-10
     enum-told-11
+    enum-told-12
+    enum-told-13
+    enum-told-14
     returns
     returns-2
     returns-3
@@ -106,4 +130,7 @@ refusal-number-spec =
     returns-8
     returns-9
     returns-10
-    returns-11)
+    returns-11
+    returns-12
+    returns-13
+    returns-14)

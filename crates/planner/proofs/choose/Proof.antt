@@ -13,22 +13,22 @@ use Rattle.theory.specs.Facts.{facts}
 use Rattle.sweep.specs.Masks.{bit, cleared-ones, one-shl}
 use Rattle.sweep.specs.Padded.{zeros}
 use Rattle.planner.specs.Trying.{leftOf, KnownAt}
-use Rattle.planner.specs.Taking.{Waiting, Taken, waiting-start}
-use Rattle.planner.specs.Turns.{KnownIn, known-same, normal-speed, degraded-speed, degraded-parts, open-entries, normal-first, degraded-first, low-taken, high-taken, taken-range}
+use Rattle.planner.specs.Taking.{Waiting, Opened, Taken, waiting-start}
+use Rattle.planner.specs.Turns.{KnownIn, known-same, entries-small, followed-few, opened-now, normal-speed, degraded-speed, degraded-parts, open-entries, normal-first, degraded-first, low-taken, high-taken, taken-range}
 use Rattle.planner.specs.Turns.{row-is, row-some, normal-within, degraded-within, waiting-next, normal-next, degraded-next}
 use Rattle.planner.specs.Placing.{Placing, placing-start, placing-done, placing-stuck, placing-turn, taker-range, taker-bit}
 use Rattle.planner.proofs.choose.Statement.{statement}
 use Rattle.planner.proofs.choose.Tie as tie
 
 abbrev Inv-loop : tie.InvT-loop
-Inv-loop t n w order₀ left₀ waiting₀ place₀ period₀ changed₀ passing₀ slow-period₀ slow-changed₀ slow-passing₀ order left waiting place period changed passing
+Inv-loop t n free w order₀ left₀ waiting₀ place₀ period₀ changed₀ passing₀ slow-period₀ slow-changed₀ slow-passing₀ order left waiting place period changed passing
     slow-period slow-changed slow-passing =
     (place ≤ 64) × Placing t order left place × Waiting t left waiting
     × KnownAt (w .queue) (t .n) (t .release) (t .deadline) (w .normal) (w .entry) left period changed passing
     × KnownAt (w .queue) (t .n) (t .release) (t .deadline) (w .degraded) (w .entry) left slow-period slow-changed slow-passing
 
 abbrev μ-loop : tie.MeasureT-loop
-μ-loop t n w order₀ left₀ waiting₀ place₀ period₀ changed₀ passing₀ slow-period₀ slow-changed₀ slow-passing₀ order left waiting place period changed passing
+μ-loop t n free w order₀ left₀ waiting₀ place₀ period₀ changed₀ passing₀ slow-period₀ slow-changed₀ slow-passing₀ order left waiting place period changed passing
     slow-period slow-changed slow-passing = ones left
 
 -- the places of the code, each from a later one: the start, a turn, the trials at N, those at G
@@ -36,19 +36,25 @@ abbrev prepared : tie.At-loop Inv-loop μ-loop → tie.After-prepare Inv-loop μ
 prepared l = l .before .before .before
 
 abbrev start : tie.At-loop Inv-loop μ-loop → tie.Start Inv-loop μ-loop
-start l = prepared l .before
+start l = prepared l .before .before .before .before
+
+abbrev opened-of : tie.After-period Inv-loop μ-loop → tie.After-open-entries Inv-loop μ-loop
+opened-of c = c .before .before .before .before .before .before .before .before .before .before .before .before
 
 abbrev turn-of : tie.After-period Inv-loop μ-loop → tie.In-loop Inv-loop μ-loop
-turn-of c = c .before .before .before .before .before .before .before .before .before .before .before .before
+turn-of c = opened-of c .before .before .before .before .before
 
 abbrev failed : tie.After-slow-period Inv-loop μ-loop → tie.Then1 Inv-loop μ-loop
 failed c = c .before .before .before .before .before .before .before .before
+
+zero-after-requires : tie.Need-zero-after-requires Inv-loop μ-loop
+zero-after-requires c κs = search needs
 
 prepare-requires : tie.Need-prepare-requires Inv-loop μ-loop
 prepare-requires c κs = search needs
 
 first-rows-requires : tie.Need-first-rows-requires Inv-loop μ-loop
-first-rows-requires c κs = facts _ (c .before .pre) .few
+first-rows-requires c κs = facts _ (c .before .before .before .before .pre) .few
 
 how-many-requires : tie.Need-how-many-requires Inv-loop μ-loop
 how-many-requires c κs = search needs
@@ -56,7 +62,7 @@ how-many-requires c κs = search needs
 loop-holds : tie.Need-loop-holds Inv-loop μ-loop
 loop-holds c =
     let w = c .before .before in
-    let s = w .before in
+    let s = w .before .before .before .before in
     let t = s .args .t1 in
     let first = c .before .first-rows in
     let p = placing-start t (s .pre) (zeros 64) (first .result) (c .how-many .result) refl (first .ensures) (c .how-many .ensures) in (
@@ -66,6 +72,24 @@ loop-holds c =
       normal-first t (s .pre) (w .prepare .result) (w .prepare .ensures) (first .result),
       degraded-first t (s .pre) (w .prepare .result) (w .prepare .ensures) (first .result),
     )
+
+open-entries-requires : tie.Need-open-entries-requires Inv-loop μ-loop
+open-entries-requires c κs =
+    let l = c .before .before .before .before .before in
+    let w = prepared l in
+    let s = start l in
+    let t = s .args .t1 in
+    (facts _ (s .pre) .few, followed-few t (s .pre) (w .prepare .result) (w .prepare .ensures), entries-small t (s .pre) (w .prepare .result) (w .prepare .ensures))
+
+-- the entries that are tried
+tried-now : (c : tie.After-open-entries Inv-loop μ-loop) → let l = c .before .before .before .before .before .before in
+    Opened (start l .args .t1) (l .loop .left) (l .loop .waiting) (c .open-entries .result)
+tried-now c =
+    let l = c .before .before .before .before .before .before in
+    let w = prepared l in
+    let s = start l in
+    opened-now (s .args .t1) (s .pre) (w .prepare .result) (w .prepare .ensures) (w .before .zero-after .result) (w .before .zero-after .ensures) (l .loop .left) (l .loop .waiting)
+    (c .open-entries .result) (l .loop .inv .2) (c .open-entries .ensures)
 
 first-low-requires : tie.Need-first-low-requires Inv-loop μ-loop
 first-low-requires c κs =
@@ -77,8 +101,8 @@ first-low-requires c κs =
       normal-speed t (s .pre) v (w .prepare .ensures),
       degraded-parts t (s .pre) v (w .prepare .ensures),
       l .loop .inv .3,
-      open-entries t (s .pre) v (w .prepare .ensures) (l .loop .left) (l .loop .waiting) (v .low)
-          (l .loop .inv .2),
+      open-entries t (s .pre) v (w .prepare .ensures) (l .loop .left) (l .loop .waiting) (opened-of c .open-entries .result) (v .low)
+          (l .loop .inv .2) (tried-now (opened-of c)),
     )
 
 first-in-time-requires : tie.Need-first-in-time-requires Inv-loop μ-loop
@@ -90,8 +114,8 @@ first-in-time-requires c κs =
     let v = w .prepare .result in (
       degraded-speed t (s .pre) v (w .prepare .ensures),
       l .loop .inv .4,
-      open-entries t (s .pre) v (w .prepare .ensures) (l .loop .left) (l .loop .waiting) (v .high)
-          (l .loop .inv .2),
+      open-entries t (s .pre) v (w .prepare .ensures) (l .loop .left) (l .loop .waiting) (opened-of (failed c .before .before) .open-entries .result) (v .high)
+          (l .loop .inv .2) (tried-now (opened-of (failed c .before .before))),
     )
 
 -- after both searches: the entry of the row that takes the place, and what is known at G
@@ -111,10 +135,12 @@ module _ (c : tie.Joined1 Inv-loop μ-loop) where
       let i = head .loop .inv in
       ⊎-elim
       (λ v. subst (Taken (begun .args .t1) (head .loop .left) (head .loop .waiting)) (sym (v .13))
-      (high-taken (begun .args .t1) (begun .pre) (w .result) (w .ensures) (head .loop .left) (head .loop .waiting) (i .1 .holds) (i .2)
+      (high-taken (begun .args .t1) (begun .pre) (w .result) (w .ensures) (head .loop .left) (head .loop .waiting) (i .1 .holds) (i .1 .closed) (i .2)
+      (opened-of (c .before .before) .open-entries .result) (tried-now (opened-of (c .before .before)))
       (c .before .first-low .result .found) (v .9 .result .found) (c .before .first-low .ensures .0) (v .0 .taken) (v .9 .ensures .0)))
       (λ v. subst (Taken (begun .args .t1) (head .loop .left) (head .loop .waiting)) (sym (v .4))
-      (low-taken (begun .args .t1) (begun .pre) (w .result) (w .ensures) (head .loop .left) (head .loop .waiting) (i .1 .holds) (i .2)
+      (low-taken (begun .args .t1) (begun .pre) (w .result) (w .ensures) (head .loop .left) (head .loop .waiting) (i .1 .holds) (i .1 .closed) (i .2)
+      (opened-of (c .before .before) .open-entries .result) (tried-now (opened-of (c .before .before)))
       (c .before .first-low .result .found) (c .before .first-low .ensures .0) (v .0 .left)))
       (c .if1 .came)
 
@@ -153,19 +179,19 @@ module _ (c : tie.Else2 Inv-loop μ-loop) where
   entry-range : (1 ≤ c .before .if1 .entry) × (c .before .if1 .entry ≤ first .args .t1 .n) × (bit (entered .loop .waiting) (c .before .if1 .entry - 1) ≡ 1)
   entry-range =
       let w = prepared entered .prepare in
-      taken-range (first .args .t1) (first .pre) (w .result) (w .ensures) (entered .loop .left) (entered .loop .waiting) (entered .loop .inv .1 .holds)
+      taken-range (first .args .t1) (first .pre) (w .result) (w .ensures) (entered .loop .left) (entered .loop .waiting)
       (entered .loop .inv .2) (c .before .if1 .entry) (taken (c .before)) (c .if2 .left)
 
   is : mine ≡ taker (first .args .t1) (leftOf (first .args .t1) (entered .loop .left))
   is =
       let w = prepared entered .prepare in
-      row-is (first .args .t1) (first .pre) (w .result) (w .ensures) (entered .loop .left) (entered .loop .waiting) (entered .loop .inv .1 .holds)
+      row-is (first .args .t1) (first .pre) (w .result) (w .ensures) (entered .loop .left) (entered .loop .waiting)
       (entered .loop .inv .2) (c .before .if1 .entry) (taken (c .before)) (c .if2 .left)
 
   some : mine ≡ 0 → ⊥
   some =
       let w = prepared entered .prepare in
-      row-some (first .args .t1) (first .pre) (w .result) (w .ensures) (entered .loop .left) (entered .loop .waiting) (entered .loop .inv .1 .holds)
+      row-some (first .args .t1) (first .pre) (w .result) (w .ensures) (entered .loop .left) (entered .loop .waiting)
       (entered .loop .inv .2) (c .before .if1 .entry) (taken (c .before)) (c .if2 .left)
 
   range : (1 ≤ mine) × (mine ≤ 64)
@@ -181,7 +207,7 @@ module _ (c : tie.Else2 Inv-loop μ-loop) where
   slow-within : at (c .before .if1 .slow-period) mine < 64
   slow-within =
       let w = prepared entered .prepare in
-      degraded-within (first .args .t1) (first .pre) (w .result) (w .ensures) (entered .loop .left) (entered .loop .waiting) (entered .loop .inv .1 .holds)
+      degraded-within (first .args .t1) (first .pre) (w .result) (w .ensures) (entered .loop .left) (entered .loop .waiting)
       (entered .loop .inv .2) (c .before .if1 .entry) (taken (c .before)) (c .if2 .left) held
       (c .before .if1 .slow-period) (c .before .if1 .slow-changed) (c .before .if1 .slow-passing) (known (c .before))
 
@@ -234,7 +260,7 @@ cast-changed c =
     let s = first e in
     let l = entered e in
     let w = prepared l .prepare in
-    let h = normal-within (s .args .t1) (s .pre) (w .result) (w .ensures) (l .loop .left) (l .loop .waiting) (l .loop .inv .1 .holds)
+    let h = normal-within (s .args .t1) (s .pre) (w .result) (w .ensures) (l .loop .left) (l .loop .waiting)
     (l .loop .inv .2) (e .before .if1 .entry) (taken (e .before)) (e .if2 .left) (held e) _
     (e .before .before .first-low .result .changed) (e .before .before .first-low .result .passing) (e .before .before .first-low .ensures .1) in
     omega (arith, h)
@@ -245,7 +271,7 @@ shl-changed c =
     let s = first e in
     let l = entered e in
     let w = prepared l .prepare in
-    let h = normal-within (s .args .t1) (s .pre) (w .result) (w .ensures) (l .loop .left) (l .loop .waiting) (l .loop .inv .1 .holds)
+    let h = normal-within (s .args .t1) (s .pre) (w .result) (w .ensures) (l .loop .left) (l .loop .waiting)
     (l .loop .inv .2) (e .before .if1 .entry) (taken (e .before)) (e .if2 .left) (held e) _
     (e .before .before .first-low .result .changed) (e .before .before .first-low .result .passing) (e .before .before .first-low .ensures .1) in
     h
@@ -277,16 +303,16 @@ loop-again c =
     let p = placing-turn t (s .pre) (l .loop .order) (l .loop .left) (l .loop .place) (l .loop .inv .1)
     (turn (e .before) .loop-test .taken) (mine e) (is e) (some e)
     (gone .result) (c .before .how-many2 .result) (gone .ensures) (c .before .how-many2 .ensures) in
-    let near = normal-within t (s .pre) (w .result) (w .ensures) (l .loop .left) (l .loop .waiting) (l .loop .inv .1 .holds)
+    let near = normal-within t (s .pre) (w .result) (w .ensures) (l .loop .left) (l .loop .waiting)
     (l .loop .inv .2) (e .before .if1 .entry) (taken (e .before)) (e .if2 .left) (held e) _ (low .result .changed) (low .result .passing) (low .ensures .1) in (
       omega (arith, p .few, facts _ (s .pre) .few),
       p,
-      rw (gone .ensures, c .before .before .without2 .ensures) (waiting-next t (s .pre) (w .result) (w .ensures) (l .loop .left) (l .loop .waiting) (l .loop .inv .1 .holds)
+      rw (gone .ensures, c .before .before .without2 .ensures) (waiting-next t (s .pre) (w .result) (w .ensures) (l .loop .left) (l .loop .waiting)
           (l .loop .inv .2) (e .before .if1 .entry) (taken (e .before)) (e .if2 .left) (held e)),
-      rw (gone .ensures, one-shl _ near) (normal-next t (s .pre) (w .result) (w .ensures) (l .loop .left) (l .loop .waiting) (l .loop .inv .1 .holds)
+      rw (gone .ensures, one-shl _ near) (normal-next t (s .pre) (w .result) (w .ensures) (l .loop .left) (l .loop .waiting)
           (l .loop .inv .2) (e .before .if1 .entry) (taken (e .before)) (e .if2 .left) (held e) _ (low .result .changed) (low .result .passing) (low .ensures .1)),
       rw (gone .ensures, one-shl (at (high .slow-period) (mine e)) (slow-within e)) (degraded-next t (s .pre) (w .result) (w .ensures) (l .loop .left) (l .loop .waiting)
-          (l .loop .inv .1 .holds) (l .loop .inv .2) (e .before .if1 .entry) (taken (e .before)) (e .if2 .left) (held e)
+          (l .loop .inv .2) (e .before .if1 .entry) (taken (e .before)) (e .if2 .left) (held e)
           (high .slow-period) (high .slow-changed) (high .slow-passing) (known (e .before))),
     )
 
@@ -302,10 +328,12 @@ choose-spec =
     (tie.spec
     Inv-loop
     μ-loop
+    zero-after-requires
     prepare-requires
     first-rows-requires
     how-many-requires
     loop-holds
+    open-entries-requires
     first-low-requires
     first-in-time-requires
     returns

@@ -38,7 +38,7 @@ number-requires c κs =
     let i = c .before .loop .i in
     let b = s .args .bytes .now in (
       omega (arith, s .pre .0 .long),
-      line-field b (33 + 41 * i) (s .args .j - 1) 5 (lines-line b i (s .args .n) (s .pre .0 .lines) (c .loop-test .taken)) (omega arith),
+      line-field b (33 + 49 * i) (s .args .j - 1) 6 (lines-line b i (s .args .n) (s .pre .0 .lines) (c .loop-test .taken)) (omega arith),
     )
 
 mul-figures : tie.Need-mul-figures Inv-loop μ-loop

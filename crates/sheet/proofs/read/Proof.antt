@@ -59,8 +59,8 @@ few c =
     let n = c .before .before .number .result in
     leb-true n 64 (and-right (leb 1 n) (leb n 64) (sym (c .before .count-ok .ensures) ∙ not-false _ (c .if3 .left)))
 
-sized : (c : tie.Else4) → length (sheet4 c) ≡ 33 + 41 * numberAt (sheet4 c) 0 1
-sized c = c .if4 .left ∙ ap (λ (n : ℕ). 33 + 41 * n) (stated (c .before .before .before))
+sized : (c : tie.Else4) → length (sheet4 c) ≡ 33 + 49 * numberAt (sheet4 c) 0 1
+sized c = c .if4 .left ∙ ap (λ (n : ℕ). 33 + 49 * n) (stated (c .before .before .before))
 
 lined : (c : tie.Else5) → linesOk (sheet5 c) (numberAt (sheet5 c) 0 1) ≡ true
 lined c =
@@ -115,7 +115,7 @@ returns-4 : tie.Need-returns-4
 unfolding readOf checkSheet
 returns-4 c =
     let n = c .before .before .before .before in
-    let other = ne-eqb _ _ (λ e. c .before .if4 .taken (e ∙ ap (λ (n : ℕ). 33 + 41 * n) (sym (stated n)))) in
+    let other = ne-eqb _ _ (λ e. c .before .if4 .taken (e ∙ ap (λ (n : ℕ). 33 + 49 * n) (sym (stated n)))) in
     rw (long (after-length n), headed (n .before), counted (c .before .before), other) (c .refused4 .ensures)
 
 lines-ok-requires : tie.Need-lines-ok-requires

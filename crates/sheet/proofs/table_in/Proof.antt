@@ -1,4 +1,4 @@
--- The figures of the first line and the five columns are the table's own.
+-- The figures of the first line and the six columns are the table's own.
 use Prim.Native.Nat.{ℕ, _+_, _*_, _≤_, _<_}
 use mathlib.Core.Bool.{true}
 use mathlib.Core.Path.{_≡_}
@@ -39,19 +39,23 @@ column-requires-4 c κs = search needs
 column-requires-5 : tie.Need-column-requires-5
 column-requires-5 c κs = search needs
 
+column-requires-6 : tie.Need-column-requires-6
+column-requires-6 c κs = search needs
+
 returns : tie.Need-returns
 unfolding tableIn numberAt
 returns c =
     rw (
-      c .before .before .before .before .before .before .before .number .ensures,
-      c .before .before .before .before .before .before .number2 .ensures,
-      c .before .before .before .before .before .number3 .ensures,
-      c .before .before .before .before .column .ensures,
-      c .before .before .before .column2 .ensures,
-      c .before .before .column3 .ensures,
-      c .before .column4 .ensures,
-      c .column5 .ensures,
-      c .before .before .before .before .before .before .before .before .before .pre .2,
+      c .before .before .before .before .before .before .before .before .number .ensures,
+      c .before .before .before .before .before .before .before .number2 .ensures,
+      c .before .before .before .before .before .before .number3 .ensures,
+      c .before .before .before .before .before .column .ensures,
+      c .before .before .before .before .column2 .ensures,
+      c .before .before .before .column3 .ensures,
+      c .before .before .column4 .ensures,
+      c .before .column5 .ensures,
+      c .column6 .ensures,
+      c .before .before .before .before .before .before .before .before .before .before .pre .2,
     )
 
 pub table-in-spec : {M : Type 1} → statement M
@@ -66,4 +70,5 @@ table-in-spec =
     column-requires-3
     column-requires-4
     column-requires-5
+    column-requires-6
     returns)

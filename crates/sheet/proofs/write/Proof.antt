@@ -26,7 +26,7 @@ enum-told : tie.Need-enum-told
 enum-told c = search needs
 
 -- the table is accepted, and its sheet fits
-accepted-fits : (c : tie.After-put-sheet-arg) → let s = checked c .before .before in Accepted (s .args .t) × (33 + 41 * s .args .t .n ≤ length (s .args .out .now))
+accepted-fits : (c : tie.After-put-sheet-arg) → let s = checked c .before .before in Accepted (s .args .t) × (33 + 49 * s .args .t .n ≤ length (s .args .out .now))
 accepted-fits c = let k = checked c in fits (k .before .before .args .t) _ (sym (k .check-write .ensures) ∙ c .before .enum-told .given .1)
 
 put-sheet-requires : tie.Need-put-sheet-requires

@@ -28,7 +28,7 @@ put-plan-requires c κs =
     let r = accepted-sheet e in
     let s = r .before .before in
     let l : length (s .args .out .now) ≡ 1617 = search needs in
-    (reading-accepted (take 2658 (s .args .input .now)) (r .read-kept .result) (r .read-kept .ensures) (e .enum-told .given .1), omega arith)
+    (reading-accepted (take 3170 (s .args .input .now)) (r .read-kept .result) (r .read-kept .ensures) (e .enum-told .given .1), omega arith)
 
 enum-known-check : tie.Need-enum-known-check
 enum-known-check c = search needs

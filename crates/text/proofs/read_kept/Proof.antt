@@ -1,4 +1,4 @@
--- An input of at most 2,658 bytes is kept whole.
+-- An input of at most 3,170 bytes is kept whole.
 use borrow.Author.Needs.{needs}
 use mathlib.Core.Path.{sym, ap, _∙_}
 use native.Mathlib.Omega.{arith}
@@ -11,7 +11,7 @@ read-requires : tie.Need-read-requires
 read-requires c κs = search needs
 
 returns : tie.Need-returns
-returns c = c .read .ensures ∙ ap readOf (sym (take-all 2658 (c .before .before .before .args .input .now) (omega arith)))
+returns c = c .read .ensures ∙ ap readOf (sym (take-all 3170 (c .before .before .before .args .input .now) (omega arith)))
 
 slice-aggregate-read : tie.Need-slice-aggregate-read
 slice-aggregate-read c = sym (length-take-le _ (c .before .before .before .args .input .now) (omega arith))

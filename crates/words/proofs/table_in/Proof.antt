@@ -1,4 +1,4 @@
--- The four numbers and the five columns are the table's own.
+-- The four numbers and the six columns are the table's own.
 use borrow.Author.Needs.{needs}
 use Rattle.words.specs.Words.{tableIn}
 use Rattle.words.proofs.table_in.Statement.{statement}
@@ -31,15 +31,19 @@ column-requires-4 c κs = search needs
 column-requires-5 : tie.Need-column-requires-5
 column-requires-5 c κs = search needs
 
+column-requires-6 : tie.Need-column-requires-6
+column-requires-6 c κs = search needs
+
 returns : tie.Need-returns
 unfolding tableIn
 returns c =
     rw (
-      c .before .before .before .before .before .before .before .before .column .ensures,
-      c .before .before .before .before .before .before .column2 .ensures,
-      c .before .before .before .before .column3 .ensures,
-      c .before .before .column4 .ensures,
-      c .column5 .ensures,
+      c .before .before .before .before .before .before .before .before .before .before .column .ensures,
+      c .before .before .before .before .before .before .before .before .column2 .ensures,
+      c .before .before .before .before .before .before .column3 .ensures,
+      c .before .before .before .before .column4 .ensures,
+      c .before .before .column5 .ensures,
+      c .column6 .ensures,
     )
 
 pub table-in-spec : {M : Type 1} → statement M
@@ -55,4 +59,5 @@ table-in-spec =
     column-requires-3
     column-requires-4
     column-requires-5
+    column-requires-6
     returns)

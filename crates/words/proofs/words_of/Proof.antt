@@ -1,4 +1,4 @@
--- The five columns are written one after another behind the four numbers, and so fill all words.
+-- The six columns are written one after another behind the four numbers, and so fill all words.
 use borrow.Author.Needs.{needs}
 use mathlib.Core.List.{_∷_}
 use mathlib.Core.Path.{_≡_, refl}
@@ -7,9 +7,9 @@ use Rattle.words.specs.Copies.{table-written}
 use Rattle.words.proofs.words_of.Statement.{statement}
 use Rattle.words.proofs.words_of.Tie as tie
 
--- the places of the code, each from a later one: the release column is put, then work, deadline and level
+-- the places of the code, each from a later one: the release column is put, then work, deadline, level and promised
 abbrev start : tie.After-put-column → tie.Start
-start c = c .before .before .before .before .before .before .before
+start c = c .before .before .before .before .before .before .before .before
 
 abbrev release-put : tie.After-put-column2 → tie.After-put-column
 release-put c = c .before .before .before
@@ -22,6 +22,9 @@ deadline-put c = c .before .before .before
 
 abbrev level-put : tie.After-put-column5 → tie.After-put-column4
 level-put c = c .before .before .before
+
+abbrev promised-put : tie.After-put-column6 → tie.After-put-column5
+promised-put c = c .before .before .before
 
 -- each column has sixty-four entries
 release-full : (s : tie.Start) → length (s .args .t .release) ≡ 64
@@ -38,6 +41,9 @@ level-full s = search needs
 
 promised-full : (s : tie.Start) → length (s .args .t .promised) ≡ 64
 promised-full s = search needs
+
+follows-full : (s : tie.Start) → length (s .args .t .follows) ≡ 64
+follows-full s = search needs
 
 array-write-words : tie.Need-array-write-words
 array-write-words c = search needs
@@ -81,9 +87,16 @@ slice-aggregate-put-column-5 c = search needs
 put-column-requires-5 : tie.Need-put-column-requires-5
 put-column-requires-5 c κs = search needs
 
+slice-aggregate-put-column-6 : tie.Need-slice-aggregate-put-column-6
+slice-aggregate-put-column-6 c = search needs
+
+put-column-requires-6 : tie.Need-put-column-requires-6
+put-column-requires-6 c κs = search needs
+
 returns : tie.Need-returns
 returns c =
-    let l = level-put (c .before) in
+    let p = promised-put (c .before) in
+    let l = level-put p in
     let d = deadline-put l in
     let w = work-put d in
     let r = release-put w in
@@ -93,11 +106,12 @@ returns c =
     let two = w .put-column2 in
     let three = d .put-column3 in
     let four = l .put-column4 in
-    let five = c .before .put-column5 in
-    let words = t .n ∷ t .normal ∷ t .degraded ∷ t .loading ∷ replicate 320 0 in
-    table-written t words (one .last .0) (two .last .0) (three .last .0) (four .last .0) (five .last .0) refl refl
-    (release-full s) (work-full s) (deadline-full s) (level-full s) (promised-full s)
-    (one .ensures) (two .ensures) (three .ensures) (four .ensures) (five .ensures)
+    let five = p .put-column5 in
+    let six = c .before .put-column6 in
+    let words = t .n ∷ t .normal ∷ t .degraded ∷ t .loading ∷ replicate 384 0 in
+    table-written t words (one .last .0) (two .last .0) (three .last .0) (four .last .0) (five .last .0) (six .last .0) refl refl
+    (release-full s) (work-full s) (deadline-full s) (level-full s) (promised-full s) (follows-full s)
+    (one .ensures) (two .ensures) (three .ensures) (four .ensures) (five .ensures) (six .ensures)
 
 pub words-of-spec : {M : Type 1} → statement M
 words-of-spec =
@@ -117,4 +131,6 @@ words-of-spec =
     put-column-requires-4
     slice-aggregate-put-column-5
     put-column-requires-5
+    slice-aggregate-put-column-6
+    put-column-requires-6
     returns)

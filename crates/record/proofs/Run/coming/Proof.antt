@@ -1,11 +1,11 @@
--- `record::Run::coming` meets its contract: its two tests are the definition's, 9 and then 8. Assumes nothing.
+-- `record::Run::coming` meets its contract: its two tests are the definition's, 9 and then 8, and of a sound record the row chosen over the columns is
+-- the definition's. Assumes nothing.
 use borrow.Author.Needs.{needs}
 use borrow.Author.Tests.{not-true, not-false, le-ltb, lt-ltb}
 use mathlib.Core.Path.{sym, ap, _∙_}
 use Rattle.record.specs.declared.SlotAnswer.the-variants.{Worked}
-use Rattle.rules.specs.Slots.{isReady, chosen}
-use Rattle.record.specs.Records.{chosenRow, comingSlot}
-use Rattle.record.specs.Sound.{order-placed}
+use Rattle.record.specs.Records.{comingSlot}
+use Rattle.record.specs.Sound.{order-placed, chosen-first}
 use Rattle.record.proofs.Run.coming.Statement.{statement}
 use Rattle.record.proofs.Run.coming.Tie as tie
 
@@ -32,11 +32,12 @@ chosen-row-requires c κs =
     order-placed _ (sym (b .before .is-sound .ensures) ∙ not-false _ (b .if1 .left))
 
 returns-3 : tie.Need-returns-3
-unfolding comingSlot chosenRow chosen isReady
+unfolding comingSlot
 returns-3 c =
     let d = not-refused (c .before) in
     let b = d .before in
-    simp (sym (b .before .is-sound .ensures) ∙ not-false _ (b .if1 .left), lt-ltb _ _ (d .if2 .left)) (ap Worked (c .chosen-row .ensures))
+    let e = sym (b .before .is-sound .ensures) ∙ not-false _ (b .if1 .left) in
+    simp (e, lt-ltb _ _ (d .if2 .left)) (ap Worked (c .chosen-row .ensures ∙ sym (chosen-first _ e)))
 
 pub coming-spec : {M : Type 1} → statement M
 coming-spec = tie.close (tie.spec is-sound-requires returns returns-2 chosen-row-requires returns-3)

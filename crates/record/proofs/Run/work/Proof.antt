@@ -1,13 +1,11 @@
--- `record::Run::work` meets its contract: the order of a sound record holds rows in its first n places, so the row chosen over the columns
--- is the record's. Row 0 leaves the slot idle, and any other row's entries become the definition's; its slots used are at most the clock.
--- Assumes nothing.
+-- `record::Run::work` meets its contract: the order of a sound record passes check 6, so the row chosen over the columns is the record's. Row 0
+-- leaves the slot idle, and any other row's entries become the definition's; its slots used are at most the clock. Assumes nothing.
 use Prim.Native.Nat.{_-_, _<_}
 use mathlib.Core.Path.{_≡_, sym, _∙_}
 use native.Mathlib.Omega.{arith}
 use borrow.Author.Needs.{needs}
-use Rattle.rules.specs.Slots.{isReady, chosen}
 use Rattle.record.specs.Records.{chosenRow}
-use Rattle.record.specs.Sound.{speeds, Serving, serving, order-placed}
+use Rattle.record.specs.Sound.{speeds, Serving, serving, order-placed, chosen-first}
 use Rattle.record.specs.Stepping.{worked-idle, served-from, worked-served}
 use Rattle.record.proofs.Run.work.Statement.{statement}
 use Rattle.record.proofs.Run.work.Tie as tie
@@ -40,8 +38,7 @@ abbrev start : tie.After-chosen-row → tie.Start
 start c = c .before .before .before .before .before
 
 is-chosen : (c : tie.After-chosen-row) → c .chosen-row .result ≡ chosenRow (start c .args .t1)
-unfolding chosenRow chosen isReady
-is-chosen c = c .chosen-row .ensures
+is-chosen c = c .chosen-row .ensures ∙ sym (chosen-first (start c .args .t1) (start c .pre .0))
 
 add-after : tie.Need-add-after
 add-after c = search needs
