@@ -5,7 +5,7 @@
 //! input is compared with what it was (rule 9.3).
 
 use crate::raw::{
-    self, row_words, Finishes, RowWords, StateWords, TableWords, STATE_WORDS, TABLE_WORDS, TEXT,
+    self, Finishes, RowWords, StateWords, TableWords, STATE_WORDS, TABLE_WORDS, TEXT,
 };
 use model::judge::Verdict;
 use model::order::Order;
@@ -124,7 +124,7 @@ pub fn judge_rows(
     rows: &[Row],
     order: &Order,
 ) -> Verdict {
-    let lent: Vec<RowWords> = rows.iter().map(row_words).collect();
+    let lent: Vec<RowWords> = rows.iter().map(Row::figures).collect();
     let before = lent.clone();
     let (rows, count) = (lent.as_ptr(), lent.len());
     // SAFETY: as in `read`.

@@ -3,13 +3,13 @@
 
 use model::order::Order;
 use model::record::Record;
-use model::table::{Row, Table, ROWS};
+use model::table::{Table, FIGURES, ROWS};
 
 /// Words in a table before its columns: n, N, G and K.
-const FIGURES: usize = 4;
+const FIRST_WORDS: usize = 4;
 
-/// Words in a table: n, N, G, K and five columns.
-pub const TABLE_WORDS: usize = FIGURES + 5 * ROWS;
+/// Words in a table: n, N, G, K and a column for each figure of a row.
+pub const TABLE_WORDS: usize = FIRST_WORDS + FIGURES * ROWS;
 
 /// Words in the state of a run: the clock and three columns.
 pub const STATE_WORDS: usize = 1 + 3 * ROWS;
@@ -20,8 +20,9 @@ pub const TEXT: usize = 17 + 25 * ROWS;
 pub type TableWords = [u32; TABLE_WORDS];
 pub type StateWords = [u32; STATE_WORDS];
 
-/// A row as the library takes it: release, work, deadline, level, promised part.
-pub type RowWords = [u32; 5];
+/// A row as the library takes it: release, work, deadline, level, promised part, the row
+/// that it follows.
+pub type RowWords = [u32; FIGURES];
 pub type Finishes = [u32; ROWS];
 
 extern "C" {
@@ -107,27 +108,22 @@ extern "C" {
 pub fn table_words(table: &Table) -> TableWords {
     let mut words = [0; TABLE_WORDS];
     let figures = [table.n, table.normal, table.degraded, table.loading];
-    words[..FIGURES].copy_from_slice(&figures);
+    words[..FIRST_WORDS].copy_from_slice(&figures);
     let columns = [
         &table.release,
         &table.work,
         &table.deadline,
         &table.level,
         &table.promised,
+        &table.follows,
     ];
-    put_columns(&mut words[FIGURES..], &columns);
+    put_columns(&mut words[FIRST_WORDS..], &columns);
     words
-}
-
-/// The words of a row.
-pub fn row_words(row: &Row) -> RowWords {
-    let (release, work, deadline) = (row.release, row.work, row.deadline);
-    [release, work, deadline, row.level, row.promised]
 }
 
 /// The table that these words hold.
 pub fn table_of(words: &TableWords) -> Table {
-    let columns = &words[FIGURES..];
+    let columns = &words[FIRST_WORDS..];
     Table {
         n: words[0],
         normal: words[1],
@@ -138,6 +134,7 @@ pub fn table_of(words: &TableWords) -> Table {
         deadline: column(columns, 2),
         level: column(columns, 3),
         promised: column(columns, 4),
+        follows: column(columns, 5),
     }
 }
 

@@ -1,9 +1,10 @@
 //! Tables on which the planner has little or much to do, and random tables on
 //! which both of its answers are common.
 
+use model::cases::row;
 use model::order::{order_of, Order};
 use model::plain;
-use model::random::{table_of_rows_in, Random, Ranges};
+use model::random::{random_order, table_of_rows_in, Random, Ranges};
 use model::table::{Row, Table, HI, LO, ROWS};
 
 /// `easy_loading` without loading.
@@ -14,13 +15,16 @@ pub fn easy(n: u32) -> Table {
 /// Rows that pass at their first trial: LO rows of one slot after their loading
 /// time (slots), each with time enough for all.
 pub fn easy_loading(n: u32, loading: u32) -> Table {
-    let row = |index| Row {
-        release: 0,
-        work: 5,
-        deadline: (n + index) * (loading + 1),
-        level: LO,
-        promised: 0,
-    };
+    let row = |index| row([0, 5, (n + index) * (loading + 1), LO]);
+    let rows: Vec<Row> = (0..n).map(row).collect();
+    Table::of(5, 2, loading, &rows)
+}
+
+/// A chain: LO rows as those of `easy_loading`, each of which follows the one before it.
+/// The first has the latest deadline, and so on, so that at each place all rows left are
+/// skipped but the last, which passes.
+pub fn chain(n: u32, loading: u32) -> Table {
+    let row = |index| row([0, 5, (2 * n - index) * (loading + 1), LO, 0, index]);
     let rows: Vec<Row> = (0..n).map(row).collect();
     Table::of(5, 2, loading, &rows)
 }
@@ -41,23 +45,23 @@ pub fn hard_loading(n: u32, loading: u32) -> Table {
     let mut rows = Vec::new();
     for group in 0..n / 4 {
         let release = 8 * group * (loading + 1);
-        let low = |place| Row {
-            release,
-            work: 5,
-            deadline: release + place * (loading + 1),
-            level: LO,
-            promised: 0,
-        };
+        let low = |place| row([release, 5, release + place * (loading + 1), LO]);
         rows.extend([low(1), low(2), low(3)]);
-        rows.push(Row {
-            release,
-            work: 5,
-            deadline: 10_000 - group,
-            level: HI,
-            promised: 0,
-        });
+        rows.push(row([release, 5, 10_000 - group, HI]));
     }
     Table::of(5, 2, loading, &rows)
+}
+
+/// `hard_loading` in which the second LO row of a group follows the first and the third the
+/// second, as they stand in a correct order: one of three is tried, and fails as often.
+pub fn grouped(n: u32, loading: u32) -> Table {
+    let mut table = hard_loading(n, loading);
+    for index in 0..n {
+        if matches!(index % 4, 1 | 2) {
+            table.follows[index as usize] = index;
+        }
+    }
+    table
 }
 
 /// The table with a promise of one slot at G, or of the whole work if that is less, for
@@ -102,13 +106,7 @@ pub fn one_period(n: u32, loading: u32) -> Table {
         } else {
             (10_000 - number, HI)
         };
-        Row {
-            release: number / 2 * (loading + 1),
-            work: 5,
-            deadline,
-            level,
-            promised: 0,
-        }
+        row([number / 2 * (loading + 1), 5, deadline, level])
     };
     let rows: Vec<Row> = (0..n).map(row).collect();
     Table::of(5, 2, loading, &rows)
@@ -124,12 +122,10 @@ pub fn one_period(n: u32, loading: u32) -> Table {
 /// is correct. In the table every other row comes first.
 pub fn staggered(n: u32, loading: u32) -> Table {
     let turns: Vec<u32> = (0..n).step_by(2).chain((1..n).step_by(2)).collect();
-    let row = |&turn: &u32| Row {
-        release: turn * (2 + loading),
-        work: 10 * [3, 2, 2, 2, 2, 2, 2, 1][turn as usize % 8],
-        deadline: 1_000_000,
-        level: if turn % 3 == 2 { HI } else { LO },
-        promised: 0,
+    let row = |&turn: &u32| {
+        let work = 10 * [3, 2, 2, 2, 2, 2, 2, 1][turn as usize % 8];
+        let level = if turn % 3 == 2 { HI } else { LO };
+        row([turn * (2 + loading), work, 1_000_000, level])
     };
     let rows: Vec<Row> = turns.iter().map(row).collect();
     let table = Table::of(10, 7, loading, &rows);
@@ -196,7 +192,7 @@ pub fn tight(random: &mut Random, n: u32, ranges: Ranges) -> Table {
 /// This accepted table with such deadlines.
 pub fn tightened(random: &mut Random, table: &Table) -> Table {
     let n = table.n;
-    let mut table = without_slack(table, &random_order(random, n));
+    let mut table = without_slack(table, &random_order(random, table));
     let spare = random.between(0, 3);
     for deadline in &mut table.deadline[..n as usize] {
         *deadline += random.between(0, spare);
@@ -210,36 +206,18 @@ pub fn tightened(random: &mut Random, table: &Table) -> Table {
     table
 }
 
-/// A random order of a table of n rows.
-pub fn random_order(random: &mut Random, n: u32) -> Order {
-    let rows: Vec<u8> = (1..=n as u8).collect();
-    order_of(&random.shuffled(&rows))
-}
-
 /// Sixty-four rows of the largest work at speed 1, all released at `release`;
 /// the k-th place finishes at release + k × 1,000,000 slots, or with a loading
 /// time K at release + k × (K + 1,000,000) slots.
 pub fn largest(release: u32) -> Table {
-    let row = Row {
-        release,
-        work: 1_000_000,
-        deadline: 1_000_000,
-        level: HI,
-        promised: 0,
-    };
+    let row = row([release, 1_000_000, 1_000_000, HI]);
     Table::of(1, 1, 0, &[row; ROWS])
 }
 
 /// Sixty-four LO rows that all have time until the last deadline, every other
 /// one released later than the one before it.
 pub fn longest_windows() -> Table {
-    let row = |index: u32| Row {
-        release: 1_000 * (index / 2),
-        work: 1_000 + index,
-        deadline: 1_000_000,
-        level: LO,
-        promised: 0,
-    };
+    let row = |index: u32| row([1_000 * (index / 2), 1_000 + index, 1_000_000, LO]);
     let rows: Vec<Row> = (0..ROWS as u32).map(row).collect();
     Table::of(7, 3, 0, &rows)
 }

@@ -3,12 +3,14 @@
 //! how much of the pattern is left. Linux with POSIX threads.
 
 use crate::raw::{self, StateWords, TableWords};
-use crate::sheets::{easy, easy_loading, hard, largest, late_promises, longest_windows, promising};
+use crate::sheets::{
+    chain, easy, easy_loading, grouped, hard, largest, late_promises, longest_windows, promising,
+};
 use model::order::{order_of, Order};
 use model::record::Record;
 use model::report::LONGEST_REPORT;
 use model::sheet::{sheet_of, LONGEST_SHEET};
-use model::table::Table;
+use model::table::{Row, Table};
 use std::ffi::{c_int, c_void};
 use std::hint::black_box;
 use std::ptr;
@@ -131,7 +133,7 @@ impl Inputs {
         Inputs {
             sheet: sheet_of(table),
             table: raw::table_words(table),
-            rows: table.rows().iter().map(raw::row_words).collect(),
+            rows: table.rows().iter().map(Row::figures).collect(),
             figures: [table.normal, table.degraded, table.loading],
             order,
             state: raw::state_words(&reached),
@@ -140,14 +142,16 @@ impl Inputs {
 }
 
 /// Most bytes of stack that each export took, without what the caller lends:
-/// the most over easy, hard and large tables of 64 rows, some of which load or promise
-/// parts, one row, and tables and orders that are refused.
+/// the most over easy, hard and large tables of 64 rows, some of which load, promise parts
+/// or have waits, one row, and tables and orders that are refused.
 pub fn peaks() -> Vec<(&'static str, usize)> {
     let mut refused = hard(64);
     refused.level[63] = 2;
     let tables = [
         hard(64),
         late_promises(64, 0),
+        grouped(64, 0),
+        chain(64, 16),
         easy_loading(64, 16),
         promising(&easy_loading(64, 16)),
         largest(999_999).with_loading(16),

@@ -1,13 +1,13 @@
-//! A loading time of 0 slots changes no answer of the library: it answers as the
-//! model did before tables had one, and so do its one slot and forward where there is
-//! no late preview to drop. Nor does a table without a promise: all calls answer as
-//! they did before rows had one (rule 20.2).
+//! With w = 0 in every row all calls of the library answer as the model did before rows
+//! followed rows (rule 21.5), with r = 0 too as before rows had a promise (rule 20.2), and
+//! with K = 0 too as before tables had a loading time, one slot and forward where there is
+//! no late preview to drop (rule 17.1).
 
 use compiled::library;
-use model::before::{answers, Before, Calls};
+use model::before::{answers, Calls, TIMES};
 
 #[test]
-fn the_library_answers_as_before_loading_and_as_before_promises() {
+fn the_library_answers_as_before_loading_promises_and_waits() {
     let of_library = Calls {
         read: library::read,
         write: library::write,
@@ -19,7 +19,7 @@ fn the_library_answers_as_before_loading_and_as_before_promises() {
         program: library::program,
         least: library::least,
     };
-    for before in [Before::Loading, Before::Promises] {
+    for before in TIMES {
         assert_eq!(answers(&of_library, before), before.stored(), "{before:?}");
     }
 }

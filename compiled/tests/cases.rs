@@ -1,14 +1,22 @@
 //! The cases that must hold on the compiled library, starred and also run
 //! (section 13 of the rules). In the starred ones no job loads; after them come
-//! cases in which jobs do, cases in which previews are late, and cases with promises.
+//! cases in which jobs do, cases in which previews are late, cases with promises, and cases
+//! in which rows follow rows.
 
+mod common;
+
+use common::sheets::is_all_in_its_sheet;
 use compiled::{library, raw};
+use model::cases::waits::{
+    checked_wait_orders, checked_waits, late_wait_runs, runs_that_break_waits, wait_plans,
+    wait_runs,
+};
 use model::cases::{
     at_loading, at_loading_planned, checked_promises, late_runs, loading_runs, no_order, ordered,
-    p1, p3, promise_at_deadline, promise_runs, promises, row, serving, table, HandRun,
+    p1, p3, promise_at_deadline, promise_runs, promises, row, serving, table, HandPlan, HandRun,
 };
 use model::judge::Verdict;
-use model::order::{order_of, NO_ORDER};
+use model::order::{order_of, Order, NO_ORDER};
 use model::plan::Plan;
 use model::record::Record;
 use model::run::State;
@@ -144,10 +152,29 @@ fn runs_with_promises() {
     promise_runs().iter().for_each(assert_worked);
 }
 
-/// Worst finishes, verdict and planner's answer (rules 3.6 to 3.9 and 4.4).
+/// A row waits for the one that it follows, preempted or not, until that is done or dropped
+/// (rules 2.15 and 13.15).
+#[test]
+fn runs_with_waits() {
+    wait_runs().iter().for_each(assert_worked);
+    for case in late_wait_runs() {
+        assert_worked(&case.run);
+    }
+}
+
 #[test]
 fn tables_with_promises() {
-    for case in promises() {
+    assert_planned(promises());
+}
+
+#[test]
+fn tables_with_waits() {
+    assert_planned(wait_plans());
+}
+
+/// Worst finishes, verdict and planner's answer (rules 3.6 to 3.9 and 4.4).
+fn assert_planned(cases: Vec<HandPlan>) {
+    for case in cases {
         let (what, table, order) = (case.what, &case.table, &case.order);
         assert_eq!(library::plan(table), case.plan, "{what}");
         let (number, finishes) = library::finishes(table, order);
@@ -162,10 +189,14 @@ fn tables_with_promises() {
             slack: least,
         };
         assert_eq!(library::judge(table, order), verdict, "{what}");
-        let figures = (table.normal, table.degraded, table.loading);
-        let of_rows = library::judge_rows(figures.0, figures.1, figures.2, &table.rows(), order);
-        assert_eq!(of_rows, verdict, "{what}");
+        assert_eq!(judged_as_list(table, order), verdict, "{what}");
     }
+}
+
+/// What the judge says of a table whose rows it is lent as a list.
+fn judged_as_list(table: &Table, order: &Order) -> Verdict {
+    let (normal, degraded) = (table.normal, table.degraded);
+    library::judge_rows(normal, degraded, table.loading, &table.rows(), order)
 }
 
 /// Row 2 has its promised part at clock 5, its deadline, and not at clock 4; what comes
@@ -182,22 +213,52 @@ fn a_promise_kept_at_its_deadline_alone() {
     assert_eq!(got_after(&[1, 1, 1, 0, 1, 9, 9]), 2);
 }
 
-/// 12 is answered as 5 is, comes after 5 in all rows and before 6 and 10, and is within 9
-/// for a record (rules 5.9, 8.4, 10.12 and 11.3).
+/// 12 comes after 5 in all rows and before 6 and 10 (rules 5.9, 10.12 and 11.3).
 #[test]
 fn promises_above_the_work_and_of_hi_rows() {
-    for (what, table, number) in checked_promises() {
+    assert_checked(checked_promises());
+}
+
+/// 13, 14 and 15 come row by row after 12 in all rows and before 6 and 10 (rules 5.10, 10.13
+/// to 10.15 and 11.3).
+#[test]
+fn waits_for_rows_that_cannot_be_followed() {
+    assert_checked(checked_waits());
+}
+
+/// An order that has a follower above the row it follows is answered 6, as one that names a
+/// row twice, and is within 9 for a record (rules 5.11 and 8.4).
+#[test]
+fn orders_that_break_waits() {
+    let broken = runs_that_break_waits().into_iter();
+    let broken = broken.map(|case| (case.what, case.table, case.order, 6));
+    for (what, table, order, number) in checked_wait_orders().into_iter().chain(broken) {
+        assert_eq!(library::judge(&table, &order).number, number, "{what}");
+        assert_eq!(library::finishes(&table, &order).0, number, "{what}");
+        assert_eq!(library::fresh(&table, &order).0, number, "{what}");
+        assert_eq!(judged_as_list(&table, &order).number, number, "{what}");
+        let record = Record::holding(&table, &order, &State::FRESH);
+        let sound = if number == 0 { 0 } else { 9 };
+        assert_eq!(library::one_slot(&record, 1).number, sound, "{what}");
+        assert_eq!(library::coming(&record).0, sound, "{what}");
+        assert_eq!(library::forward(&record, &[]).number, sound, "{what}");
+        let room = if number == 0 { 10 } else { number };
+        assert_eq!(library::report(&table, &order, &mut []), (room, 0));
+    }
+}
+
+/// Each check on tables gives these their number, is answered as 5 is, and is within 9 for a
+/// record (rule 8.4).
+fn assert_checked(cases: Vec<(&'static str, Table, u32)>) {
+    for (what, table, number) in cases {
         let rows: Vec<u8> = (1..=table.n as u8).collect();
         let order = order_of(&rows);
         assert_eq!(library::judge(&table, &order).number, number, "{what}");
-        if table.promised[63] == 0 {
+        if is_all_in_its_sheet(&table) {
             let sheet = sheet_of(&table);
             let read = if number == 0 { table } else { Table::ZERO };
             assert_eq!(library::read(&sheet), (number, read), "{what}");
-            let (normal, degraded) = (table.normal, table.degraded);
-            let listed = table.rows();
-            let verdict = library::judge_rows(normal, degraded, table.loading, &listed, &order);
-            assert_eq!(verdict.number, number, "{what}");
+            assert_eq!(judged_as_list(&table, &order).number, number, "{what}");
             if number != 0 {
                 assert_eq!(library::program(&sheet), write_line(&[number, 0]), "{what}");
             }
@@ -223,9 +284,9 @@ fn promises_above_the_work_and_of_hi_rows() {
 }
 
 #[test]
-fn the_interface_has_number_4() {
+fn the_interface_has_number_5() {
     // SAFETY: the call takes nothing.
-    assert_eq!(unsafe { raw::jb_version() }, 4);
+    assert_eq!(unsafe { raw::jb_version() }, 5);
 }
 
 #[test]

@@ -1,20 +1,21 @@
 //! The command's figures (`--plain`) against the model, on samples and random
 //! sheets, and its rows files against a reading of them by their description.
 //! The program is the one that JASMINEBRACE_COMMAND names, or
-//! tools/jasminebrace. Tables come with promised parts and without.
+//! tools/jasminebrace. Tables come with promised parts and waits and without.
 
 mod common;
 
-use common::{any_order, large_table, refused_sheet, small_table, spoil_table, supplies, Tally};
-use compiled::sheets::{easy, hard, random_order};
-use model::before::Before;
+use common::{
+    any_order, large_table, refused_sheet, small_table, spoil_table, supplies, Tally, TABLE_CHECKS,
+};
+use compiled::sheets::{easy, hard};
+use model::before::{Before, TIMES};
 use model::calls::{one_slot_on_paper, LAST_CLOCK};
-use model::cases::{promising_row, row};
 use model::order::{check_order, Order};
 use model::place::place_of_fault;
 use model::plain;
 use model::program::planning_program;
-use model::random::Random;
+use model::random::{random_order, Random};
 use model::report::LONGEST_REPORT;
 use model::run::{has_promised, kept_deadline, State};
 use model::sheet::{
@@ -23,7 +24,8 @@ use model::sheet::{
 };
 use model::speeds::{Least, Sought, BOTH};
 use model::table::{
-    allowance, check_table, Row, Table, HI, LATEST_DEADLINE, MOST_LOADING, MOST_SPEED, ROWS,
+    allowance, check_table, Row, Table, FIGURES, HI, LATEST_DEADLINE, MOST_LOADING, MOST_SPEED,
+    ROWS,
 };
 use std::io::Write;
 use std::process::{Command, Stdio};
@@ -106,7 +108,7 @@ fn with_loading(mut sheet: Vec<u8>, loading: u32) -> Vec<u8> {
     sheet
 }
 
-/// The sheet without K, as nobody ever wrote one: its rows have promised parts.
+/// The sheet without K, as nobody ever wrote one: its rows have fields that came later.
 fn without_loading(mut sheet: Vec<u8>) -> Vec<u8> {
     sheet.drain(LOADING);
     sheet
@@ -118,8 +120,8 @@ fn long_loading(random: &mut Random) -> u32 {
 }
 
 /// A sheet that is accepted, and others that are refused: by a check on tables,
-/// for something damaged, for K, and for fields that it lacks, of K, of promised parts
-/// or of both.
+/// for something damaged, for K, and for fields that it lacks, of K, or of all that have
+/// come since some time.
 fn sheets(random: &mut Random) -> [Vec<u8>; 6] {
     let table = small_table(random);
     let sheet = sheet_of(&table);
@@ -128,9 +130,7 @@ fn sheets(random: &mut Random) -> [Vec<u8>; 6] {
     let loading = long_loading(random);
     [
         with_loading(sheet.clone(), loading),
-        random
-            .one_of(&[Before::Loading, Before::Promises])
-            .old_sheet(&sheet),
+        random.one_of(&TIMES).old_sheet(&sheet),
         without_loading(sheet.clone()),
         refused,
         other,
@@ -171,7 +171,8 @@ fn plan_is_what_the_program_writes() {
         let sheet = sheet_of(&large_table(&mut random));
         compare(&sheet, plain::program(&sheet));
     }
-    tally.assert_common(&[0, 1, 2, 3, 4, 5, 7, 11, 12], 40);
+    tally.assert_common(&[0, 1, 2, 7], 40);
+    tally.assert_common(&TABLE_CHECKS, 30);
 }
 
 /// What a refusal is in plain form, and the status.
@@ -234,7 +235,7 @@ fn judge_and_finishes() {
         } else {
             small_table(&mut random)
         };
-        let order = any_order(&mut random, table.n, 4);
+        let order = any_order(&mut random, &table, 4);
         let sheet = sheet_of(&table);
         let words = order_words(&order);
         let listed = words.join(",");
@@ -272,7 +273,7 @@ fn report_bytes(table: &Table, order: &Order) -> Vec<u8> {
 
 /// The report that the command has to write for an order, and its status.
 fn reported(table: &Table, order: &Order) -> (Vec<u8>, i32) {
-    match check_order(table.n, order) {
+    match check_order(table, order) {
         0 => (report_bytes(table, order), 0),
         number => refused(number, 0),
     }
@@ -309,7 +310,7 @@ fn reports() {
     }
     for _ in 0..400 {
         let table = a_table(&mut random);
-        let order = any_order(&mut random, table.n, 4);
+        let order = any_order(&mut random, &table, 4);
         let sheet = sheet_of(&table);
         let words = order_words(&order);
         let words: Vec<&str> = words.iter().map(String::as_str).collect();
@@ -342,7 +343,8 @@ fn reports_of_refused_sheets() {
             tally.saw(if status == 1 { 7 } else { number });
         }
     }
-    tally.assert_common(&[0, 1, 2, 3, 4, 5, 7, 11, 12], 20);
+    tally.assert_common(&[0, 1, 2, 7], 20);
+    tally.assert_common(&TABLE_CHECKS, 15);
 }
 
 /// What `speeds --plain` writes for one speed: 0, the speed and the row count,
@@ -430,7 +432,8 @@ fn least_speeds() {
         compare(&sheet_of(&large_table(&mut random)));
     }
     tally.assert_common(&[[0, 0], [0, 7], [7, 0], [7, 7]], 10);
-    tally.assert_common(&[1, 2, 3, 4, 5, 11, 12].map(|number| [number; 2]), 10);
+    tally.assert_common(&[[1; 2], [2; 2]], 10);
+    tally.assert_common(&TABLE_CHECKS.map(|number| [number; 2]), 5);
 }
 
 /// What `speeds --slacks --plain` writes of an accepted sheet under an order: its
@@ -457,9 +460,9 @@ fn slacks_at_each_speed() {
     for _ in 0..150 {
         let table = a_table(&mut random);
         let sheet = sheet_of(&table);
-        let order = any_order(&mut random, table.n, 4);
+        let order = any_order(&mut random, &table, 4);
         let listed = order_words(&order).join(",");
-        let of_given = match check_order(table.n, &order) {
+        let of_given = match check_order(&table, &order) {
             0 => (slack_lines(&table, &order), 0),
             number => refused(number, 0),
         };
@@ -614,7 +617,7 @@ fn runs_by_slots_and_by_stretches() {
         } else {
             small_table(&mut random)
         };
-        let order = random_order(&mut random, table.n);
+        let order = random_order(&mut random, &table);
         let slots = random.between(1, 120);
         let mut supplies = supplies(&mut random, slots);
         if round % 2 == 0 {
@@ -771,7 +774,7 @@ fn runs_in_words() {
     let mut closings = Tally::new("command run in words, how rows closed");
     for _ in 0..200 {
         let table = a_table(&mut random);
-        let order = random_order(&mut random, table.n);
+        let order = random_order(&mut random, &table);
         let slots = random.between(1, 150);
         let supplies = supplies(&mut random, slots);
         let words = supply_words(&mut random, &supplies);
@@ -874,74 +877,94 @@ fn explanations() {
             tally.saw(number);
         }
     }
-    tally.assert_common(&[0, 1, 2, 3, 4, 5, 7, 11, 12], 50);
+    tally.assert_common(&[0, 1, 2, 7], 50);
+    tally.assert_common(&TABLE_CHECKS, 40);
 }
 
-/// What is said of a sheet whose first line lacks K's field, while its rows have those of
-/// promised parts: that a field of 0 before the first line end brings it up.
-const WITHOUT_LOADING: &str = "hint: the field of K (loading, in slots) is missing; \
-    a sheet from before K is brought up by a field '       0' before its first line end: \
-    sed '1s/$/       0/' SHEET";
+/// What is said of a sheet that lacks fields, and what brings it up: by whether its first
+/// line lacks that of K, and by how many fields the line of a row lacks.
+const LACKING: [[&str; 3]; 2] = [
+    [
+        "",
+        "hint: the field of the followed row (a row number) is missing; a sheet from before \
+         rows could follow rows is brought up by a field '       0' before the line end of each \
+         row: sed '2,$s/$/       0/' SHEET",
+        "hint: the fields of the promised part (in work units) and of the followed row (a row \
+         number) are missing; a sheet from before both is brought up by two fields '       0' \
+         before the line end of each row: sed '2,$s/$/       0       0/' SHEET",
+    ],
+    [
+        "hint: the field of K (loading, in slots) is missing; a sheet from before K is brought \
+         up by a field '       0' before its first line end: sed '1s/$/       0/' SHEET",
+        "hint: the fields of K (loading, in slots) and of the followed row (a row number) are \
+         missing; they are brought in by a field '       0' before each line end: sed 's/$/       \
+         0/' SHEET",
+        "hint: the fields of K (loading, in slots), of the promised part (in work units) and of \
+         the followed row (a row number) are missing; a sheet from before all three is brought \
+         up by a field '       0' before each line end, and another one before that of each row: \
+         sed 's/$/       0/; 2,$s/$/       0/' SHEET",
+    ],
+];
 
-/// The same of a sheet from before promised parts.
-const WITHOUT_PROMISED: &str = "hint: the field of the promised part (in work units) is \
-    missing; a sheet from before promised parts is brought up by a field '       0' before the \
-    line end of each row: sed '2,$s/$/       0/' SHEET";
-
-/// The same of a sheet from before both.
-const WITHOUT_BOTH: &str = "hint: the fields of K (loading, in slots) and of promised parts \
-    (in work units) are missing; a sheet from before both is brought up by a field '       0' \
-    before each line end: sed 's/$/       0/' SHEET";
-
-/// The sheet with a field of 0 before each line end from this line on, from 0.
-fn brought_up(sheet: &[u8], from: usize, lines: usize) -> Vec<u8> {
+/// The sheet with so many fields of 0 before the end of its first line, and before that of
+/// each row's.
+fn brought_up(sheet: &[u8], in_first: usize, in_rows: usize) -> Vec<u8> {
     let is_end = |&byte: &u8| byte == b'\n';
     let mut changed = Vec::new();
     for (index, line) in sheet.split_inclusive(is_end).enumerate() {
         let (before, end) = line.split_at(line.len() - 1);
-        let field: &[u8] = if (from..from + lines).contains(&index) {
-            b"       0"
-        } else {
-            b""
-        };
-        changed.extend([before, field, end].concat());
+        let fields = if index == 0 { in_first } else { in_rows };
+        changed.extend([before, &b"       0".repeat(fields), end].concat());
     }
     changed
 }
 
-/// A sheet from before K or before promised parts is refused, with 2 or with 1, and with
-/// the fields that are named it is that of the table without loading or promises.
+/// A sheet that lacks the field of K is refused with 2, one that lacks fields of its rows
+/// alone with 1, and with the fields that are named it is that of the table without loading,
+/// promises or waits.
 #[test]
 fn sheets_from_before() {
     let mut random = Random::seeded(714);
     for _ in 0..100 {
-        let table = a_table(&mut random).without_promises();
+        let table = a_table(&mut random);
+        let whole = |before: Before| sheet_of(&before.old_table(&table));
         let unloaded = sheet_of(&table.with_loading(0));
-        let whole = sheet_of(&table);
-        let lines = 1 + table.n as usize;
-        for (before, sheet, place, hint, [from, count]) in [
+        let waitless = sheet_of(&table.with_loading(0).without_waits());
+        let in_rows = |before: Before| before.old_sheet(&whole(before));
+        let at_loading = [2, 0, 4, 25, 1];
+        for (before, sheet, place, [in_first, in_rows]) in [
             (
-                Before::Loading.old_sheet(&unloaded),
-                &unloaded,
-                [2, 0, 4, 25, 1],
-                WITHOUT_BOTH,
-                [0, lines],
+                in_rows(Before::Loading),
+                whole(Before::Loading),
+                at_loading,
+                [1, 2],
             ),
             (
-                without_loading(unloaded.clone()),
-                &unloaded,
-                [2, 0, 4, 25, 1],
-                WITHOUT_LOADING,
+                in_rows(Before::Promises),
+                whole(Before::Promises),
+                [1, 1, 5, 66, 2],
+                [0, 2],
+            ),
+            (
+                in_rows(Before::Waits),
+                whole(Before::Waits),
+                [1, 1, 6, 74, 2],
                 [0, 1],
             ),
             (
-                Before::Promises.old_sheet(&whole),
-                &whole,
-                [1, 1, 5, 66, 2],
-                WITHOUT_PROMISED,
-                [1, lines - 1],
+                without_loading(unloaded.clone()),
+                unloaded,
+                at_loading,
+                [1, 0],
+            ),
+            (
+                without_loading(Before::Waits.old_sheet(&waitless)),
+                waitless,
+                at_loading,
+                [1, 1],
             ),
         ] {
+            let hint = LACKING[in_first][in_rows];
             assert_eq!(read_sheet(&before).0, place[0]);
             let plain = command(&["explain", "--plain", "-"], &before);
             assert_eq!(plain, (write_line(&place), 2));
@@ -949,7 +972,7 @@ fn sheets_from_before() {
             assert_eq!((text(&said).lines().last(), status), (Some(hint), 2));
             let (_, errors, status) = command_with_errors(&["plan", "-"], &before);
             assert_eq!((errors.lines().last(), status), (Some(hint), 2));
-            assert_eq!(brought_up(&before, from, count), *sheet);
+            assert_eq!(brought_up(&before, in_first, in_rows), sheet);
         }
     }
 }
@@ -965,6 +988,23 @@ fn ends_after(sheet: &[u8], from: usize, count: usize) -> bool {
     good.count() == count && sheet.get(from + count * FIELD) == Some(&b'\n')
 }
 
+/// Whether the first line of a sheet lacks the field of K, and how many fields that of its
+/// first row lacks, if it has a first line.
+fn lacking(sheet: &[u8]) -> [usize; 2] {
+    let fields = match [3, 4].map(|count| ends_after(sheet, 0, count)) {
+        [true, _] => 3,
+        [_, true] => 4,
+        _ => return [0, 0],
+    };
+    let in_row = |count| ends_after(sheet, fields * FIELD + 1, count);
+    let in_rows = match [5, 4].map(in_row) {
+        [true, _] => 1,
+        [_, true] => 2,
+        _ => 0,
+    };
+    [4 - fields, in_rows]
+}
+
 /// That fields are missing is said of no sheet but one whose lines end where these fields
 /// belong, its first line and its first row's.
 #[test]
@@ -974,45 +1014,33 @@ fn other_sheets_are_not_from_before() {
     for _ in 0..300 {
         let mut tried = sheets(&mut random).to_vec();
         let sheet = sheet_of(&small_table(&mut random));
-        for before in [
-            Before::Loading.old_sheet(&sheet),
-            Before::Promises.old_sheet(&sheet),
-            without_loading(sheet),
-        ] {
+        let [unloaded, waitless] =
+            [&sheet, &Before::Waits.old_sheet(&sheet)].map(|sheet| without_loading(sheet.clone()));
+        let before = TIMES.map(|before| before.old_sheet(&sheet));
+        for before in before.into_iter().chain([unloaded, waitless]) {
             let length = random.between(20, before.len() as u32 - 1);
             tried.push(before[..length as usize].to_vec());
             tried.push(damaged(&mut random, before));
         }
         for sheet in tried {
             let (said, _) = command(&["explain", "-"], &sheet);
-            let hints = [WITHOUT_LOADING, WITHOUT_PROMISED, WITHOUT_BOTH];
-            let is_said = |hint: &&str| text(&said).lines().any(|line| line == *hint);
-            let hinted = hints.into_iter().find(is_said);
-            let expected = if ends_after(&sheet, 0, 3) {
-                let no_parts = ends_after(&sheet, 3 * FIELD + 1, 4);
-                Some(if no_parts {
-                    WITHOUT_BOTH
-                } else {
-                    WITHOUT_LOADING
-                })
-            } else {
-                let no_parts = ends_after(&sheet, 0, 4) && ends_after(&sheet, FIRST_LINE, 4);
-                no_parts.then_some(WITHOUT_PROMISED)
+            let hints: Vec<&str> = text(&said)
+                .lines()
+                .filter(|line| LACKING.concat().contains(line))
+                .collect();
+            let [in_first, in_rows] = lacking(&sheet);
+            let expected: &[&str] = match [in_first, in_rows] {
+                [0, 0] => &[],
+                _ => &LACKING[in_first][in_rows..=in_rows],
             };
-            assert_eq!(hinted, expected, "{}", text_or_bytes(&sheet));
-            tally.saw((hinted, read_sheet(&sheet).0));
+            assert_eq!(hints, expected, "{}", text_or_bytes(&sheet));
+            tally.saw(([in_first, in_rows], read_sheet(&sheet).0));
         }
     }
-    let of_loading = [1, 2].map(|number| (Some(WITHOUT_LOADING), number));
-    tally.assert_common(&of_loading, 20);
-    tally.assert_common(&[(Some(WITHOUT_BOTH), 2)], 100);
-    let others = [
-        (None, 1),
-        (None, 2),
-        (None, 11),
-        (Some(WITHOUT_PROMISED), 1),
-    ];
-    tally.assert_common(&others, 40);
+    tally.assert_common(&[([1, 0], 1), ([1, 0], 2)], 20);
+    tally.assert_common(&[([1, 1], 2), ([1, 2], 2)], 100);
+    tally.assert_common(&[([0, 1], 1), ([0, 2], 1)], 40);
+    tally.assert_common(&[1, 2, 11].map(|number| ([0, 0], number)), 40);
 }
 
 fn text_or_bytes(sheet: &[u8]) -> String {
@@ -1083,10 +1111,10 @@ impl Written {
     /// that several would.
     fn random(random: &mut Random) -> Written {
         let mut table = a_table(random);
-        match random.between(0, 8) {
+        match random.between(0, 12) {
             0 => spoil_table(random, &mut table, 4),
             1..=2 => spoil_table(random, &mut table, 5),
-            3 => spoil_table(random, &mut table, 12),
+            number @ 3..=6 => spoil_table(random, &mut table, number + 9),
             _ => {}
         }
         if random.once_in(6) {
@@ -1126,7 +1154,8 @@ impl Written {
     /// rows file; column 0 where it refuses the number of rows.
     fn place(&self) -> Place {
         let capped = |figure: u32| figure.min(99_999_999);
-        let rows: Vec<Row> = self.rows.iter().map(|row| row.with(capped)).collect();
+        let rows = self.rows.iter();
+        let rows: Vec<Row> = rows.map(|row| Row::of(row.figures().map(capped))).collect();
         let n = rows.len() as u32;
         let [normal, degraded, loading] = [self.normal, self.degraded, self.loading].map(capped);
         let sheet = write_sheet(n, normal, degraded, loading, &rows);
@@ -1142,7 +1171,7 @@ impl Written {
     /// beside the figure that limits it; the other figures are right.
     fn with_figure(&self, (line, column): Place, figure: u32) -> Table {
         let mut first = [1, 1, 0];
-        let mut cells = [0, 1, LATEST_DEADLINE, 0, 0];
+        let mut cells = [0, 1, LATEST_DEADLINE, 0, 0, 0];
         if line == 2 {
             first[0] = self.normal;
             first[column - 1] = figure;
@@ -1157,7 +1186,21 @@ impl Written {
             cells[column - 1] = figure;
         }
         let [normal, degraded, loading] = first;
-        Table::of(normal, degraded, loading, &[promising_row(cells)])
+        Table::of(normal, degraded, loading, &[Row::of(cells)])
+    }
+
+    /// Which rows the row of this line may follow, in words.
+    fn rows_to_follow(&self, line: usize) -> String {
+        let row = line - 3;
+        let kind = match self.rows[row - 1].level {
+            0 => "is released no later",
+            _ => "is HI and released no later",
+        };
+        match row {
+            1 => "only 0 (none): no row stands above row 1".to_string(),
+            2 => format!("0 (none), or row 1 if it {kind}"),
+            _ => format!("0 (none), or one of rows 1 to {} that {kind}", row - 1),
+        }
     }
 
     /// What is said to be allowed in a place is what the check accepts there: the
@@ -1166,6 +1209,7 @@ impl Written {
         match place {
             (_, 0) => assert_eq!(allowed, "1 to 64 rows"),
             (4.., 4) => assert_eq!(allowed, "HI or LO (or 1 or 0)"),
+            (4.., 6) => assert_eq!(allowed, self.rows_to_follow(place.0)),
             _ => {
                 let [least, most] = ends_of(allowed);
                 let accepts = |figure| check_table(&self.with_figure(place, figure)) == 0;
@@ -1173,23 +1217,6 @@ impl Written {
                 assert!(least == 0 || !accepts(least - 1), "{place:?} {allowed}");
                 assert!(!accepts(most + 1), "{place:?} {allowed}");
             }
-        }
-    }
-}
-
-/// A row with each of its figures changed.
-trait With {
-    fn with(&self, change: impl Fn(u32) -> u32) -> Row;
-}
-
-impl With for Row {
-    fn with(&self, change: impl Fn(u32) -> u32) -> Row {
-        Row {
-            release: change(self.release),
-            work: change(self.work),
-            deadline: change(self.deadline),
-            level: change(self.level),
-            promised: change(self.promised),
         }
     }
 }
@@ -1236,14 +1263,14 @@ fn sheets_of_words() {
     tally.assert_common(&[(0, false), (2, false), (3, false), (3, true)], 40);
 }
 
-/// The figures of a row; a promised part of 0 may be left out.
+/// The figures of a row. The followed row of 0 may be left out, and with it a promised part
+/// of 0.
 fn row_word(random: &mut Random, row: &Row) -> String {
-    let (release, work, deadline, level) = (row.release, row.work, row.deadline, row.level);
-    let word = format!("{release},{work},{deadline},{level}");
-    match row.promised {
-        0 if random.once_in(2) => word,
-        promised => format!("{word},{promised}"),
+    let mut figures = row.figures().map(|figure| figure.to_string()).to_vec();
+    while figures.len() > 4 && figures.last().is_some_and(|last| last == "0") && random.once_in(2) {
+        figures.pop();
     }
+    figures.join(",")
 }
 
 /// The word of a row with one figure replaced, or with a comma more, or too few.
@@ -1263,15 +1290,17 @@ const TABLE_HEADINGS: [&str; 3] = [
     "degraded speed G (work units per slot)",
     "loading K (slots)",
 ];
-const ROW_HEADINGS: [&str; 5] = [
+const ROW_HEADINGS: [&str; FIGURES] = [
     "release (slots)",
     "work (work units)",
     "deadline (slots)",
     "level (HI or LO)",
     "promised (work units)",
+    "follows (row or 0)",
 ];
 
-const PARTS: &str = ROW_HEADINGS[4];
+/// The column of levels, from 1. Those after it came one after another.
+const LEVELS: usize = 4;
 
 /// The cells of a rows file, line by line; a level that is none as its figure.
 fn cells_of(written: &Written) -> Vec<Vec<String>> {
@@ -1284,14 +1313,12 @@ fn cells_of(written: &Written) -> Vec<Vec<String>> {
         texts(&ROW_HEADINGS),
     ];
     for row in &written.rows {
-        let figures = [row.release, row.work, row.deadline];
-        let mut cells: Vec<String> = figures.iter().map(u32::to_string).collect();
-        cells.push(match row.level {
-            0 => "LO".to_string(),
-            1 => "HI".to_string(),
-            other => other.to_string(),
-        });
-        cells.push(row.promised.to_string());
+        let mut cells = row.figures().map(|figure| figure.to_string()).to_vec();
+        match row.level {
+            0 => cells[LEVELS - 1] = "LO".to_string(),
+            1 => cells[LEVELS - 1] = "HI".to_string(),
+            _ => {}
+        }
         lines.push(cells);
     }
     lines
@@ -1302,7 +1329,7 @@ fn rows_text(written: &Written) -> Vec<u8> {
     let mut text = String::new();
     for (index, cells) in cells_of(written).iter().enumerate() {
         text += &cells.join(",");
-        text += if index < 2 { ",,\n" } else { "\n" };
+        text += if index < 2 { ",,,\n" } else { "\n" };
     }
     text.into_bytes()
 }
@@ -1338,8 +1365,8 @@ fn rows_files_from_before_loading() {
     for _ in 0..100 {
         let table = a_table(&mut random).with_loading(0);
         let rows = text(&rows_text(&Written::of(&table))).to_string();
-        let before = rows.replacen("loading K (slots),,\n", ",,\n", 1);
-        let before = before.replacen(",0,,\n", ",,,\n", 1);
+        let before = rows.replacen("loading K (slots),,,\n", ",,,\n", 1);
+        let before = before.replacen(",0,,,\n", ",,,,\n", 1);
         let (sheet, errors, status) = command_with_errors(&["sheet", "-"], before.as_bytes());
         assert_eq!((sheet, status), (Vec::new(), 3));
         let place = (1, TABLE_HEADINGS.len());
@@ -1360,15 +1387,20 @@ fn rows_files_from_before_loading() {
     }
 }
 
-/// A rows file from before promised parts lacks their column, and promises none.
+/// A rows file from before rows could follow rows lacks their column, and no row follows
+/// another; one from before promised parts lacks that of those too, and promises none.
 #[test]
-fn rows_files_from_before_promised_parts() {
+fn rows_files_from_before_promised_parts_and_waits() {
     let mut random = Random::seeded(717);
-    for _ in 0..100 {
-        let table = a_table(&mut random).without_promises();
+    for round in 0..100 {
+        let (before, columns) = match round % 2 {
+            0 => (Before::Promises, LEVELS),
+            _ => (Before::Waits, LEVELS + 1),
+        };
+        let table = before.old_table(&a_table(&mut random));
         let mut lines = cells_of(&Written::of(&table));
         for line in &mut lines {
-            line.truncate(4);
+            line.truncate(columns);
             line.resize(line.len() + random.between(0, 2) as usize, String::new());
         }
         let lines: Vec<String> = lines.iter().map(|cells| cells.join(",")).collect();
@@ -1402,7 +1434,8 @@ fn rows_of_refused_sheets() {
             tally.saw(number);
         }
     }
-    tally.assert_common(&[0, 1, 2, 3, 4, 5, 11, 12], 20);
+    tally.assert_common(&[0, 1, 2], 20);
+    tally.assert_common(&TABLE_CHECKS, 15);
 }
 
 /// A cell as a spreadsheet program or a hand may write it.
@@ -1432,11 +1465,18 @@ fn spelled(random: &mut Random, cell: &str) -> String {
 /// case, empty cells and lines at the end, line ends of three kinds, or of one.
 fn spelled_rows(random: &mut Random, written: &Written) -> Vec<u8> {
     let mut lines = cells_of(written);
-    let promises = written.rows.iter().any(|row| row.promised > 0);
-    if !promises && random.once_in(4) {
-        // As before there were promised parts.
-        lines.iter_mut().for_each(|line| line.truncate(4));
+    // As before rows could follow rows, or before there were promised parts.
+    let mut columns = FIGURES;
+    let is_unused = |column| {
+        written
+            .rows
+            .iter()
+            .all(|row| row.figures()[column - 1] == 0)
+    };
+    while columns > LEVELS && is_unused(columns) && random.once_in(2) {
+        columns -= 1;
     }
+    lines.iter_mut().for_each(|line| line.truncate(columns));
     for line in &mut lines {
         let empty = random.one_of(&[0, 0, 1, 2, 5]);
         line.resize(line.len() + empty, String::new());
@@ -1499,6 +1539,7 @@ fn spellings_of_rows() {
         tally.saw(number);
     }
     tally.assert_common(&[0, 3, 4, 5, 11, 12], 30);
+    tally.assert_common(&[13, 14, 15], 15);
 }
 
 /// A line and a column of a rows file, from 1; 0 for the line, or the file, as a
@@ -1565,8 +1606,8 @@ fn damaged_rows() {
         }
         tally.saw(status);
     }
-    tally.assert_common(&[0, 2, 3], 200);
-    places.assert_common(&[0, 1, 2, 3, 4, 5, 6], 20);
+    tally.assert_common(&[0, 2, 3], 150);
+    places.assert_common(&[0, 1, 2, 3, 4, 5, 6, 7], 20);
 }
 
 fn damage_rows(random: &mut Random, text: &mut Vec<u8>) {
@@ -1618,7 +1659,7 @@ fn read_rows(text: &[u8]) -> Result<Written, Place> {
         loading: 0,
         rows: Vec::new(),
     };
-    let (mut filled, mut empty, mut has_parts) = (0, None, true);
+    let (mut filled, mut empty, mut columns) = (0, None, FIGURES);
     for (index, line) in lines_of_text(text).into_iter().enumerate() {
         let number = index + 1;
         let at = |column| (number, column);
@@ -1629,9 +1670,9 @@ fn read_rows(text: &[u8]) -> Result<Written, Place> {
             return Err((empty, 0));
         } else {
             if number == 3 {
-                has_parts = has_part_column(&cells);
+                columns = columns_of(&cells);
             }
-            take_line(&mut written, number, &cells, has_parts).map_err(at)?;
+            take_line(&mut written, number, &cells, columns).map_err(at)?;
             filled = number;
         }
     }
@@ -1643,31 +1684,39 @@ fn read_rows(text: &[u8]) -> Result<Written, Place> {
 }
 
 /// Takes a filled line for what its number makes it, or gives the column at
-/// fault.
+/// fault. Rows have so many columns.
 fn take_line(
     written: &mut Written,
     number: usize,
     cells: &[Vec<u8>],
-    has_parts: bool,
+    columns: usize,
 ) -> Result<(), usize> {
-    let columns = if has_parts { 5 } else { 4 };
     match number {
         1 => take_headings(cells, &TABLE_HEADINGS)?,
-        2 => [written.normal, written.degraded, written.loading] = take_figures(cells)?,
+        2 => [written.normal, written.degraded, written.loading] = take_figures(cells, 3)?,
         3 => take_headings(cells, &ROW_HEADINGS[..columns])?,
-        _ if has_parts => written.rows.push(promising_row(take_figures(cells)?)),
-        _ => written.rows.push(row(take_figures(cells)?)),
+        _ => written.rows.push(Row::of(take_figures(cells, columns)?)),
     }
     Ok(())
 }
 
-/// The headings of the rows have one of promised parts, in whatever column, or something
-/// else in its column. Of the cells after that column the first filled one is looked at.
-fn has_part_column(headings: &[Vec<u8>]) -> bool {
-    let is_heading = |column| cell_at(headings, column).eq_ignore_ascii_case(PARTS.as_bytes());
-    !cell_at(headings, 5).is_empty()
-        || (1..=4).any(is_heading)
-        || filled_after(headings, 5).is_some_and(is_heading)
+/// How many columns rows have by their headings: those that came after levels may be
+/// missing, the last ones first.
+fn columns_of(headings: &[Vec<u8>]) -> usize {
+    let mut columns = FIGURES;
+    while columns > LEVELS && lacks_heading(headings, columns) {
+        columns -= 1;
+    }
+    columns
+}
+
+/// Nothing stands in this column of the headings, and its heading in no other one. Of the
+/// cells after all columns the first filled one is looked at.
+fn lacks_heading(headings: &[Vec<u8>], column: usize) -> bool {
+    let heading = ROW_HEADINGS[column - 1].as_bytes();
+    let is_heading = |column| cell_at(headings, column).eq_ignore_ascii_case(heading);
+    let is_beyond = filled_after(headings, FIGURES).is_some_and(is_heading);
+    cell_at(headings, column).is_empty() && !(1..=FIGURES).any(is_heading) && !is_beyond
 }
 
 /// The lines of a text, whatever ends them.
@@ -1776,22 +1825,25 @@ fn take_headings(cells: &[Vec<u8>], headings: &[&str]) -> Result<(), usize> {
     }
 }
 
-/// Figures are looked at from the left. A cell too many counts before a cell at
-/// fault that is empty, has digits alone or a level in the place of a promised part, and
-/// after one with other text.
-fn take_figures<const COLUMNS: usize>(cells: &[Vec<u8>]) -> Result<[u32; COLUMNS], usize> {
-    let mut figures = [0; COLUMNS];
-    for column in 1..=COLUMNS {
+/// Figures are looked at from the left, so many; those after them are 0. A cell too many
+/// counts before a cell at fault that is empty, has digits alone or a level after the column
+/// of levels, and after one with other text.
+fn take_figures<const MOST: usize>(
+    cells: &[Vec<u8>],
+    columns: usize,
+) -> Result<[u32; MOST], usize> {
+    let mut figures = [0; MOST];
+    for column in 1..=columns {
         let cell = cell_at(cells, column);
         let read = match column {
-            4 => level_of_cell(cell),
+            LEVELS => level_of_cell(cell),
             _ => figure_of_cell(cell),
         };
         let Some(figure) = read else {
-            let moved_level =
-                column == 5 && [&b"HI"[..], b"LO"].contains(&&cell.to_ascii_uppercase()[..]);
+            let is_level = [&b"HI"[..], b"LO"].contains(&&cell.to_ascii_uppercase()[..]);
+            let moved_level = column > LEVELS && is_level;
             let has_text = !moved_level && !cell.iter().all(u8::is_ascii_digit);
-            let beyond = filled_after(cells, COLUMNS);
+            let beyond = filled_after(cells, columns);
             return Err(if has_text {
                 column
             } else {
@@ -1800,7 +1852,7 @@ fn take_figures<const COLUMNS: usize>(cells: &[Vec<u8>]) -> Result<[u32; COLUMNS
         };
         figures[column - 1] = figure;
     }
-    filled_after(cells, COLUMNS).map_or(Ok(figures), Err)
+    filled_after(cells, columns).map_or(Ok(figures), Err)
 }
 
 fn figure_of_cell(cell: &[u8]) -> Option<u32> {
@@ -1824,7 +1876,7 @@ fn orders_of_other_tables() {
     for n in 1..=9 {
         let rows: Vec<u8> = (1..=n).collect();
         let order = model::order::order_of(&rows);
-        let number = check_order(5, &order);
+        let number = check_order(&easy(5), &order);
         let words = words_of(&rows).join(",");
         let (_, status) = command(&["judge", "--plain", "-", &words], &sheet);
         assert_eq!(status, status_of(number), "{n} rows");

@@ -1,6 +1,6 @@
 //! Forward of the library against the model's, in one call and in parts, over deadlines
-//! too. Every loading time from 0 to 16 slots comes up, and tables with promises and
-//! without.
+//! too. Every loading time from 0 to 16 slots comes up, and tables with promises and waits
+//! and without.
 
 mod common;
 
@@ -8,16 +8,16 @@ use common::records::{
     any_record, fresh_record, reached_record, sound_record, sound_record_at, unsound_record,
     with_sound_figures, CLAUSES,
 };
-use common::{large_table, small_table, supplies, Loadings, Promises, Tally};
+use common::{large_table, small_table, supplies, Kinds, Loadings, Tally};
 use compiled::library;
-use compiled::sheets::{easy, easy_loading, hard, random_order};
+use compiled::sheets::{easy, easy_loading, grouped, hard};
 use model::calls::{play_on_paper, Answer, Call, LAST_CLOCK};
-use model::cases::{promising_row, row};
+use model::cases::row;
 use model::order::order_of;
 use model::plain;
-use model::random::Random;
+use model::random::{random_order, Random};
 use model::record::{Forward, Record};
-use model::run::is_finished;
+use model::run::{is_finished, is_waiting};
 use model::table::{Table, HI, LATEST_DEADLINE, LO};
 
 /// Compares forward over these supplies; gives the answer.
@@ -67,20 +67,20 @@ fn whole_runs() {
     let mut random = Random::seeded(507);
     let mut closed = Tally::new("forward, whole runs, all rows closed");
     let mut loadings = Loadings::new("forward, whole runs, by K");
-    let mut promises = Promises::new("forward, whole runs, with promises");
+    let mut kinds = Kinds::new("forward, whole runs, by promises and waits");
     for _ in 0..20_000 {
         let record = fresh_record(&mut random);
         let (n, loading) = (record.table.n, record.table.loading);
         let count = 40 + n * (3 + loading);
         let answer = compare(&record, &supplies(&mut random, count));
         loadings.saw(answer.number, &record.table);
-        promises.saw(answer.number, &record.table);
+        kinds.saw(answer.number, &record.table);
         let closing = &answer.record.closing[..n as usize];
         closed.saw(closing.iter().all(|&slot| slot != 0));
     }
     closed.assert_common(&[true], 8_000);
     loadings.assert_every(400);
-    promises.assert_both(5_000);
+    kinds.assert_all(2_000);
 }
 
 /// A course in which every slot before this clock supplies at least G, often just that,
@@ -135,6 +135,58 @@ fn planned_rows_keep_their_promises() {
     }
     tally.assert_common(&[false, true], 200);
     loadings.assert_every(40);
+}
+
+/// How a closed row of a record has ended: done, dropped for its slots, or by the clock.
+fn how_it_ended(record: &Record, row: u8) -> &'static str {
+    let index = row as usize - 1;
+    let (got, used) = (record.got[index], record.used[index]);
+    match got == record.table.work[index] {
+        true => "done",
+        false if is_finished(&record.table, row, got, used) => "used up",
+        false => "late",
+    }
+}
+
+/// No slot runs a row while the row that it follows is open, from fresh records, reached
+/// ones and ones that no run reaches, whatever is supplied. Once that is closed the row may
+/// run; what a HI row follows is done then (rule 9.19).
+#[test]
+fn followers_wait() {
+    let mut random = Random::seeded(512);
+    let mut tally = Tally::new("forward, slots of followers, by how the followed row ended");
+    let mut waited = Tally::new("forward, slots in which a released row waits");
+    for round in 0..20_000 {
+        let mut record = match round % 3 {
+            0 => fresh_record(&mut random),
+            1 => reached_record(&mut random),
+            _ => {
+                let clock = random.between(0, 60);
+                sound_record_at(&mut random, clock)
+            }
+        };
+        let table = record.table;
+        for supply in supplies(&mut random, 30) {
+            let after = library::one_slot(&record, supply);
+            let waits = |row: u8| {
+                let (released, state) = (table.row(row).release <= record.clock, record.state());
+                released && record.closing[row as usize - 1] == 0 && is_waiting(&table, &state, row)
+            };
+            waited.saw((1..=table.n as u8).any(waits));
+            if after.row != 0 && table.row(after.row).follows != 0 {
+                let followed = table.row(after.row).follows as u8;
+                assert!(record.closing[followed as usize - 1] != 0, "{record:?}");
+                let ended = how_it_ended(&record, followed);
+                let is_high = table.row(after.row).level == HI;
+                assert!(ended == "done" || !is_high, "{record:?}");
+                tally.saw((is_high, ended));
+            }
+            record = after.record;
+        }
+    }
+    tally.assert_common(&[(false, "done"), (true, "done")], 2_000);
+    tally.assert_common(&[(false, "used up"), (false, "late")], 500);
+    waited.assert_common(&[false, true], 20_000);
 }
 
 #[test]
@@ -277,10 +329,11 @@ fn splitting_at_deadlines() {
     loadings.assert_every(100);
 }
 
-/// A HI row of the most work and 63 previews below it, with these deadlines in slots.
+/// A HI row of the most work and 63 previews below it, with these deadlines in slots. All
+/// but the first follow another row, the HI row or a preview.
 fn previews_below(deadlines: impl Fn(u32) -> u32) -> Record {
     let high = row([0, 1_000_000, 1_000_000, HI]);
-    let preview = |index| promising_row([0, 2, deadlines(index), LO, index % 3]);
+    let preview = |index| row([0, 2, deadlines(index), LO, index % 3, index / 2]);
     let mut rows = vec![high];
     rows.extend((1..64).map(preview));
     let places: Vec<u8> = (1..=64).collect();
@@ -389,12 +442,13 @@ fn long_lists() {
         (easy(64), 2_000_005),
         (easy_loading(64, 16), 10_000),
         (hard(64), 100_000),
+        (grouped(64, 3), 100_000),
         (slow, 1_999_999),
         (slow.with_loading(16), 2_000_000),
         (slow.with_loading(7), 2_000_005),
     ];
     for (table, count) in runs {
-        let order = random_order(&mut random, 64);
+        let order = random_order(&mut random, &table);
         let (_, record) = Record::fresh(&table, &order);
         let answer = compare(&record, &supplies(&mut random, count));
         assert_eq!(answer.worked, count.min(LAST_CLOCK));

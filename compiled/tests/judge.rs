@@ -1,21 +1,21 @@
 //! The judge and the worst finishes of the library against the model's, and on
 //! large tables against the plain ones. Every loading time from 0 to 16 slots
-//! comes up, and tables with promises and without.
+//! comes up, and tables with promises and waits and without.
 
 mod common;
 
 use common::{
-    any_order, for_each_small_table, large_table, small_table, spoil_table, Loadings, Promises,
-    Tally, TABLE_CHECKS,
+    any_order, for_each_small_table, large_table, small_table, spoil_table, Kinds, Loadings, Tally,
+    TABLE_CHECKS,
 };
 use compiled::library;
-use compiled::sheets::{largest, random_order};
-use model::cases::table;
+use compiled::sheets::largest;
+use model::cases::{row, table};
 use model::judge::{judge, judge_table, Verdict};
 use model::order::{check_order, check_table_and_order, order_of, Order};
 use model::plain;
 use model::plan::worst_finish;
-use model::random::{spoil_promise, Random};
+use model::random::{random_order, Random};
 use model::table::{Row, Table, MOST_LOADING, ROWS};
 
 /// What the judge said, for the tallies.
@@ -86,9 +86,9 @@ fn all_small_tables() {
     let mut tally = Tally::new("judge, all tables of the grid");
     let mut loadings = Loadings::new("judge, all tables of the grid, by K");
     for_each_small_table(|table| {
-        let order = any_order(&mut random, table.n, 8);
+        let order = any_order(&mut random, table, 8);
         compare_with_model(table, &order, &mut tally);
-        loadings.saw(check_order(table.n, &order), table);
+        loadings.saw(check_order(table, &order), table);
     });
     loadings.assert_every(12_000);
     let common = [Said::Yes, Said::No, Said::Refused(6)];
@@ -100,20 +100,20 @@ fn random_large_tables() {
     let mut random = Random::seeded(302);
     let mut tally = Tally::new("judge, random tables of up to 64 rows");
     let mut loadings = Loadings::new("judge, random tables of up to 64 rows, by K");
-    let mut promises = Promises::new("judge, random tables of up to 64 rows, with promises");
+    let mut kinds = Kinds::new("judge, random tables of up to 64 rows, by promises and waits");
     for _ in 0..50_000 {
         let table = large_table(&mut random);
-        let order = any_order(&mut random, table.n, 8);
+        let order = any_order(&mut random, &table, 8);
         compare_with_plain(&table, &order, &mut tally);
-        loadings.saw(check_order(table.n, &order), &table);
-        promises.saw(check_order(table.n, &order), &table);
+        loadings.saw(check_order(&table, &order), &table);
+        kinds.saw(check_order(&table, &order), &table);
         let planned = library::plan(&table);
         if planned.number == 0 {
             compare_with_plain(&table, &planned.order, &mut tally);
         }
     }
     loadings.assert_every(1_000);
-    promises.assert_both(10_000);
+    kinds.assert_all(10_000);
     let common = [Said::Yes, Said::No, Said::Refused(6)];
     tally.assert_common(&common, 5_000);
 }
@@ -124,14 +124,14 @@ fn refused_tables_and_orders() {
     let mut tally = Tally::new("judge, refusals");
     for round in 0..50_000 {
         let mut table = small_table(&mut random);
-        let order = any_order(&mut random, table.n, 2);
-        if let Some(&number) = TABLE_CHECKS.get(round % 6) {
+        let order = any_order(&mut random, &table, 2);
+        if let Some(&number) = TABLE_CHECKS.get(round % 9) {
             spoil_table(&mut random, &mut table, number);
         }
         compare_with_model(&table, &order, &mut tally);
     }
-    let refusals = [3, 4, 11, 5, 12, 6].map(Said::Refused);
-    tally.assert_common(&refusals, 3_000);
+    tally.assert_common(&TABLE_CHECKS.map(Said::Refused), 3_000);
+    tally.assert_common(&[Said::Refused(6)], 2_000);
 }
 
 /// Two rows or more of the same least slack: the lower row is named, wherever
@@ -144,7 +144,7 @@ fn ties() {
     let mut loadings = Loadings::new("judge, ties, by K");
     for _ in 0..50_000 {
         let table = small_table(&mut random);
-        let order = random_order(&mut random, table.n);
+        let order = random_order(&mut random, &table);
         compare_with_model(&table, &order, &mut tally);
         let verdict = library::judge(&table, &order);
         let (_, slacks) = plain::slacks(&table, &order);
@@ -178,7 +178,7 @@ fn largest_works() {
     let figures = [(0, 0), (1, 0), (500_000, 9), (999_999, 0), (999_999, 16)];
     for (release, loading) in figures {
         let table = largest(release).with_loading(loading);
-        let order = random_order(&mut random, 64);
+        let order = random_order(&mut random, &table);
         compare_with_plain(&table, &order, &mut tally);
         let verdict = library::judge(&table, &order);
         let lowest = order[63];
@@ -217,31 +217,27 @@ fn lists_of_rows() {
     };
     for round in 0..20_000 {
         let mut table = small_table(&mut random);
-        let order = any_order(&mut random, table.n, 4);
-        match round % 10 {
-            0 => spoil_table(&mut random, &mut table, 11),
-            1 => spoil_promise(&mut random, &mut table),
-            _ => {}
+        let order = any_order(&mut random, &table, 4);
+        if let Some(&number) = [11, 12, 13, 14, 15].get(round % 10) {
+            spoil_table(&mut random, &mut table, number);
         }
         let figures = [table.normal, table.degraded, table.loading];
         let number = compare(figures, &table.rows(), &order);
         loadings.saw(number, &table);
     }
-    loadings.assert_every(300);
-    let row = |index: u32| Row {
-        release: index % 3,
-        work: 1 + index % 5,
-        deadline: 200 + index % 50,
-        level: index % 2,
-        promised: if index.is_multiple_of(4) {
-            1 + index % 5
-        } else {
-            0
-        },
+    loadings.assert_every(150);
+    // Every fourth row promises all of its work and follows the row four before it.
+    let row = |index: u32| {
+        let (work, deadline) = (1 + index % 5, 200 + index % 50);
+        let (promised, follows) = match index % 4 {
+            0 => (work, index.saturating_sub(3)),
+            _ => (0, 0),
+        };
+        row([index / 20, work, deadline, index % 2, promised, follows])
     };
     let rows: Vec<Row> = (0..1_000).map(row).collect();
     for n in (0..=66).chain([100, 1_000]) {
-        let places: Vec<u8> = (1..=n.min(ROWS) as u8).rev().collect();
+        let places: Vec<u8> = (1..=n.min(ROWS) as u8).collect();
         let loading = n as u32 % (MOST_LOADING + 1);
         compare([5, 2, loading], &rows[..n], &order_of(&places));
         compare([2, 5, 17], &rows[..n], &order_of(&places));
@@ -249,5 +245,5 @@ fn lists_of_rows() {
     tally.assert_common(&[Said::Yes, Said::No, Said::Refused(6)], 1_000);
     tally.assert_common(&[Said::Refused(3)], 8);
     tally.assert_common(&[Said::Refused(4)], 60);
-    tally.assert_common(&[11, 12].map(Said::Refused), 1_000);
+    tally.assert_common(&[11, 12, 13, 14, 15].map(Said::Refused), 1_000);
 }

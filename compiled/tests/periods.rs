@@ -5,37 +5,37 @@ mod common;
 
 use common::periods::{joined, tied, ties, Joint, ABOUT_THE_END, IN_ONE_PERIOD};
 use common::planning::{compare_all, compare_plain};
-use common::{Loadings, Promises, Tally};
+use common::{Kinds, Loadings, Tally};
 use compiled::sheets::{
-    easy_loading, hard_loading, late_promises, one_period, promising, staggered,
+    chain, easy_loading, grouped, hard_loading, late_promises, one_period, promising, staggered,
 };
 use model::random::Random;
 use model::table::{Table, MOST_LOADING};
 
 /// Compares 20,000 small and as many large tables that `make` makes of so many rows, and
-/// shows that 0 and 7 are both common, with every loading time, with promises and
+/// shows that 0 and 7 are both common, with every loading time, with promises and waits and
 /// without.
 fn compare_tables(of: &'static str, seed: u64, mut make: impl FnMut(&mut Random, u32) -> Table) {
     let mut random = Random::seeded(seed);
     let mut answers = Tally::new(of);
     let mut by_answer = [Loadings::new(of), Loadings::new(of)];
-    let mut promises = [Promises::new(of), Promises::new(of)];
+    let mut kinds = [Kinds::new(of), Kinds::new(of)];
     for round in 0..20_000 {
         let small = make(&mut random, 1 + round % 8);
         let number = compare_all(&small, &mut answers);
         by_answer[usize::from(number == 7)].saw(number, &small);
-        promises[usize::from(number == 7)].saw(number, &small);
+        kinds[usize::from(number == 7)].saw(number, &small);
         let large = make(&mut random, 1 + round % 64);
         let (number, _) = compare_plain(&large, &mut answers);
         by_answer[usize::from(number == 7)].saw(number, &large);
-        promises[usize::from(number == 7)].saw(number, &large);
+        kinds[usize::from(number == 7)].saw(number, &large);
     }
     answers.assert_common(&[0, 7], 10_000);
     for loadings in &by_answer {
         loadings.assert_every(250);
     }
-    for promises in &promises {
-        promises.assert_both(3_000);
+    for kinds in &kinds {
+        kinds.assert_all(1_500);
     }
 }
 
@@ -119,6 +119,7 @@ fn compare_sheet(table: &Table, tally: &mut Tally<u32>) {
 
 fn sheets(n: u32, loading: u32) -> Vec<Table> {
     let mut tables = vec![
+        chain(n, loading),
         easy_loading(n, loading),
         one_period(n, loading),
         staggered(n, loading),
@@ -127,6 +128,7 @@ fn sheets(n: u32, loading: u32) -> Vec<Table> {
     if n.is_multiple_of(4) {
         let hard = hard_loading(n, loading);
         tables.extend([hard, promising(&hard), late_promises(n, loading)]);
+        tables.push(grouped(n, loading));
     }
     tables
 }
@@ -138,12 +140,14 @@ fn trials_of_the_sheets() {
     let mut tally = Tally::new("planner, sheets whose trials are counted");
     let mut trials = |table: Table| compare_plain(&table, &mut tally).1;
     for loading in 0..=MOST_LOADING {
-        for (n, hard, one, others) in [
-            (8, 26, 24, 8),
-            (16, 100, 80, 48),
-            (32, 392, 288, 203),
-            (64, 1_552, 1_088, 643),
+        for (n, hard, one, others, waits) in [
+            (8, 26, 24, 8, 14),
+            (16, 100, 80, 48, 44),
+            (32, 392, 288, 203, 152),
+            (64, 1_552, 1_088, 643, 560),
         ] {
+            assert_eq!(trials(chain(n, loading)), n);
+            assert_eq!(trials(grouped(n, loading)), waits);
             assert_eq!(trials(easy_loading(n, loading)), n);
             assert_eq!(trials(promising(&easy_loading(n, loading))), n);
             assert_eq!(trials(hard_loading(n, loading)), hard);

@@ -1,18 +1,19 @@
 //! The planner of the library against the model's, and on tables for which the
 //! model takes too long against the plain ones, which are compared with the model
 //! here as well. Every loading time from 0 to 16 slots comes up, and tables with
-//! promises and without. Where busy periods and ties decide: `periods`.
+//! promises and waits and without. Where busy periods and ties decide: `periods`.
 
 mod common;
 
 use common::planning::{by_both, compare, compare_all, compare_plain};
 use common::{
-    for_each_small_table, large_table, small_table, spoil_table, Loadings, Promises, Tally,
+    for_each_small_table, large_table, small_table, spoil_table, Kinds, Loadings, Tally,
     MODEL_LARGE, TABLE_CHECKS,
 };
 use compiled::library;
 use compiled::sheets::{
-    easy_loading, hard_loading, largest, late_promises, one_period, promising, staggered, tight,
+    chain, easy_loading, grouped, hard_loading, largest, late_promises, one_period, promising,
+    staggered, tight,
 };
 use model::order::NO_ORDER;
 use model::plan::Plan;
@@ -40,15 +41,15 @@ fn random_small_tables() {
         Loadings::new("planner, random small tables with an order, by K"),
         Loadings::new("planner, random small tables without, by K"),
     ];
-    let mut promises = [
-        Promises::new("planner, random small tables with an order, with promises"),
-        Promises::new("planner, random small tables without, with promises"),
+    let mut kinds = [
+        Kinds::new("planner, random small tables with an order, by promises and waits"),
+        Kinds::new("planner, random small tables without, by promises and waits"),
     ];
     for _ in 0..60_000 {
         let table = small_table(&mut random);
         let number = compare_all(&table, &mut tally);
         by_answer[usize::from(number == 7)].saw(number, &table);
-        promises[usize::from(number == 7)].saw(number, &table);
+        kinds[usize::from(number == 7)].saw(number, &table);
         rows_left.saw(library::plan(&table).left.count_ones());
     }
     tally.assert_common(&[0, 7], 15_000);
@@ -56,8 +57,8 @@ fn random_small_tables() {
     for loadings in &by_answer {
         loadings.assert_every(400);
     }
-    for promises in &promises {
-        promises.assert_both(5_000);
+    for kinds in &kinds {
+        kinds.assert_all(1_500);
     }
 }
 
@@ -79,6 +80,8 @@ fn larger_tables_that_the_model_plans() {
             compare_all(&staggered(n, loading), &mut tally);
             compare_all(&promising(&hard_loading(n, loading)), &mut tally);
             compare_all(&late_promises(n, loading), &mut tally);
+            compare_all(&chain(n, loading), &mut tally);
+            compare_all(&grouped(n, loading), &mut tally);
         }
     }
     tally.assert_common(&[0, 7], 50);
@@ -94,15 +97,15 @@ fn random_large_tables() {
         Loadings::new("planner, random large tables with an order, by K"),
         Loadings::new("planner, random large tables without, by K"),
     ];
-    let mut promises = [
-        Promises::new("planner, random large tables with an order, with promises"),
-        Promises::new("planner, random large tables without, with promises"),
+    let mut kinds = [
+        Kinds::new("planner, random large tables with an order, by promises and waits"),
+        Kinds::new("planner, random large tables without, by promises and waits"),
     ];
     for _ in 0..100_000 {
         let table = large_table(&mut random);
         let (number, tried) = compare_plain(&table, &mut tally);
         by_answer[usize::from(number == 7)].saw(number, &table);
-        promises[usize::from(number == 7)].saw(number, &table);
+        kinds[usize::from(number == 7)].saw(number, &table);
         trials.saw(tried.ilog2());
     }
     tally.assert_common(&[0, 7], 25_000);
@@ -110,8 +113,8 @@ fn random_large_tables() {
     for loadings in &by_answer {
         loadings.assert_every(700);
     }
-    for promises in &promises {
-        promises.assert_both(10_000);
+    for kinds in &kinds {
+        kinds.assert_all(5_000);
     }
 }
 
@@ -125,7 +128,7 @@ fn refused_tables() {
         } else {
             large_table(&mut random)
         };
-        spoil_table(&mut random, &mut table, TABLE_CHECKS[round % 5]);
+        spoil_table(&mut random, &mut table, TABLE_CHECKS[round % 8]);
         if random.once_in(4) {
             table.degraded = random.between(0, 1_002);
         }
@@ -133,7 +136,7 @@ fn refused_tables() {
             compare_all(&table, &mut tally);
         }
     }
-    tally.assert_common(&[3, 4, 5, 11, 12], 8_000);
+    tally.assert_common(&TABLE_CHECKS, 4_000);
 }
 
 /// Sixty-four rows of the largest work at speed 1: the lowest place finishes at

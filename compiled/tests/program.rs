@@ -1,18 +1,19 @@
 //! What the planning program writes, byte for byte, for sheets of every loading
-//! time, with promises and without.
+//! time, with promises and waits and without.
 
 mod common;
 
 use common::sheets::{damaged, long, small_sheets};
-use common::{large_table, small_table, Loadings, Promises, Tally};
+use common::{large_table, small_table, Kinds, Loadings, Tally};
 use compiled::library;
 use compiled::sheets::{easy, easy_loading, hard, hard_loading};
-use model::before::Before;
+use model::before::{Before, TIMES};
+use model::cases::waits::{chain, wait_plans};
 use model::cases::{either_place, p1, P1_TEXT};
 use model::plain;
 use model::program::{planning_program, KEPT};
 use model::random::Random;
-use model::sheet::{read_field, sheet_of};
+use model::sheet::{read_field, sheet_of, write_line};
 use model::table::MOST_LOADING;
 use std::io::Write;
 use std::process::{Command, Stdio};
@@ -48,31 +49,32 @@ fn small_sheets_against_the_model() {
             compare_with_model(&input, &mut tally);
         }
     }
-    tally.assert_common(&[0, 1, 2, 3, 4, 5, 7, 11, 12], 500);
+    tally.assert_common(&[0, 1, 2, 3, 4, 5, 7, 11, 12, 13, 14, 15], 250);
 }
 
 /// Sheets as they are, without the field of K, which is answered 2, and without those of
-/// r, which is answered 1.
+/// r or of w, which is answered 1.
 #[test]
 fn every_loading_time() {
     let mut random = Random::seeded(604);
     let mut tally = Tally::new("program, small sheets that are whole");
     let mut loadings = Loadings::new("program, small sheets that are whole, by K");
-    let mut promises = Promises::new("program, small sheets that are whole, with promises");
+    let mut kinds = Kinds::new("program, small sheets that are whole, by promises and waits");
     for _ in 0..8_000 {
         let table = small_table(&mut random);
         let sheet = sheet_of(&table);
         let number = compare_with_model(&sheet, &mut tally);
         loadings.saw(number, &table);
-        promises.saw(number, &table);
-        for (before, number) in [(Before::Loading, 2), (Before::Promises, 1)] {
+        kinds.saw(number, &table);
+        for before in TIMES {
             let old = before.old_sheet(&sheet);
+            let number = if before == Before::Loading { 2 } else { 1 };
             assert_eq!(compare_with_model(&old, &mut tally), number);
         }
     }
     tally.assert_common(&[0, 7], 1_500);
     loadings.assert_every(150);
-    promises.assert_both(2_000);
+    kinds.assert_all(500);
 }
 
 /// What the planning program itself writes for this standard input.
@@ -120,7 +122,7 @@ fn the_program_itself_against_the_model() {
             assert_eq!(plan(&sheet), plain::program(&sheet));
         }
     }
-    tally.assert_common(&[0, 1, 2, 3, 4, 5, 7, 11, 12], 250);
+    tally.assert_common(&[0, 1, 2, 3, 4, 5, 7, 11, 12, 13, 14, 15], 100);
 }
 
 /// A pipe hands over what is there, so that one read may bring only a part.
@@ -128,7 +130,7 @@ fn the_program_itself_against_the_model() {
 fn the_program_itself_on_input_in_pieces() {
     for sheet in [sheet_of(&p1()), sheet_of(&hard(64))] {
         let text = planning_program(&sheet);
-        for cut in [1, 25, 32, 33, 34, 66, 74, sheet.len() - 1] {
+        for cut in [1, 25, 32, 33, 34, 74, 82, sheet.len() - 1] {
             let (first, rest) = sheet.split_at(cut);
             assert_eq!(plan_pieces(&[first, rest]), text, "cut at {cut}");
             assert_eq!(
@@ -161,12 +163,12 @@ fn large_sheets() {
     tally.assert_common(&[0, 1, 2, 7], 1_000);
 }
 
-/// The longest sheet has 2,657 bytes, and the program itself keeps one byte
+/// The longest sheet has 3,169 bytes, and the program itself keeps one byte
 /// more, whichever that is: by it alone it tells the sheet from a longer input.
 #[test]
 fn the_program_itself_around_the_bytes_that_are_kept() {
     let mut tally = Tally::new("the planning program itself, around the bytes kept");
-    assert_eq!(KEPT, 2_658);
+    assert_eq!(KEPT, 3_170);
     for sheet in [sheet_of(&easy(64)), sheet_of(&hard(64))] {
         assert_eq!(sheet.len(), KEPT - 1);
         for extra in 0..=3 {
@@ -183,7 +185,7 @@ fn the_program_itself_around_the_bytes_that_are_kept() {
     tally.assert_common(&[1], 30);
 }
 
-/// The longest sheet has 2,657 bytes; one byte more is kept, and what follows
+/// The longest sheet has 3,169 bytes; one byte more is kept, and what follows
 /// makes no difference.
 #[test]
 fn around_the_bytes_that_are_kept() {
@@ -205,6 +207,34 @@ fn around_the_bytes_that_are_kept() {
 fn the_text_of_p1() {
     assert_eq!(library::program(&sheet_of(&p1())), P1_TEXT.as_bytes());
     assert_eq!(library::program(b""), b"       1       0\n");
+}
+
+/// A wait changes which row has which place, or leaves no order.
+#[test]
+fn the_text_of_tables_with_waits() {
+    let written = |second, third| library::program(&sheet_of(&chain(second, third)));
+    let text = |second, third| String::from_utf8(written(second, third)).expect("a text");
+    let lines = |rows: [u8; 3]| {
+        let [highest, middle, lowest] = rows;
+        let places = [[1, highest, 8], [2, middle, 7], [3, lowest, 6]];
+        let line = |[place, row, slack]: [u8; 3]| format!("{place:>8}{row:>8}{slack:>8}\n");
+        format!("       0       3\n{}", places.map(line).concat())
+    };
+    assert_eq!(text(0, 0), lines([3, 2, 1]));
+    assert_eq!(text(1, 2), lines([1, 2, 3]));
+    assert_eq!(text(1, 1), lines([1, 3, 2]));
+    assert_eq!(text(2, 0), "      13       0\n");
+    for case in wait_plans() {
+        let (sheet, left) = (sheet_of(&case.table), case.plan.rows_left());
+        if case.plan.number == 7 {
+            assert_eq!(
+                library::program(&sheet),
+                write_line(&[7, left]),
+                "{}",
+                case.what
+            );
+        }
+    }
 }
 
 /// The third column has the slack, of which the promise has its part (rule 12.5).

@@ -1,6 +1,6 @@
 //! The reader of the library against the model's: number and whole table, with
-//! every loading time, with promises and without, and sheets that lack the field of K or
-//! those of r.
+//! every loading time, with promises and waits and without, and sheets that lack the field
+//! of K or those of r or w.
 
 mod common;
 
@@ -8,9 +8,9 @@ use common::sheets::{
     damaged, for_each_length, for_each_of_several_changes, for_each_single_byte_change,
     sheets_at_limits, text,
 };
-use common::{large_table, small_table, Loadings, Promises, Tally};
+use common::{large_table, small_table, Kinds, Loadings, Tally};
 use compiled::library;
-use model::before::Before;
+use model::before::{Before, TIMES};
 use model::random::Random;
 use model::sheet::{read_sheet, sheet_of};
 use model::table::Table;
@@ -36,7 +36,7 @@ fn every_length_of_several_bases() {
     tally.assert_common(&[1, 2, 3], 2_000);
     // A base is a whole sheet at one length alone.
     tally.assert_common(&[0], 4);
-    tally.assert_common(&[4, 5, 11, 12], 1);
+    tally.assert_common(&[4, 5, 11, 12, 13], 1);
 }
 
 #[test]
@@ -46,7 +46,8 @@ fn every_single_byte_change() {
         compare(sheet, &mut tally);
     });
     tally.assert_common(&[0, 2, 5], 1_000);
-    tally.assert_common(&[1, 3, 4, 11, 12], 20);
+    tally.assert_common(&[1, 3, 4, 11, 12, 13], 20);
+    tally.assert_common(&[14, 15], 3);
 }
 
 /// Several changes at once, so that the order of the checks shows.
@@ -56,7 +57,8 @@ fn several_changes_at_once() {
     for_each_of_several_changes(|sheet| {
         compare(sheet, &mut tally);
     });
-    tally.assert_common(&[0, 1, 2, 3, 4, 5, 11, 12], 1_000);
+    tally.assert_common(&[0, 1, 2, 3, 4, 5, 11, 12, 13], 1_000);
+    tally.assert_common(&[14, 15], 100);
 }
 
 #[test]
@@ -64,7 +66,7 @@ fn random_sheets_with_every_loading_time() {
     let mut random = Random::seeded(102);
     let mut tally = Tally::new("reader, random sheets");
     let mut loadings = Loadings::new("reader, random sheets, by K");
-    let mut promises = Promises::new("reader, random sheets, with promises");
+    let mut kinds = Kinds::new("reader, random sheets, by promises and waits");
     for round in 0..40_000 {
         let table = if round % 4 == 0 {
             large_table(&mut random)
@@ -74,39 +76,38 @@ fn random_sheets_with_every_loading_time() {
         let sheet = sheet_of(&table);
         assert_eq!(compare_table(&sheet, &mut tally), (0, table));
         loadings.saw(0, &table);
-        promises.saw(0, &table);
+        kinds.saw(0, &table);
         compare(&damaged(&mut random, sheet), &mut tally);
     }
     tally.assert_common(&[0, 1, 2], 4_000);
     loadings.assert_every(800);
-    promises.assert_both(10_000);
+    kinds.assert_all(5_000);
 }
 
-/// A sheet without the field of K is refused with 2 and one without those of r with 1;
-/// with those of 0 put in they are read.
+/// A sheet without the field of K is refused with 2 and one without those of r or of w with
+/// 1; with those of 0 put in they are read.
 #[test]
-fn sheets_without_fields_of_loading_and_promises() {
+fn sheets_without_fields_of_loading_promises_and_waits() {
     let mut random = Random::seeded(103);
-    let mut tally = Tally::new("reader, sheets without the fields of K and r");
+    let mut tally = Tally::new("reader, sheets without the fields of K, r and w");
     for round in 0..20_000 {
         let table = if round % 4 == 0 {
             large_table(&mut random)
         } else {
             small_table(&mut random)
         };
-        let unpromising = table.without_promises();
-        for (before, number, kept) in [
-            (Before::Loading, 2, unpromising.with_loading(0)),
-            (Before::Promises, 1, unpromising),
-        ] {
+        for before in TIMES {
             let old = before.old_sheet(&sheet_of(&table));
+            let number = if before == Before::Loading { 2 } else { 1 };
             assert_eq!(compare(&old, &mut tally), number);
             let sheet = before.new_sheet(&old);
+            let kept = before.old_table(&table);
             assert_eq!(compare_table(&sheet, &mut tally), (0, kept));
         }
     }
-    tally.assert_common(&[1, 2], 20_000);
-    tally.assert_common(&[0], 40_000);
+    tally.assert_common(&[2], 20_000);
+    tally.assert_common(&[1], 40_000);
+    tally.assert_common(&[0], 60_000);
 }
 
 #[test]
@@ -116,5 +117,5 @@ fn limits() {
         let answer = compare(sheet, &mut tally);
         assert_eq!(answer, *number, "{:?}", text(sheet));
     }
-    tally.assert_common(&[0, 3, 4, 5, 11, 12], 2);
+    tally.assert_common(&[0, 3, 4, 5, 11, 12, 13, 14, 15], 2);
 }

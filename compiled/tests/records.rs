@@ -1,6 +1,6 @@
 //! Fresh records, the coming slot and one slot of the library against the
 //! model's run records, at every clock and about deadlines. Every loading time from 0
-//! to 16 slots comes up, and tables with promises and without.
+//! to 16 slots comes up, and tables with promises and waits and without.
 
 mod common;
 
@@ -9,12 +9,11 @@ use common::records::{
     unsound_record, with_sound_figures, CLAUSES,
 };
 use common::{
-    any_order, large_table, small_table, spoil_table, supply, Loadings, Promises, Tally,
-    TABLE_CHECKS,
+    any_order, large_table, small_table, spoil_table, supply, Kinds, Loadings, Tally, TABLE_CHECKS,
 };
 use compiled::library;
 use model::calls::LAST_CLOCK;
-use model::cases::{promising_table, row};
+use model::cases::{row, table};
 use model::order::order_of;
 use model::plain;
 use model::random::Random;
@@ -82,17 +81,17 @@ fn records_that_runs_reach() {
     let mut random = Random::seeded(402);
     let mut tally = Tally::new("one slot, reached records");
     let mut loadings = Loadings::new("one slot, reached records, by K");
-    let mut promises = Promises::new("one slot, reached records, with promises");
+    let mut kinds = Kinds::new("one slot, reached records, by promises and waits");
     for _ in 0..50_000 {
         let record = reached_record(&mut random);
         let number = compare(&record, supply(&mut random));
         tally.saw(number);
         loadings.saw(number, &record.table);
-        promises.saw(number, &record.table);
+        kinds.saw(number, &record.table);
     }
     tally.assert_common(&[0], 50_000);
     loadings.assert_every(1_000);
-    promises.assert_both(10_000);
+    kinds.assert_all(5_000);
 }
 
 #[test]
@@ -139,7 +138,7 @@ fn allowances_used_up_and_not() {
                 let promised = random.one_of(&[0, 1, work / 2, work.div_ceil(normal) + 1, work]);
                 let figures = [0, work, deadline, LO, promised.min(work)];
                 let degraded = random.one_of(&[1, normal.div_ceil(2), normal]);
-                let one = promising_table(normal, degraded, &[figures]).with_loading(loading);
+                let one = table(normal, degraded, &[figures]).with_loading(loading);
                 longer.saw(promised_need(&one, 1) > need(&one, 1, normal));
                 let (_, fresh) = Record::fresh(&one, &order_of(&[1]));
                 let allowed = allowance(&one, 1);
@@ -183,7 +182,7 @@ fn tables_about_deadlines() -> Vec<Table> {
             for work in [1, 2, 5] {
                 let promises = if level == LO { &[0, work][..] } else { &[0] };
                 for &promised in promises {
-                    let one = promising_table(2, 1, &[[0, work, deadline, level, promised]]);
+                    let one = table(2, 1, &[[0, work, deadline, level, promised]]);
                     tables.extend([0, 1, 16].map(|loading| one.with_loading(loading)));
                 }
             }
@@ -359,7 +358,7 @@ fn records_next_to_sound_ones() {
         let mut record = sound_record(&mut random);
         let most = (record.table.n + 1).min(64);
         let index = random.between(0, most - 1) as usize;
-        let figure = match random.between(0, 12) {
+        let figure = match random.between(0, 13) {
             0 => &mut record.got[index],
             1 => &mut record.used[index],
             2 => &mut record.closing[index],
@@ -372,6 +371,7 @@ fn records_next_to_sound_ones() {
             9 => &mut record.table.deadline[index],
             10 => &mut record.table.promised[index],
             11 => &mut record.table.degraded,
+            12 => &mut record.table.follows[index],
             _ => &mut record.table.n,
         };
         *figure = match random.between(0, 3) {
@@ -447,8 +447,8 @@ fn fresh_records() {
         } else {
             small_table(&mut random)
         };
-        let order = any_order(&mut random, table.n, 3);
-        if let Some(&number) = TABLE_CHECKS.get(round % 7) {
+        let order = any_order(&mut random, &table, 3);
+        if let Some(&number) = TABLE_CHECKS.get(round % 10) {
             spoil_table(&mut random, &mut table, number);
         }
         let expected = Record::fresh(&table, &order);
@@ -457,6 +457,7 @@ fn fresh_records() {
         tally.saw(expected.0);
         loadings.saw(expected.0, &table);
     }
-    tally.assert_common(&[0, 3, 4, 11, 5, 12, 6], 4_000);
+    tally.assert_common(&TABLE_CHECKS, 4_000);
+    tally.assert_common(&[0, 6], 3_000);
     loadings.assert_every(200);
 }

@@ -3,7 +3,7 @@
 //! Each report is also read column by column and held against the rules and
 //! against the library's worst finishes and judge (section 16 of the rules).
 //! Every loading time from 0 to 16 slots comes up, and tables with promises and
-//! without.
+//! waits and without.
 
 mod common;
 
@@ -11,18 +11,18 @@ use common::records::any_record;
 use common::sheets::text;
 use common::{
     any_order, for_each_length_of_figures, for_each_small_table, for_each_word_changed,
-    large_table, no_order_of, rubbish, small_table, spoil_by_several, Loadings, Promises, Tally,
+    large_table, no_order_of, rubbish, small_table, spoil_by_several, Kinds, Loadings, Tally,
     MODEL_LARGE, TABLE_CHECKS,
 };
 use compiled::library;
 use compiled::sheets::{
-    easy, easy_loading, hard, hard_loading, largest, late_promises, longest_windows, random_order,
-    tight, without_slack,
+    chain, easy, easy_loading, grouped, hard, hard_loading, largest, late_promises,
+    longest_windows, tight, without_slack,
 };
-use model::cases::{p1, p2, p3, p4, promising_table, reports, row, table};
+use model::cases::{p1, p2, p3, p4, reports, row, table};
 use model::order::{order_of, Order, NO_ORDER};
 use model::plain;
-use model::random::{table_in, Random, Ranges};
+use model::random::{random_order, table_in, Random, Ranges};
 use model::report::{report, LONGEST_REPORT};
 use model::table::{Row, Table, HI, LO, MOST_LOADING, ROWS};
 
@@ -221,7 +221,7 @@ fn all_small_tables() {
     let mut tally = Tally::new("report, all tables of the grid");
     let mut loadings = Loadings::new("report, all tables of the grid, by K");
     for_each_small_table(|table| {
-        let order = any_order(&mut random, table.n, 8);
+        let order = any_order(&mut random, table, 8);
         let before = rubbish(length_of(table.n));
         let number = compare_with_model(table, &order, &before, &mut tally);
         loadings.saw(number, table);
@@ -238,16 +238,16 @@ fn random_tables_and_rooms_around_their_length() {
     let mut loadings = Loadings::new("report, random tables, by K");
     for _ in 0..6_000 {
         let small = small_table(&mut random);
-        let order = random_order(&mut random, small.n);
+        let order = random_order(&mut random, &small);
         around_the_length(compare_with_model, &small, &order, &mut tally);
         loadings.saw(0, &small);
         let large = large_table(&mut random);
-        let order = random_order(&mut random, large.n);
+        let order = random_order(&mut random, &large);
         around_the_length(compare_with_plain, &large, &order, &mut tally);
     }
     loadings.assert_every(120);
     for table in [p1(), p2(), p3(), p4()] {
-        let order = random_order(&mut random, table.n);
+        let order = random_order(&mut random, &table);
         around_the_length(compare_with_model, &table, &order, &mut tally);
     }
     tally.assert_common(&[0], 36_000);
@@ -264,17 +264,16 @@ fn tables_of_up_to_64_rows_that_the_model_works() {
     for n in (1..=64).chain(1..=64) {
         let table = tight(&mut random, n, MODEL_LARGE).with_loading(n % (MOST_LOADING + 1));
         loadings.saw(0, &table);
-        for order in [rising(n), any_order(&mut random, n, 6)] {
+        for order in [rising(n), any_order(&mut random, &table, 6)] {
             compare_with_model(&table, &order, &before, &mut tally);
         }
     }
     for n in [4, 16, 64] {
         let loading = [easy_loading(n, 16), hard_loading(n, 2)];
-        for table in [easy(n), hard(n), late_promises(n, 1)]
-            .iter()
-            .chain(&loading)
-        {
-            let order = random_order(&mut random, n);
+        let others = [easy(n), hard(n), late_promises(n, 1)];
+        let waiting = [chain(n, 2), grouped(n, 0)];
+        for table in others.iter().chain(&loading).chain(&waiting) {
+            let order = random_order(&mut random, table);
             compare_with_model(table, &order, &before, &mut tally);
         }
     }
@@ -289,23 +288,23 @@ fn random_large_tables() {
     let mut tally = Tally::new("report, random tables of up to 64 rows");
     let mut late = Tally::new("report, random tables of up to 64 rows, by rows late");
     let mut loadings = Loadings::new("report, random tables of up to 64 rows, by K");
-    let mut promises = Promises::new("report, random tables of up to 64 rows, with promises");
+    let mut kinds = Kinds::new("report, random tables of up to 64 rows, by promises and waits");
     for _ in 0..20_000 {
         let table = large_table(&mut random);
-        let order = any_order(&mut random, table.n, 8);
+        let order = any_order(&mut random, &table, 8);
         let before = rubbish(length_of(table.n) + 64);
         let number = compare_with_plain(&table, &order, &before, &mut tally);
         loadings.saw(number, &table);
-        promises.saw(number, &table);
+        kinds.saw(number, &table);
         if number == 0 {
             late.saw(Lines::read(&written(&table, &order)).late());
         }
     }
     loadings.assert_every(400);
-    promises.assert_both(5_000);
+    kinds.assert_all(2_500);
     let table = longest_windows();
     for _ in 0..100 {
-        let order = random_order(&mut random, 64);
+        let order = random_order(&mut random, &table);
         compare_with_plain(&table, &order, &rubbish(LONGEST_REPORT), &mut tally);
     }
     tally.assert_common(&[0], 15_000);
@@ -330,7 +329,7 @@ fn deadlines_far_before_the_finishes() {
     for _ in 0..10_000 {
         let mut table = table_in(&mut random, ranges);
         table.degraded = random.between(1, 9).min(table.degraded);
-        let order = random_order(&mut random, table.n);
+        let order = random_order(&mut random, &table);
         let before = rubbish(length_of(table.n));
         compare_with_plain(&table, &order, &before, &mut tally);
         for [.., slack] in Lines::read(&written(&table, &order)).places {
@@ -359,7 +358,7 @@ fn planned_orders_have_no_late_row() {
         planned.saw(answer.number);
         let none = answer.number == 7;
         let order = if none {
-            random_order(&mut random, table.n)
+            random_order(&mut random, &table)
         } else {
             answer.order
         };
@@ -387,7 +386,7 @@ fn every_room() {
         largest(999_999).with_loading(16),
     ];
     for table in &tables {
-        let order = random_order(&mut random, table.n);
+        let order = random_order(&mut random, table);
         for room in 0..=LONGEST {
             let number = compare_with_plain(table, &order, &rubbish(room), &mut tally);
             let fits = room >= length_of(table.n);
@@ -420,7 +419,7 @@ fn largest_works() {
                 loading,
                 ..largest(release)
             };
-            let order = random_order(&mut random, 64);
+            let order = random_order(&mut random, &table);
             around_the_length(compare_with_plain, &table, &order, &mut tally);
             let lines = Lines::read(&written(&table, &order));
             let each = i64::from(loading) + 1_000_000;
@@ -500,7 +499,7 @@ fn figures_of_every_length() {
     let mut tally = Tally::new("report, figures of every length");
     let mut lengths = Tally::new("report, columns that a slack takes");
     let mut compare_one = |figures: [u32; 5], loading| {
-        let one = promising_table(1, 1, &[figures]).with_loading(loading);
+        let one = table(1, 1, &[figures]).with_loading(loading);
         let before = rubbish(length_of(1));
         if compare_with_plain(&one, &rising(1), &before, &mut tally) == 0 {
             let [release, work, deadline, ..] = figures.map(i64::from);
@@ -532,8 +531,9 @@ fn late_by_one_slot() {
     let mut moved = Tally::new("report, late by one slot, by the row's level");
     for round in 0..2_000 {
         let n = 1 + round % 64;
-        let order = random_order(&mut random, n);
-        let mut table = without_slack(&tight(&mut random, n, MODEL_LARGE), &order);
+        let table = tight(&mut random, n, MODEL_LARGE);
+        let order = random_order(&mut random, &table);
+        let mut table = without_slack(&table, &order);
         let before = rubbish(length_of(n));
         compare_with_plain(&table, &order, &before, &mut tally);
         assert_eq!(Lines::read(&written(&table, &order)).late(), 0);
@@ -557,7 +557,7 @@ fn over_an_older_report() {
     let mut tally = Tally::new("report, over an older report");
     for _ in 0..10_000 {
         let (table, older) = (small_table(&mut random), small_table(&mut random));
-        let order = random_order(&mut random, table.n);
+        let order = random_order(&mut random, &table);
         let before = written(&older, &rising(older.n));
         compare_with_model(&table, &order, &before, &mut tally);
         let byte = random.one_of(b" -0159\n\0\xff");
@@ -568,7 +568,7 @@ fn over_an_older_report() {
 }
 
 /// One refusal and several at once, in the table, the order and the room: the
-/// first in the sequence 3, 4, 11, 5, 12, 6, 10 is given (rule 11.7).
+/// first in the sequence 3, 4, 11, 5, 12, 13 to 15, 6, 10 is given (rule 11.7).
 #[test]
 fn damaged_tables_and_orders() {
     let mut random = Random::seeded(810);
@@ -580,12 +580,12 @@ fn damaged_tables_and_orders() {
         } else {
             small_table(&mut random)
         };
-        let (n, length) = (table.n, length_of(table.n));
+        let length = length_of(table.n);
         let wrong_order = random.once_in(2);
         let order = if wrong_order {
-            no_order_of(&mut random, n)
+            no_order_of(&mut random, &table)
         } else {
-            random_order(&mut random, n)
+            random_order(&mut random, &table)
         };
         if random.once_in(2) {
             spoil_by_several(&mut random, &mut table);
@@ -600,8 +600,8 @@ fn damaged_tables_and_orders() {
         by_fault.saw((number, wrong_order, room < length));
     }
     tally.assert_common(&[0, 3, 4, 6, 10], 5_000);
-    tally.assert_common(&[5, 11], 2_000);
-    tally.assert_common(&[12], 1_000);
+    tally.assert_common(&[5, 11, 12, 13], 2_000);
+    tally.assert_common(&[14, 15], 1_500);
     for number in TABLE_CHECKS {
         for wrong_order in [true, false] {
             let both = [(number, wrong_order, true), (number, wrong_order, false)];
@@ -615,8 +615,8 @@ fn damaged_tables_and_orders() {
 fn checks_come_in_their_order() {
     let mut tally = Tally::new("report, checks one after another");
     let twice = order_of(&[1, 1]);
-    let rows = [[0, 1, 1, LO, 2], [4, 1, 4, LO, 0]];
-    let mut wrong = promising_table(0, 1, &rows).with_loading(u32::MAX);
+    let rows = [[0, 1, 1, LO, 2, 0], [4, 1, 4, LO, 0, 2]];
+    let mut wrong = table(0, 1, &rows).with_loading(u32::MAX);
     for room in [0, length_of(2) - 1, length_of(2), LONGEST] {
         let mut number = |table: &Table, order: &Order| {
             compare_with_model(table, order, &rubbish(room), &mut tally)
@@ -640,12 +640,15 @@ fn checks_come_in_their_order() {
         loads.level[63] = 0;
         assert_eq!(number(&loads, &twice), 12);
         loads.promised[0] = 1;
-        for order in [twice, NO_ORDER, order_of(&[2]), order_of(&[1, 2, 3])] {
+        assert_eq!(number(&loads, &twice), 13);
+        loads.follows[1] = 1;
+        let others = [&[2][..], &[1, 2, 3], &[2, 1]].map(order_of);
+        for order in [twice, NO_ORDER].into_iter().chain(others) {
             assert_eq!(number(&loads, &order), 6);
         }
         let short = room < length_of(2);
         assert_eq!(
-            number(&loads, &order_of(&[2, 1])),
+            number(&loads, &order_of(&[1, 2])),
             if short { 10 } else { 0 }
         );
     }
@@ -665,7 +668,7 @@ fn every_word_changed() {
     }
     tally.assert_common(&[0, 5, 10], 1_000);
     tally.assert_common(&[3, 4], 50);
-    tally.assert_common(&[11, 12], 40);
+    tally.assert_common(&[11, 12, 13], 40);
 }
 
 /// Each byte of an order changed to each value.
@@ -714,7 +717,7 @@ fn any_words_and_any_bytes() {
             }
         }
         compare_with_model(&good, &any.order, &before, &mut tally);
-        let none = no_order_of(&mut random, good.n);
+        let none = no_order_of(&mut random, &good);
         compare_with_model(&good, &none, &before, &mut tally);
         compare_with_model(&good, &rising(good.n), &before, &mut tally);
     }

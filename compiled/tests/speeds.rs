@@ -2,7 +2,7 @@
 //! model's scan over every speed; on tables for which that takes too long against
 //! the plain scan, or the plain search by halves, which are compared with it here
 //! as well. Every loading time from 0 to 16 slots comes up, and tables with promises
-//! and without.
+//! and waits and without.
 
 mod common;
 
@@ -11,7 +11,7 @@ use common::sheets::{
 };
 use common::{
     for_each_small_table, for_each_word_changed, large_table, small_table, spoil_by_several,
-    spoil_table, Loadings, Promises, Tally, LARGE, TABLE_CHECKS,
+    spoil_table, Kinds, Loadings, Tally, LARGE, TABLE_CHECKS,
 };
 use compiled::sheets::{easy_at, hard_at, promising, tightened};
 use compiled::{library, raw};
@@ -97,7 +97,7 @@ fn cases_worked_out_by_hand() {
         compare_with_sheet(&case.table, case.sought, &case.answer, &mut tally);
     }
     tally.assert_common(&for_both(&[At::First, At::Last, At::Between]), 1);
-    tally.assert_common(&for_both(&[3, 4, 11, 5, 12, 7].map(At::Refused)), 1);
+    tally.assert_common(&for_both(&[3, 4, 11, 5, 12, 13, 7].map(At::Refused)), 1);
 }
 
 /// G has up to three speeds to be tried in these tables, N up to 1,000: there the
@@ -149,7 +149,7 @@ fn random_small_tables() {
             by_answer[usize::from(expected.number == 7)].saw(expected.number, &table);
         }
     }
-    tally.assert_common(&for_both(&[At::First, At::Between, At::Refused(7)]), 50);
+    tally.assert_common(&for_both(&[At::First, At::Between, At::Refused(7)]), 40);
     tally.assert_common(&[(Sought::Degraded, At::Last)], 300);
     for loadings in &by_answer {
         loadings.assert_every(40);
@@ -233,19 +233,19 @@ fn random_large_tables() {
     let mut random = Random::seeded(503);
     let mut tally = Tally::new("least speeds, random tables of up to 64 rows");
     let mut loadings = Loadings::new("least speeds, random large tables, by K");
-    let mut promises = Promises::new("least speeds, random large tables, with promises");
+    let mut kinds = Kinds::new("least speeds, random large tables, by promises and waits");
     for round in 0..1_500 {
         let table = large_table(&mut random);
         for sought in BOTH {
             let expected = by_plain(&table, sought, round % 50 == 0);
             compare(&table, sought, &expected, &mut tally);
             loadings.saw(expected.number, &table);
-            promises.saw(expected.number, &table);
+            kinds.saw(expected.number, &table);
         }
     }
     tally.assert_common(&for_both(&[At::Between, At::Refused(7)]), 100);
     loadings.assert_every(40);
-    promises.assert_both(500);
+    kinds.assert_all(250);
 }
 
 /// At the least speed the planner makes the order answered, and the judge says yes
@@ -318,7 +318,7 @@ fn refused_tables() {
         if round % 2 == 0 {
             spoil_by_several(&mut random, &mut table);
         } else {
-            spoil_table(&mut random, &mut table, TABLE_CHECKS[round / 2 % 5]);
+            spoil_table(&mut random, &mut table, TABLE_CHECKS[round / 2 % 8]);
         }
         let number = check_table(&table);
         if number != 0 {
@@ -357,7 +357,7 @@ fn any_words() {
             compare(&table, sought, &expected, &mut tally);
         }
     }
-    let numbers = [3, 4, 11, 5, 12, 7].map(At::Refused);
+    let numbers = [3, 4, 11, 5, 12, 13, 7].map(At::Refused);
     tally.assert_common(&for_both(&numbers), 10);
     tally.assert_common(&for_both(&[At::First, At::Between]), 10);
 }
@@ -395,7 +395,9 @@ fn sheets_of_every_length_and_at_limits() {
         }
     }
     tally.assert_common(&for_both(&[At::Between]), 5);
-    tally.assert_common(&for_both(&[1, 2, 3, 4, 11, 5, 12, 7].map(At::Refused)), 4);
+    let numbers = [1, 2, 3, 4, 11, 5, 12, 13, 7].map(At::Refused);
+    tally.assert_common(&for_both(&numbers), 4);
+    tally.assert_common(&for_both(&[14, 15].map(At::Refused)), 2);
 }
 
 #[test]
@@ -418,7 +420,8 @@ fn damaged_sheets() {
             }
         }
     }
-    let numbers = [1, 2, 3, 4, 11, 5, 12, 7].map(At::Refused);
-    tally.assert_common(&for_both(&numbers), 300);
+    let numbers = [1, 2, 3, 4, 11, 5, 12, 13, 7].map(At::Refused);
+    tally.assert_common(&for_both(&numbers), 200);
+    tally.assert_common(&for_both(&[14, 15].map(At::Refused)), 100);
     tally.assert_common(&for_both(&[At::Between]), 500);
 }

@@ -1,7 +1,7 @@
 //! The writer of the library against the model's, number, length and every lent
 //! byte, and against the reader: each sheet that it accepts comes back byte for
 //! byte (section 15 of the rules). Every loading time from 0 to 16 slots comes up, and
-//! tables with promises and without.
+//! tables with promises and waits and without.
 
 mod common;
 
@@ -12,11 +12,11 @@ use common::sheets::{
 };
 use common::{
     for_each_length_of_figures, for_each_small_table, for_each_word_changed, large_table, rubbish,
-    small_table, spoil_by_several, Loadings, Promises, Tally, SMALL_TABLES, TABLE_CHECKS,
+    small_table, spoil_by_several, Kinds, Loadings, Tally, SMALL_TABLES, TABLE_CHECKS,
 };
-use compiled::sheets::{easy, hard, hard_loading, largest, late_promises, longest_windows};
+use compiled::sheets::{chain, easy, hard, hard_loading, largest, late_promises, longest_windows};
 use compiled::{library, raw};
-use model::cases::{p1, p2, p3, p4, promising_table, table};
+use model::cases::{p1, p2, p3, p4, table};
 use model::plain;
 use model::random::Random;
 use model::sheet::{field_of, read_sheet, sheet_of, write_back, LONGEST_SHEET};
@@ -26,7 +26,7 @@ use std::fs;
 
 /// Bytes in the sheet of a table of n rows (rule 15.8).
 fn length_of(n: u32) -> usize {
-    33 + 41 * n as usize
+    33 + 49 * n as usize
 }
 
 /// The library's, the plain and the model's writer over the same bytes; gives
@@ -163,20 +163,21 @@ fn random_tables_and_rooms_around_their_length() {
     let mut random = Random::seeded(702);
     let mut tally = Tally::new("writer, random tables, room around the length");
     let mut loadings = Loadings::new("writer, random tables, by K");
-    let mut promises = Promises::new("writer, random tables, with promises");
+    let mut kinds = Kinds::new("writer, random tables, by promises and waits");
     for _ in 0..8_000 {
         for table in [small_table(&mut random), large_table(&mut random)] {
             compare_around_the_length(&table, &mut tally);
             loadings.saw(0, &table);
-            promises.saw(0, &table);
+            kinds.saw(0, &table);
         }
     }
     loadings.assert_every(400);
-    promises.assert_both(4_000);
+    kinds.assert_all(2_000);
     for n in (4..=64).step_by(4) {
         compare_around_the_length(&easy(n), &mut tally);
         compare_around_the_length(&hard(n), &mut tally);
         compare_around_the_length(&late_promises(n, n / 4), &mut tally);
+        compare_around_the_length(&chain(n, n / 4), &mut tally);
     }
     for table in [p1(), p2(), p3(), p4(), longest_windows()] {
         compare_around_the_length(&table, &mut tally);
@@ -220,7 +221,7 @@ fn every_room() {
 fn figures_of_every_length() {
     let mut tally = Tally::new("writer, figures of every length");
     for_each_length_of_figures(|figures| {
-        let one = promising_table(10, 9, &[figures]);
+        let one = table(10, 9, &[figures]);
         compare(&one, length_of(1), &mut tally);
     });
     for normal in 1..=1_000 {
@@ -257,31 +258,27 @@ fn over_an_older_sheet() {
 /// A table author's change of one figure changes the bytes of its field alone.
 #[test]
 fn one_figure_edited() {
-    let mut edited = p1();
-    edited.work[2] = 1_000_000;
     let sheet = sheet_of(&p1());
-    let mut lent = sheet.clone();
-    assert_eq!(library::write(&edited, &mut lent), (0, 197));
-    let differ: Vec<usize> = (0..197).filter(|&at| lent[at] != sheet[at]).collect();
-    assert_eq!(differ, Vec::from_iter(124..131), "the work of row 3 alone");
-    assert_eq!(read_sheet(&lent), (0, edited));
-    let loads = p1().with_loading(16);
-    let mut lent = sheet.clone();
-    assert_eq!(library::write(&loads, &mut lent), (0, 197));
-    let differ: Vec<usize> = (0..197).filter(|&at| lent[at] != sheet[at]).collect();
-    assert_eq!(differ, [30, 31], "the loading time alone");
-    assert_eq!(read_sheet(&lent), (0, loads));
-    let mut promises = p1();
-    promises.promised[1] = 15;
-    let mut lent = sheet.clone();
-    assert_eq!(library::write(&promises, &mut lent), (0, 197));
-    let differ: Vec<usize> = (0..197).filter(|&at| lent[at] != sheet[at]).collect();
-    assert_eq!(differ, [112, 113], "the promised part of row 2 alone");
-    assert_eq!(read_sheet(&lent), (0, promises));
+    let edited = |edit: fn(&mut Table)| {
+        let (mut table, mut lent) = (p1(), sheet.clone());
+        edit(&mut table);
+        assert_eq!(library::write(&table, &mut lent), (0, 229));
+        assert_eq!(read_sheet(&lent), (0, table));
+        let differ = (0..229).filter(|&at| lent[at] != sheet[at]);
+        differ.collect::<Vec<usize>>()
+    };
+    let work = edited(|table| table.work[2] = 1_000_000);
+    assert_eq!(work, Vec::from_iter(140..147), "the work of row 3 alone");
+    let loading = edited(|table| table.loading = 16);
+    assert_eq!(loading, [30, 31], "the loading time alone");
+    let promised = edited(|table| table.promised[1] = 15);
+    assert_eq!(promised, [120, 121], "the promised part of row 2 alone");
+    let follows = edited(|table| table.follows[2] = 1);
+    assert_eq!(follows, [178], "the row that row 3 follows alone");
 }
 
 /// One refusal and several at once, with too little room and with enough: the
-/// first in the order 3, 4, 11, 5, 12, 10 is given (rule 11.6).
+/// first in the order 3, 4, 11, 5, 12, 13 to 15, 10 is given (rule 11.6).
 #[test]
 fn damaged_tables() {
     let mut random = Random::seeded(704);
@@ -302,7 +299,7 @@ fn damaged_tables() {
         by_room.saw((number, room < length));
     }
     tally.assert_common(&[0, 3, 4, 10], 10_000);
-    tally.assert_common(&[5, 11, 12], 2_000);
+    tally.assert_common(&[5, 11, 12, 13, 14, 15], 2_000);
     for number in TABLE_CHECKS {
         by_room.assert_common(&[(number, true), (number, false)], 1_000);
     }
@@ -320,7 +317,7 @@ fn every_word_changed() {
         });
     }
     tally.assert_common(&[0, 5, 10], 1_000);
-    tally.assert_common(&[3, 4, 11, 12], 40);
+    tally.assert_common(&[3, 4, 11, 12, 13], 40);
 }
 
 /// Tables of any words at all, most of them with a row count beyond the limit.
@@ -332,7 +329,7 @@ fn tables_of_any_words() {
         let mut table = any_record(&mut random).table;
         for n in [table.n, 0, 1, 64, 65, u32::MAX] {
             table.n = n;
-            let room = random.one_of(&[0, 33, 74, LONGEST_SHEET]);
+            let room = random.one_of(&[0, 33, 82, LONGEST_SHEET]);
             compare(&table, room, &mut tally);
             let paced = Table {
                 normal: 3,
@@ -348,8 +345,8 @@ fn tables_of_any_words() {
 #[test]
 fn checks_come_in_their_order() {
     let mut tally = Tally::new("writer, checks one after another");
-    let mut wrong = promising_table(0, 1, &[[4, 1, 4, 0, 2]]).with_loading(17);
-    for room in [0, 73, 74, LONGEST] {
+    let mut wrong = table(0, 1, &[[4, 1, 4, 0, 2, 1]]).with_loading(17);
+    for room in [0, 81, 82, LONGEST] {
         let mut number = |table: &Table| compare(table, room, &mut tally);
         for n in [0, 65, u32::MAX] {
             wrong.n = n;
@@ -370,7 +367,9 @@ fn checks_come_in_their_order() {
         loads.level[63] = 0;
         assert_eq!(number(&loads), 12);
         loads.promised[0] = 1;
-        assert_eq!(number(&loads), if room < 74 { 10 } else { 0 });
+        assert_eq!(number(&loads), 13);
+        loads.follows[0] = 0;
+        assert_eq!(number(&loads), if room < 82 { 10 } else { 0 });
     }
 }
 

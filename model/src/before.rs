@@ -1,7 +1,7 @@
-//! Answers from before tables had a loading time, and from before rows had a promise.
-//! A table whose loading time is 0 slots keeps each of the first, and its sheet is
-//! longer by the field of K (rule 1.10). A table in which no row promises a part keeps
-//! each of the second, and its sheet is longer by a field in each row (rule 20.2).
+//! Answers from before tables had a loading time, from before rows had a promise, and
+//! from before rows followed rows. A table keeps each answer of such a time if the figure
+//! that came then, and each that has come later, is 0 in it wherever it stands; its sheet
+//! is longer by their fields (rules 1.10, 20.2 and 21.5).
 //!
 //! Tables, orders, sheets and records come from a fixed seed. All that a call
 //! answered to them is taken into one number for that call; `Before::stored` has the
@@ -18,21 +18,27 @@ use crate::cases::row;
 use crate::judge::Verdict;
 use crate::order::{order_of, Order};
 use crate::plan::Plan;
-use crate::random::{loading, Random};
+use crate::random::{loading, promise, Random};
 use crate::record::{Forward, OneSlot, Record};
 use crate::report::LONGEST_REPORT;
-use crate::sheet::{sheet_of, FIELD, FIRST_LINE, LONGEST_SHEET, ROW_LINE};
+use crate::sheet::{
+    sheet_of, FIELD, FIRST_FIELDS, FIRST_LINE, LONGEST_SHEET, ROW_FIELDS, ROW_LINE,
+};
 use crate::speeds::{Least, Sought};
-use crate::table::{Row, Table, HI, LO, ROWS};
+use crate::table::{Row, Table, HI, LO};
 
-/// The time whose answers are compared.
-#[derive(Clone, Copy, Debug, PartialEq, Eq)]
+/// The time whose answers are compared: before tables or rows had these, and all that came
+/// after them.
+#[derive(Clone, Copy, Debug, PartialEq, Eq, PartialOrd, Ord)]
 pub enum Before {
-    /// No table had a loading time, no row a promise, and no speed was sought.
+    /// No speed was sought then either.
     Loading,
-    /// No row had a promise.
     Promises,
+    Waits,
 }
+
+/// All of these times, the earliest first.
+pub const TIMES: [Before; 3] = [Before::Loading, Before::Promises, Before::Waits];
 
 /// The calls whose answers are compared, of the model or of the library.
 pub struct Calls {
@@ -87,34 +93,86 @@ impl Before {
                 program: 0x52CD_B5E6_98BD_27A1,
                 least: 0xC974_2A9B_826A_CE5D,
             },
+            Before::Waits => Answers {
+                read: 0x5846_D2A9_00DB_C1B7,
+                write: 0x6EF2_080B_EF2C_77C3,
+                plan: 0x92FE_5831_2A3C_FE4B,
+                judge: 0x228D_0533_B576_22B9,
+                report: 0x5786_DED1_575C_B3F4,
+                one_slot: 0x4168_4FB9_6FB4_9F22,
+                forward: 0x4814_151A_A47E_1EDC,
+                program: 0xAA1A_D772_DC75_AA17,
+                least: 0xFF5E_0321_43A5_FAA6,
+            },
+        }
+    }
+
+    /// Tables had a loading time.
+    fn has_loading(self) -> bool {
+        self > Before::Loading
+    }
+
+    /// Rows had a promise.
+    fn has_promises(self) -> bool {
+        self > Before::Promises
+    }
+
+    /// How many fields the first line of a sheet had.
+    fn first_fields(self) -> usize {
+        FIRST_FIELDS - usize::from(!self.has_loading())
+    }
+
+    /// How many fields the line of a row had; that of w came after all of these times.
+    fn row_fields(self) -> usize {
+        ROW_FIELDS - 1 - usize::from(!self.has_promises())
+    }
+
+    /// The table as it could be then: with 0 for every figure that has come since.
+    pub fn old_table(self, table: &Table) -> Table {
+        match self {
+            Before::Loading => table.without_waits().without_promises().with_loading(0),
+            Before::Promises => table.without_waits().without_promises(),
+            Before::Waits => table.without_waits(),
         }
     }
 
     /// A sheet as it was: without the fields that were added since.
     pub fn old_sheet(self, sheet: &[u8]) -> Vec<u8> {
-        let old = without_promise_fields(sheet);
-        match self {
-            Before::Loading => without_loading_field(&old),
-            Before::Promises => old,
-        }
+        let (first, rows) = sheet.split_at(FIRST_LINE);
+        let lines = rows.chunks(ROW_LINE);
+        let old_lines = lines.flat_map(|line| cut(line, self.row_fields()));
+        let old_first = cut(first, self.first_fields());
+        old_first.into_iter().chain(old_lines).collect()
     }
 
-    /// Such a sheet, damaged or not, with these fields put in: a loading time of 0
-    /// slots and promises of 0 work units.
+    /// Such a sheet, damaged or not, with these fields put in, each of 0: before the end
+    /// of the first line, and before that of each row's. Bytes that are no whole line of a
+    /// row, or that do not get to the end of the first line, stay as they are.
     pub fn new_sheet(self, old: &[u8]) -> Vec<u8> {
-        match self {
-            Before::Loading => with_promise_fields(&with_loading_field(old)),
-            Before::Promises => with_promise_fields(old),
-        }
+        let Some((first, rest)) = old.split_at_checked(FIELD * self.first_fields()) else {
+            return old.to_vec();
+        };
+        let (end, rows) = rest.split_at(rest.len().min(1));
+        let in_rows = zeros(ROW_FIELDS - self.row_fields());
+        let old_line = FIELD * self.row_fields() + 1;
+        let new_line = |line: &[u8]| match line.split_last() {
+            Some((end, fields)) if line.len() == old_line => [fields, &in_rows, &[*end]].concat(),
+            _ => line.to_vec(),
+        };
+        let lines: Vec<u8> = rows.chunks(old_line).flat_map(new_line).collect();
+        let in_first = zeros(FIRST_FIELDS - self.first_fields());
+        [first, &in_first, end, &lines].concat()
     }
+}
 
-    /// The bytes of the fields in the first line.
-    fn first_fields(self) -> usize {
-        match self {
-            Before::Loading => LOADING_AT,
-            Before::Promises => LOADING_AT + FIELD,
-        }
-    }
+/// The line with its first fields alone, so many of them, and its end.
+fn cut(line: &[u8], fields: usize) -> Vec<u8> {
+    [&line[..FIELD * fields], &line[line.len() - 1..]].concat()
+}
+
+/// So many fields of 0.
+fn zeros(fields: usize) -> Vec<u8> {
+    b"       0".repeat(fields)
 }
 
 /// How many times every call is made.
@@ -141,7 +199,7 @@ pub fn answers(calls: &Calls, before: Before) -> Answers {
         plan.plan(&(calls.plan)(&table));
         judge.verdict(&(calls.judge)(&table, &order));
         report.report(&table, &order, calls.report);
-        if before == Before::Promises {
+        if before.has_loading() {
             least.least(&(calls.least)(&table, Sought::Degraded));
             if round % NORMAL_SOUGHT == 0 {
                 least.least(&(calls.least)(&table, Sought::Normal));
@@ -149,9 +207,9 @@ pub fn answers(calls: &Calls, before: Before) -> Answers {
         }
         let supplies = supplies(&mut random);
         let table = match (before, round % 2) {
-            (Before::Promises, _) => table,
             (Before::Loading, 0) => without_previews(&table),
             (Before::Loading, _) => with_time_for_previews(&table),
+            _ => table,
         };
         let (number, fresh) = Record::fresh(&table, &order);
         forward.word(number);
@@ -204,59 +262,13 @@ const TIME_FOR_PREVIEWS: u32 = 900_000;
 /// A clock, in slots, from which no list of supplies comes near such a deadline.
 const BEFORE_PREVIEWS_END: u32 = 800_000;
 
-/// Where the field of K stands in a sheet's first line.
-const LOADING_AT: usize = FIRST_LINE - 1 - FIELD;
-
-/// A sheet as it was before the first line had a field of K: without that field.
-pub fn without_loading_field(sheet: &[u8]) -> Vec<u8> {
-    [&sheet[..LOADING_AT], &sheet[LOADING_AT + FIELD..]].concat()
-}
-
-/// Such a sheet with the field of a loading time of 0 slots put before the end of
-/// its first line. Bytes that do not get that far stay as they are.
-pub fn with_loading_field(old: &[u8]) -> Vec<u8> {
-    if old.len() < LOADING_AT {
-        return old.to_vec();
-    }
-    let (before, after) = old.split_at(LOADING_AT);
-    [before, b"       0", after].concat()
-}
-
-/// Where the field of r stands in a row's line, and the fields before it end.
-const PROMISE_AT: usize = ROW_LINE - 1 - FIELD;
-
-/// Bytes in a row's line as it was before it had a field of r.
-const OLD_ROW_LINE: usize = ROW_LINE - FIELD;
-
-/// A sheet as it was before rows had a field of r: without these fields.
-pub fn without_promise_fields(sheet: &[u8]) -> Vec<u8> {
-    let (first, rows) = sheet.split_at(FIRST_LINE);
-    let old_line = |line: &[u8]| [&line[..PROMISE_AT], &line[PROMISE_AT + FIELD..]].concat();
-    let lines = rows.chunks(ROW_LINE).flat_map(old_line);
-    first.iter().copied().chain(lines).collect()
-}
-
-/// Such a sheet with the field of a promise of 0 work units put before the end of
-/// each line of a row. Bytes that are no whole line stay as they are.
-pub fn with_promise_fields(old: &[u8]) -> Vec<u8> {
-    if old.len() < FIRST_LINE {
-        return old.to_vec();
-    }
-    let (first, rows) = old.split_at(FIRST_LINE);
-    let new_line = |line: &[u8]| match line.split_at_checked(PROMISE_AT) {
-        Some((before, end)) if line.len() == OLD_ROW_LINE => [before, b"       0", end].concat(),
-        _ => line.to_vec(),
-    };
-    let lines = rows.chunks(OLD_ROW_LINE).flat_map(new_line);
-    first.iter().copied().chain(lines).collect()
-}
-
 /// A table of up to six rows on which the planner's answers 0 and 7 are common. Its
 /// rows have time for up to six of them to load.
 fn table(random: &mut Random, before: Before) -> Table {
-    let loading = match before {
-        Before::Loading => 0,
-        Before::Promises => loading(random),
+    let loading = if before.has_loading() {
+        loading(random)
+    } else {
+        0
     };
     let n = random.between(1, 6);
     let normal = random.between(1, 4);
@@ -270,7 +282,12 @@ fn table(random: &mut Random, before: Before) -> Table {
             0 => 0,
             _ => loading * random.between(1, 6),
         };
-        row([release, work, deadline + loads, level])
+        let promised = if before.has_promises() {
+            promise(random, work, level)
+        } else {
+            0
+        };
+        row([release, work, deadline + loads, level, promised])
     };
     let rows: Vec<Row> = (0..n).map(|_| one_row(random)).collect();
     Table::of(normal, degraded, loading, &rows)
@@ -278,10 +295,7 @@ fn table(random: &mut Random, before: Before) -> Table {
 
 /// The table, or once in four times with a figure that may be refused.
 fn perhaps_spoiled(random: &mut Random, mut table: Table, before: Before) -> Table {
-    let columns = match before {
-        Before::Loading => 6,
-        Before::Promises => 7,
-    };
+    let columns = 6 + u32::from(before.has_loading()) + u32::from(before.has_promises());
     if random.once_in(4) {
         let figure = random.one_of(&[0, 1, 2, 65, 1_001, 1_000_001, u32::MAX]);
         let index = random.between(0, table.n) as usize;
@@ -293,7 +307,8 @@ fn perhaps_spoiled(random: &mut Random, mut table: Table, before: Before) -> Tab
             4 => &mut table.work[index],
             5 => &mut table.deadline[index],
             6 => &mut table.level[index],
-            _ => &mut table.loading,
+            7 => &mut table.loading,
+            _ => &mut table.promised[index],
         } = figure;
     }
     table
@@ -318,7 +333,7 @@ fn damaged_old_sheet(random: &mut Random, table: &Table, before: Before) -> Vec<
         0 => sheet.truncate(place),
         1 => sheet.push(random.one_of(b"\n 0")),
         2 => sheet[place] = random.one_of(b"\n 0129x"),
-        3 => sheet[place % before.first_fields()] = random.one_of(b" 0123456"),
+        3 => sheet[place % (FIELD * before.first_fields())] = random.one_of(b" 0123456"),
         _ => {}
     }
     sheet
@@ -382,14 +397,17 @@ impl Digest {
     }
 
     fn table(&mut self, table: &Table) {
-        assert_eq!(table.promised, [0; ROWS], "a promise came from nowhere");
+        let old = self.before.old_table(table);
+        assert_eq!(old, *table, "a figure came from nowhere");
         self.words(&[table.n, table.normal, table.degraded]);
-        match self.before {
-            Before::Loading => assert_eq!(table.loading, 0, "a loading time came from nowhere"),
-            Before::Promises => self.word(table.loading),
+        if self.before.has_loading() {
+            self.word(table.loading);
         }
         for column in [&table.release, &table.work, &table.deadline, &table.level] {
             self.words(column);
+        }
+        if self.before.has_promises() {
+            self.words(&table.promised);
         }
     }
 
@@ -398,8 +416,7 @@ impl Digest {
         self.table(table);
     }
 
-    /// The sheet without the fields that were added since, which are of 0 slots and
-    /// of 0 work units.
+    /// The sheet without the fields that were added since, which are of 0.
     fn sheet(&mut self, table: &Table, write: fn(&Table, &mut [u8]) -> (u32, u32)) {
         let mut lent = [165; LONGEST_SHEET];
         let (number, length) = write(table, &mut lent);

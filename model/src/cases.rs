@@ -1,40 +1,27 @@
 //! The tables and answers of cases P1 to P4 (section 13 of the rules), and cases,
-//! runs and reports worked out by hand, for tests here and of the compiled library.
+//! runs and reports worked out by hand, for tests here and of the compiled library. Those
+//! in which rows follow rows are in `waits`.
+
+pub mod waits;
 
 use crate::order::{order_of, Order, NO_ORDER};
 use crate::plan::Plan;
 use crate::speeds::{Least, Sought, BOTH};
-use crate::table::{Row, Table};
+use crate::table::{Row, Table, FIGURES};
 
-/// A row from its figures: a (slots), c (work units), d (slots), level. It promises
-/// nothing.
-pub fn row(figures: [u32; 4]) -> Row {
-    let [release, work, deadline, level] = figures;
-    promising_row([release, work, deadline, level, 0])
-}
-
-/// A row from those figures and its promised part r (work units).
-pub fn promising_row(figures: [u32; 5]) -> Row {
-    let [release, work, deadline, level, promised] = figures;
-    Row {
-        release,
-        work,
-        deadline,
-        level,
-        promised,
-    }
+/// A row from its figures: a (slots), c (work units), d (slots), level, r (work units) and
+/// w (a row number). Those that are left out at the end, r and w at most, are 0.
+pub fn row<const COUNT: usize>(figures: [u32; COUNT]) -> Row {
+    assert!((4..=FIGURES).contains(&COUNT), "a row has four to six");
+    let mut all = [0; FIGURES];
+    all[..COUNT].copy_from_slice(&figures);
+    Row::of(all)
 }
 
 /// A table from N, G (work units per slot) and its rows' figures, with a loading
-/// time of 0 slots and without promises.
-pub fn table(normal: u32, degraded: u32, rows: &[[u32; 4]]) -> Table {
+/// time of 0 slots.
+pub fn table<const COUNT: usize>(normal: u32, degraded: u32, rows: &[[u32; COUNT]]) -> Table {
     let rows: Vec<Row> = rows.iter().map(|&figures| row(figures)).collect();
-    Table::of(normal, degraded, 0, &rows)
-}
-
-/// The same with a promised part in each row's figures.
-pub fn promising_table(normal: u32, degraded: u32, rows: &[[u32; 5]]) -> Table {
-    let rows: Vec<Row> = rows.iter().map(|&figures| promising_row(figures)).collect();
     Table::of(normal, degraded, 0, &rows)
 }
 
@@ -456,9 +443,9 @@ fn more_late_runs() -> Vec<LateRun> {
     ]
 }
 
-/// A table with a promise, or one to compare it with, under an order, worked out by
-/// hand. Clocks and slacks are in slots and stand by row.
-pub struct PromiseCase {
+/// A table under an order of it, and its planner's answer, worked out by hand. Clocks and
+/// slacks are in slots and stand by row.
+pub struct HandPlan {
     pub what: &'static str,
     pub table: Table,
     pub order: Order,
@@ -472,14 +459,14 @@ pub struct PromiseCase {
 }
 
 /// Such a case in one line; each row has worst finish, promised moment and slack.
-fn promise(
+fn hand_plan(
     what: &'static str,
     table: Table,
     order: &[u8],
     rows: &[(u32, u32, i64)],
     plan: Plan,
-) -> PromiseCase {
-    PromiseCase {
+) -> HandPlan {
+    HandPlan {
         what,
         table,
         order: order_of(order),
@@ -493,26 +480,26 @@ fn promise(
 /// A LO row of 4 work units with this deadline (slots) and promised part (work units),
 /// alone. N is 2 and G is 1.
 pub fn promising_preview(deadline: u32, promised: u32) -> Table {
-    promising_table(2, 1, &[[0, 4, deadline, 0, promised]])
+    table(2, 1, &[[0, 4, deadline, 0, promised]])
 }
 
 /// Row 1 is LO, has time for its whole work at G alone, and is late below row 2, which
 /// is HI. It promises so many of its 2 work units: with 2 its allowance is 2 slots, and
 /// row 2 is late below it.
 pub fn above_a_hi_row(promised: u32) -> Table {
-    promising_table(2, 1, &[[0, 2, 2, 0, promised], [0, 3, 4, 1, 0]])
+    table(2, 1, &[[0, 2, 2, 0, promised], [0, 3, 4, 1, 0]])
 }
 
 /// Row 1 is LO and in time below row 2, which is HI, but gets no more than 1 of its 2
 /// work units there by its deadline at G. So it stands above row 2 if it promises 2.
 pub fn either_place(promised: u32) -> Table {
-    promising_table(2, 1, &[[0, 2, 4, 0, promised], [0, 3, 7, 1, 0]])
+    table(2, 1, &[[0, 2, 4, 0, promised], [0, 3, 7, 1, 0]])
 }
 
 /// Two LO rows of 2 work units. Row 1 promises so many of them, and if that makes its
 /// allowance 2 slots, row 2 below it has its own 2 work units a slot later at G.
 pub fn above_a_promise(promised: u32) -> Table {
-    promising_table(2, 1, &[[0, 2, 2, 0, promised], [0, 2, 3, 0, 2]])
+    table(2, 1, &[[0, 2, 2, 0, promised], [0, 2, 3, 0, 2]])
 }
 
 /// `cooler` with a promised part, in work units, of its LO row.
@@ -524,9 +511,9 @@ pub fn promising_cooler(degraded: u32, promised: u32) -> Table {
 
 /// Promises alone (rules 3.7 and 3.9): the promised part and its moment against
 /// the deadline, with and without loading.
-fn promises_of_one_row() -> Vec<PromiseCase> {
+fn promises_of_one_row() -> Vec<HandPlan> {
     let (yes, no) = (ordered(&[1]), no_order(1));
-    let alone = |what, table, row, plan| promise(what, table, &[1], &[row], plan);
+    let alone = |what, table, row, plan| hand_plan(what, table, &[1], &[row], plan);
     vec![
         alone(
             "in time at N, and its promise fails",
@@ -534,12 +521,7 @@ fn promises_of_one_row() -> Vec<PromiseCase> {
             (2, 3, -1),
             no,
         ),
-        alone(
-            "no part promised",
-            promising_preview(2, 0),
-            (2, 0, 0),
-            yes,
-        ),
+        alone("no part promised", promising_preview(2, 0), (2, 0, 0), yes),
         alone("both slacks are 0", promising_preview(2, 2), (2, 2, 0), yes),
         alone("both slacks are 1", promising_preview(3, 2), (2, 2, 1), yes),
         alone(
@@ -577,101 +559,101 @@ fn promises_of_one_row() -> Vec<PromiseCase> {
 }
 
 /// Promises beside other rows: what they take from a HI row and from another promise.
-fn promises_of_several_rows() -> Vec<PromiseCase> {
-    let none = no_order(0b11);
+fn promises_of_several_rows() -> Vec<HandPlan> {
+    let (plan, none) = (hand_plan, no_order(0b11));
     vec![
-        promise(
+        plan(
             "r = 0 above a HI row",
             above_a_hi_row(0),
             &[1, 2],
             &[(1, 0, 1), (4, 0, 0)],
             ordered(&[1, 2]),
         ),
-        promise(
+        plan(
             "a promise within the need at N takes no slot more",
             above_a_hi_row(1),
             &[1, 2],
             &[(1, 1, 1), (4, 0, 0)],
             ordered(&[1, 2]),
         ),
-        promise(
+        plan(
             "a longer allowance, and the HI row below is late",
             above_a_hi_row(2),
             &[1, 2],
             &[(1, 2, 0), (5, 0, -1)],
             none,
         ),
-        promise(
+        plan(
             "the other order of it",
             above_a_hi_row(2),
             &[2, 1],
             &[(3, 5, -3), (3, 0, 1)],
             none,
         ),
-        promise(
+        plan(
             "K 1: the longer allowance has the loading too",
-            promising_table(2, 1, &[[0, 2, 3, 0, 2], [0, 3, 6, 1, 0]]).with_loading(1),
+            table(2, 1, &[[0, 2, 3, 0, 2], [0, 3, 6, 1, 0]]).with_loading(1),
             &[1, 2],
             &[(2, 3, 0), (7, 0, -1)],
             none,
         ),
-        promise(
+        plan(
             "r = 0 lets the LO row stand below",
             either_place(0),
             &[2, 1],
             &[(3, 0, 1), (3, 0, 4)],
             ordered(&[2, 1]),
         ),
-        promise(
+        plan(
             "so does r = 1, with no slot to spare",
             either_place(1),
             &[2, 1],
             &[(3, 4, 0), (3, 0, 4)],
             ordered(&[2, 1]),
         ),
-        promise(
+        plan(
             "r = c makes it stand above",
             either_place(2),
             &[1, 2],
             &[(1, 2, 2), (5, 0, 2)],
             ordered(&[1, 2]),
         ),
-        promise(
+        plan(
             "below the HI row r = c fails",
             either_place(2),
             &[2, 1],
             &[(3, 5, -1), (3, 0, 4)],
             ordered(&[1, 2]),
         ),
-        promise(
+        plan(
             "a promise below a LO row",
             above_a_promise(1),
             &[1, 2],
             &[(1, 1, 1), (2, 3, 0)],
             ordered(&[1, 2]),
         ),
-        promise(
+        plan(
             "a promise below a LO row with a longer allowance",
             above_a_promise(2),
             &[1, 2],
             &[(1, 2, 0), (2, 4, -1)],
             none,
         ),
-        promise(
+        plan(
             "kept in time, though the row is dropped too late at G",
             promise_at_deadline(),
             &[1, 2],
             &[(2, 0, 1), (5, 5, 0)],
             ordered(&[1, 2]),
         ),
-        promise(
+        plan(
             "the largest promise at G 19 of the cooler's table",
             promising_cooler(19, 171),
             &[2, 1],
             &[(20, 0, 0), (9, 9, 9)],
             ordered(&[2, 1]),
         ),
-        promise(
+        plan(
             "a work unit more takes a slot more",
             promising_cooler(19, 172),
             &[2, 1],
@@ -682,7 +664,7 @@ fn promises_of_several_rows() -> Vec<PromiseCase> {
 }
 
 /// Tables with promises and their planner's answers.
-pub fn promises() -> Vec<PromiseCase> {
+pub fn promises() -> Vec<HandPlan> {
     let mut cases = promises_of_one_row();
     cases.extend(promises_of_several_rows());
     cases
@@ -756,7 +738,7 @@ pub fn promise_runs() -> Vec<HandRun> {
 /// Row 1 is HI, row 2 is LO and promises 3 of its 8 work units. The planner's order is
 /// 1, 2, and neither slack of row 2 has a slot to spare.
 pub fn promise_at_deadline() -> Table {
-    promising_table(2, 1, &[[0, 2, 3, 1, 0], [0, 8, 5, 0, 3]])
+    table(2, 1, &[[0, 2, 3, 1, 0], [0, 8, 5, 0, 3]])
 }
 
 /// Runs of it: every slot before clock 5 supplies at least G, and row 2 has got 3 work
@@ -802,7 +784,7 @@ fn late_promise_runs() -> Vec<LateRun> {
 /// Tables with a promise, and the number that the checks on tables give them (rules 5.4,
 /// 5.9 and 11.3).
 pub fn checked_promises() -> Vec<(&'static str, Table, u32)> {
-    let of = |rows: &[[u32; 5]]| promising_table(2, 1, rows);
+    let of = |rows: &[[u32; 5]]| table(2, 1, rows);
     let after_the_last = |promised| {
         let mut table = of(&[[0, 4, 2, 0, 4]]);
         table.promised[63] = promised;
@@ -836,7 +818,7 @@ pub fn checked_promises() -> Vec<(&'static str, Table, u32)> {
             of(&[[0, 4, 2, 0, 5]]).with_loading(17),
             11,
         ),
-        ("so does 4", promising_table(2, 3, &[[0, 4, 2, 1, 1]]), 4),
+        ("so does 4", table(2, 3, &[[0, 4, 2, 1, 1]]), 4),
     ]
 }
 
@@ -968,6 +950,7 @@ pub fn least_speeds() -> Vec<LeastCase> {
     let mut cases = sought_in(Sought::Degraded, &degraded);
     cases.extend(sought_in(Sought::Normal, &normal));
     cases.extend(least_speeds_with_promises());
+    cases.extend(waits::least_speeds_with_waits());
     cases.extend(
         BOTH.into_iter()
             .flat_map(|sought| sought_in(sought, &refused)),
@@ -1027,8 +1010,9 @@ pub const P1_TEXT: &str = concat!(
 /// rules). P1 is reported under the planner's order and from its last row up,
 /// P3 under both of its orders. Then come single rows: the most slack that there
 /// is, the last slack that is not late, and the first that is. Then tables that
-/// load: one for 1 slot and for 2, P1 for 16. At last tables with promises.
-pub fn reports() -> [(Table, Order, &'static str); 12] {
+/// load: one for 1 slot and for 2, P1 for 16. At last tables with promises, and one in
+/// which a row follows another.
+pub fn reports() -> [(Table, Order, &'static str); 13] {
     let alone = order_of(&[1]);
     [
         (
@@ -1139,6 +1123,16 @@ pub fn reports() -> [(Table, Order, &'static str); 12] {
                 "         1         2         2         3         1\n",
                 "         2         1         1         3        -3\n",
                 "         3         1\n",
+            ),
+        ),
+        (
+            waits::preempted(),
+            order_of(&[3, 1, 2]),
+            concat!(
+                "         1         3         2         3         1\n",
+                "         2         1         3         5         4\n",
+                "         3         2         1         6         3\n",
+                "         6         0\n",
             ),
         ),
     ]

@@ -14,7 +14,7 @@
 //!
 //! | module     | states                                                       |
 //! |------------|--------------------------------------------------------------|
-//! | `table`    | rows, tables, need, allowance, checks 3, 4, 11, 5 and 12     |
+//! | `table`    | rows, tables, need, allowance, checks 3, 4, 11, 5, 12 to 15  |
 //! | `order`    | orders by value, check 6, every arrangement of some rows     |
 //! | `run`      | the state of a run, the step by either rule, kept deadlines  |
 //! | `calls`    | the two run calls on paper, with number 8                    |
@@ -27,7 +27,7 @@
 //! | `report`   | the report: its figures, lines and totals                    |
 //! | `program`  | the planning program from input bytes to output bytes        |
 //! | `cases`    | cases worked out by hand, P1 to P4 among them                |
-//! | `before`   | answers from before tables had loading times and promises    |
+//! | `before`   | answers from before loading times, promises and waits        |
 //! | `random`   | a fixed-seed generator of numbers and tables for tests       |
 //! | `plain`    | the same answers by sweeps, for large tables and measures    |
 //! | `planners` | planning with a sweep for each trial, and for each place     |

@@ -2,14 +2,12 @@
 //! gives: not a rule of its own, but which bytes the rules of `sheet` and
 //! `table` speak of.
 
-use crate::sheet::{read_field, read_sheet, FIELD, FIRST_LINE, LINE_END, ROW_LINE};
-use crate::table::{promise_is_within_limit, row_is_within_limits, speeds_are_within_limits, Row};
-
-/// Fields in the first line (rule 6.5).
-const FIRST_FIELDS: u32 = 4;
-
-/// Fields in the line of a row (rule 6.6).
-const ROW_FIELDS: u32 = 5;
+use crate::sheet::{
+    read_field, read_sheet, FIELD, FIRST_FIELDS, FIRST_LINE, LINE_END, ROW_FIELDS, ROW_LINE,
+};
+use crate::table::{
+    check_wait, promise_is_within_limit, row_is_within_limits, speeds_are_within_limits, Row, Table,
+};
 
 /// A place in a sheet. Row 0 is the first line; fields count from 1, and a line
 /// end counts as the field after the last; bytes count from 1.
@@ -20,7 +18,7 @@ pub struct Place {
     pub byte: u32,
 }
 
-/// The place that a sheet is refused for with 2, 3, 4, 5, 11 or 12; none for 0 and
+/// The place that a sheet is refused for with 2, 3, 4, 5 or 11 to 15; none for 0 and
 /// for 1, which speaks of the whole sheet.
 pub fn place_of_fault(sheet: &[u8]) -> Option<Place> {
     match read_sheet(sheet).0 {
@@ -35,7 +33,12 @@ pub fn place_of_fault(sheet: &[u8]) -> Option<Place> {
         11 => Some(whole_field(0, 4)),
         12 => {
             let index = first_row(sheet, |row| !promise_is_within_limit(row))?;
-            Some(whole_field(index as u32 + 1, ROW_FIELDS))
+            Some(whole_field(index as u32 + 1, 5))
+        }
+        13..=15 => {
+            let table = Table::of(0, 0, 0, &rows_of(sheet));
+            let row = (1..=table.n as u8).find(|&row| check_wait(&table, row) != 0)?;
+            Some(whole_field(u32::from(row), 6))
         }
         _ => None,
     }
@@ -60,7 +63,7 @@ fn malformed(sheet: &[u8]) -> Option<Place> {
         for field in 1..=fields {
             let bytes: &[u8; FIELD] = sheet[at..at + FIELD].try_into().expect("a field");
             if read_field(bytes).is_none() {
-                let byte = (at + goes_wrong(bytes)) as u32 + 1;
+                let (field, byte) = (field as u32, (at + goes_wrong(bytes)) as u32 + 1);
                 return Some(Place { row, field, byte });
             }
             at += FIELD;
@@ -69,7 +72,7 @@ fn malformed(sheet: &[u8]) -> Option<Place> {
             let byte = at as u32 + 1;
             return Some(Place {
                 row,
-                field: fields + 1,
+                field: fields as u32 + 1,
                 byte,
             });
         }
@@ -110,14 +113,8 @@ fn outside_limits(sheet: &[u8]) -> Option<Place> {
         deadline,
         level,
         ..
-    } = row_of(&sheet[FIRST_LINE + index * ROW_LINE..]);
-    let good = Row {
-        release: 0,
-        work: 1,
-        deadline: 1,
-        level: 0,
-        promised: 0,
-    };
+    } = rows_of(sheet)[index];
+    let good = Row::of([0, 1, 1, 0, 0, 0]);
     let alone = [
         (2, Row { work, ..good }),
         (3, Row { deadline, ..good }),
@@ -130,8 +127,7 @@ fn outside_limits(sheet: &[u8]) -> Option<Place> {
 
 /// Where the first row stands of which this is so, from 0 on.
 fn first_row(sheet: &[u8], is_so: impl Fn(&Row) -> bool) -> Option<usize> {
-    let mut rows = sheet[FIRST_LINE..].chunks(ROW_LINE).map(row_of);
-    rows.position(|row| is_so(&row))
+    rows_of(sheet).iter().position(is_so)
 }
 
 fn figure(bytes: &[u8]) -> u32 {
@@ -139,12 +135,11 @@ fn figure(bytes: &[u8]) -> u32 {
     read_field(bytes).expect("a well-formed field")
 }
 
-fn row_of(line: &[u8]) -> Row {
-    Row {
-        release: figure(&line[..8]),
-        work: figure(&line[8..16]),
-        deadline: figure(&line[16..24]),
-        level: figure(&line[24..32]),
-        promised: figure(&line[32..40]),
-    }
+/// The rows of a sheet whose lines are well formed.
+fn rows_of(sheet: &[u8]) -> Vec<Row> {
+    let field = |line: &[u8], index: usize| figure(&line[index * FIELD..][..FIELD]);
+    let lines = sheet[FIRST_LINE..].chunks(ROW_LINE);
+    lines
+        .map(|line| Row::of(std::array::from_fn(|index| field(line, index))))
+        .collect()
 }

@@ -72,21 +72,28 @@ fn planned_at(table: &Table, sought: Sought, speed: u32) -> Option<Least> {
 /// The checks of the table, then 6.
 fn check(table: &Table, order: &Order) -> u32 {
     match check_table(table) {
-        0 if is_order(table.n as usize, order) => 0,
+        0 if is_order(table, order) => 0,
         0 => 6,
         refusal => refusal,
     }
 }
 
-fn is_order(n: usize, order: &Order) -> bool {
+/// One pass from the highest place down: no row is held before or out of range, and the
+/// row that it follows is held already.
+fn is_order(table: &Table, order: &Order) -> bool {
+    let (places, after) = order.split_at(table.n as usize);
     let mut held = 0u64;
-    for &row in &order[..n] {
-        if row == 0 || row as usize > n || held >> (row - 1) & 1 == 1 {
+    for &row in places {
+        if row == 0 || u32::from(row) > table.n || held >> (row - 1) & 1 == 1 {
+            return false;
+        }
+        let followed = table.follows[row as usize - 1];
+        if followed != 0 && held >> (followed - 1) & 1 == 0 {
             return false;
         }
         held |= 1 << (row - 1);
     }
-    order[n..].iter().all(|&row| row == 0)
+    after.iter().all(|&row| row == 0)
 }
 
 /// The worst finish of every row, in slots.
@@ -218,7 +225,8 @@ fn entry_is_sound(record: &Record, index: usize) -> bool {
         && closed_as_it_should_be
 }
 
-/// The row that the coming slot runs, 0 for an idle slot.
+/// The row that the coming slot runs, 0 for an idle slot. The order keeps all waits, so
+/// that the first row which is released and open never waits (rule 21.2).
 fn chosen(record: &Record) -> u8 {
     let is_ready = |&&row: &&u8| {
         let index = row as usize - 1;
@@ -327,10 +335,7 @@ pub fn write_back(table: &Table, lent: &mut [u8]) -> (u32, u32) {
     let (n, normal, degraded) = (table.n, table.normal, table.degraded);
     put_line(first, &[n, normal, degraded, table.loading], write_field);
     for (index, line) in rows.chunks_exact_mut(ROW_LINE).enumerate() {
-        let (release, work) = (table.release[index], table.work[index]);
-        let (deadline, level) = (table.deadline[index], table.level[index]);
-        let figures = [release, work, deadline, level, table.promised[index]];
-        put_line(line, &figures, write_field);
+        put_line(line, &table.row(index as u8 + 1).figures(), write_field);
     }
     (0, length as u32)
 }

@@ -87,13 +87,28 @@ fn by_falling_deadline(table: &Table, left: &[u8], level: u32) -> Vec<u8> {
     sequence
 }
 
-/// The order of a trial: the other rows left (in row order) above the row tried,
-/// the rows already placed below it.
+/// The order that a row is tried in (rule 4.4): below the rest of the rows left, which keep
+/// the sequence that they come in, and above the rows that have their places. Among the
+/// rows above it waits may be broken (rule 21.3).
 pub fn trial_order(left: &[u8], placed: &[u8], row: u8) -> Order {
     let mut places: Vec<u8> = left.iter().copied().filter(|&other| other != row).collect();
     places.push(row);
     places.extend_from_slice(placed);
     order_of(&places)
+}
+
+/// The rows of `left` that are tried at one place, in their sequence: all but those that
+/// are skipped (rules 4.2 and 4.11).
+pub fn tried(table: &Table, left: &[u8]) -> Vec<u8> {
+    let mut tried = trial_sequence(table, left);
+    tried.retain(|&row| !is_skipped(table, left, row));
+    tried
+}
+
+/// A row is skipped, and not tried, while a row left follows it (rule 4.11).
+pub fn is_skipped(table: &Table, left: &[u8], row: u8) -> bool {
+    let followed = |&other: &u8| table.row(other).follows == u32::from(row);
+    left.iter().any(followed)
 }
 
 /// A trial: is the row's slack not below zero, below every other row left (rule
@@ -104,7 +119,7 @@ pub fn passes_lowest(table: &Table, left: &[u8], placed: &[u8], row: u8) -> bool
 }
 
 /// The planner's answer: 0 with an order (rule 10.0), 7 with the rows left and
-/// an order of zeros (rule 10.7), 3, 4, 11, 5 or 12 with all zero.
+/// an order of zeros (rule 10.7), 3, 4, 11, 5 or 12 to 15 with all zero.
 #[derive(Clone, Copy, Debug, PartialEq, Eq)]
 pub struct Plan {
     pub number: u32,
@@ -126,8 +141,8 @@ pub fn word_of(rows: &[u8]) -> u64 {
 }
 
 /// The planner's choice: from the lowest place on, each goes to the first row of
-/// the trial sequence that passes (rules 4.1 and 4.5). Where every row fails,
-/// the answer is 7 (rule 4.6).
+/// the trial sequence that is tried and passes (rules 4.1, 4.5 and 4.11). Where every row
+/// that is tried fails, the answer is 7 (rule 4.6).
 pub fn plan(table: &Table) -> Plan {
     plan_and_trials(table).0
 }
@@ -144,11 +159,12 @@ pub fn plan_and_trials(table: &Table) -> (Plan, u32) {
         };
         return (plan, 0);
     }
-    let mut left: Vec<u8> = (1..=table.n as u8).collect();
+    let rows: Vec<u8> = (1..=table.n as u8).collect();
+    let mut left = trial_sequence(table, &rows);
     let mut placed: Vec<u8> = Vec::new();
     let mut trials = 0;
     while !left.is_empty() {
-        let first_to_pass = trial_sequence(table, &left).into_iter().find(|&row| {
+        let first_to_pass = tried(table, &left).into_iter().find(|&row| {
             trials += 1;
             passes_lowest(table, &left, &placed, row)
         });

@@ -1,6 +1,8 @@
 //! A small generator with fixed seeds, so that every test run is the same.
 
-use crate::table::{Row, Table, HI, LO, MOST_LOADING};
+use crate::order::{order_of, Order};
+use crate::plan::slack;
+use crate::table::{check_wait, Row, Table, HI, LO, MOST_LOADING};
 
 /// The splitmix64 generator.
 pub struct Random {
@@ -66,7 +68,7 @@ pub struct Ranges {
 }
 
 /// An accepted table: 1 to `rows` rows, every figure from its range, a loading
-/// time from 0 to 16 slots; about half of such tables have promises.
+/// time from 0 to 16 slots; some such tables have promises, some waits, some both.
 pub fn table_in(random: &mut Random, ranges: Ranges) -> Table {
     let n = random.between(1, ranges.rows);
     table_of_rows_in(random, n, ranges)
@@ -120,6 +122,86 @@ pub fn spoil_promise(random: &mut Random, table: &mut Table) {
     }
 }
 
+/// A row that this one may follow as the table has it, if there is one and once in two
+/// times, or 0.
+pub fn wait(random: &mut Random, table: &Table, row: u8) -> u32 {
+    let mut following = *table;
+    let mut may_follow = |other: &u32| {
+        following.follows[row as usize - 1] = *other;
+        check_wait(&following, row) == 0
+    };
+    let others: Vec<u32> = (1..u32::from(row)).filter(&mut may_follow).collect();
+    if others.is_empty() || random.once_in(2) {
+        0
+    } else {
+        random.one_of(&others)
+    }
+}
+
+/// The accepted table with other waits, none or random ones.
+pub fn with_waits(random: &mut Random, table: &Table) -> Table {
+    let mut waiting = table.without_waits();
+    if random.once_in(2) {
+        for row in 2..=table.n as u8 {
+            waiting.follows[row as usize - 1] = wait(random, table, row);
+        }
+    }
+    waiting
+}
+
+/// Changes an accepted table so that check 13, 14 or 15 refuses it, whichever is asked
+/// for; one of a single row has no other row to follow, and is refused by 13.
+pub fn spoil_wait(random: &mut Random, table: &mut Table, number: u32) {
+    let row = random.between(1, table.n);
+    if number == 13 || table.n == 1 {
+        let any = random.between(row, 70);
+        table.follows[row as usize - 1] = random.one_of(&[row, row + 1, 64, 65, u32::MAX, any]);
+        return;
+    }
+    let row = row.max(2);
+    let followed = random.between(1, row - 1);
+    let (index, above) = (row as usize - 1, followed as usize - 1);
+    table.follows[index] = followed;
+    if number == 14 {
+        let later = table.release[above].max(1);
+        table.release[above] = later;
+        table.deadline[above] = table.deadline[above].max(later + 1);
+        table.release[index] = table.release[index].min(later - 1);
+    } else {
+        table.release[index] = table.release[index].max(table.release[above]);
+        table.deadline[index] = table.deadline[index].max(table.release[index] + 1);
+        (table.level[index], table.promised[index]) = (HI, 0);
+        table.level[above] = LO;
+    }
+}
+
+/// A random order of an accepted table: each row in turn gets any place among those before
+/// it that is below the row it follows, which is one of them.
+pub fn random_order(random: &mut Random, table: &Table) -> Order {
+    let mut places: Vec<u8> = Vec::new();
+    for row in 1..=table.n as u8 {
+        let follows = table.row(row).follows;
+        let followed = places.iter().position(|&held| u32::from(held) == follows);
+        let highest = followed.map_or(0, |place| place + 1);
+        let place = random.between(highest as u32, places.len() as u32);
+        places.insert(place as usize, row);
+    }
+    order_of(&places)
+}
+
+/// The accepted table with deadlines that leave no slot to spare under this order of it,
+/// each moved by one of these numbers of slots. Every row keeps a slot before its deadline.
+pub fn tight_under(random: &mut Random, table: &Table, order: &Order, moves: &[i64]) -> Table {
+    let mut tight = *table;
+    for row in 1..=table.n as u8 {
+        let index = row as usize - 1;
+        let without_slack = i64::from(table.deadline[index]) - slack(table, order, row);
+        let moved = without_slack + random.one_of(moves);
+        tight.deadline[index] = (moved as u32).max(table.release[index] + 1);
+    }
+    tight
+}
+
 /// An accepted table of exactly n rows with this loading time, in slots. A row has
 /// time for one to n rows to load, or seldom for none, so that about as many rows
 /// are late as without loading.
@@ -140,8 +222,10 @@ pub fn loading_table_in(random: &mut Random, n: u32, loading: u32, ranges: Range
             deadline: release + window,
             level: random.one_of(&[LO, HI]),
             promised: 0,
+            follows: 0,
         }
     };
     let rows: Vec<Row> = (0..n).map(|_| row(random)).collect();
-    with_promises(random, &Table::of(normal, degraded, loading, &rows))
+    let promising = with_promises(random, &Table::of(normal, degraded, loading, &rows));
+    with_waits(random, &promising)
 }

@@ -73,7 +73,7 @@ impl Record {
     };
 
     /// The fresh record of a table and an order: a state of zeros beside them.
-    /// Refused with 3, 4, 11, 5, 12 or 6, and then all zero (rule 8.2).
+    /// Refused with 3, 4, 11, 5, 12 to 15 or 6, and then all zero (rule 8.2).
     pub fn fresh(table: &Table, order: &Order) -> (u32, Record) {
         match check_table_and_order(table, order) {
             0 => (0, Record::holding(table, order, &State::FRESH)),

@@ -1,6 +1,7 @@
 //! What a slot does by the planning rule (section 2 of the rules) and by the
-//! running rule (section 19). The table is accepted (rule 5.5) and the order is
-//! one of its orders (rule 5.7).
+//! running rule (section 19). The table is accepted (rule 5.5), and the order holds each
+//! of its rows once. Trials have orders that break waits (rule 21.3), so that a slot looks
+//! at the waits and not at how the order stands to them.
 
 use crate::order::Order;
 use crate::table::{allowance, Table, LO, ROWS};
@@ -28,16 +29,28 @@ impl State {
     };
 }
 
-/// The ready row with the highest place, 0 if no row is ready (rules 2.2 and
-/// 2.3). It has no supply argument, so it cannot depend on one (rule 2.4).
+/// The ready row with the highest place, 0 if no row is ready (rule 2.3). It has no
+/// supply argument, so it cannot depend on one (rule 2.4).
 pub fn chosen(table: &Table, order: &Order, state: &State) -> u8 {
-    for &row in &order[..table.n as usize] {
-        let index = row as usize - 1;
-        if state.closing[index] == 0 && table.release[index] <= state.clock {
-            return row;
-        }
+    let places = order[..table.n as usize].iter();
+    let mut ready = places.filter(|&&row| is_ready(table, state, row));
+    ready.next().copied().unwrap_or(0)
+}
+
+/// The row is released and open, and does not wait (rule 2.2).
+pub fn is_ready(table: &Table, state: &State, row: u8) -> bool {
+    let index = row as usize - 1;
+    let released = table.release[index] <= state.clock;
+    released && state.closing[index] == 0 && !is_waiting(table, state, row)
+}
+
+/// The row follows one that is open. A row that was dropped is as closed as one that is
+/// done (rule 2.15).
+pub fn is_waiting(table: &Table, state: &State, row: u8) -> bool {
+    match table.row(row).follows {
+        0 => false,
+        followed => state.closing[followed as usize - 1] == 0,
     }
-    0
 }
 
 /// A rule of a slot: makes one step with this supply (work units) and gives the

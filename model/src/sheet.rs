@@ -2,16 +2,22 @@
 //! that gives a table's sheet back (section 15). Tests also write sheets that
 //! are refused.
 
-use crate::table::{check_table, count_is_within_limit, Row, Table, ROWS};
+use crate::table::{check_table, count_is_within_limit, Row, Table, FIGURES, ROWS};
 
 /// Bytes in a field (rule 6.1).
 pub const FIELD: usize = 8;
 
-/// Bytes in the first line: n, N, G, K and the line end (rule 6.5).
+/// Fields in the first line: n, N, G and K (rule 6.5).
+pub const FIRST_FIELDS: usize = 4;
+
+/// Fields in the line of a row: a, c, d, level, r and w (rule 6.6).
+pub const ROW_FIELDS: usize = FIGURES;
+
+/// Bytes in the first line: its fields and the line end (rule 6.5).
 pub const FIRST_LINE: usize = 33;
 
-/// Bytes in the line of a row: a, c, d, level, r and the line end (rule 6.6).
-pub const ROW_LINE: usize = 41;
+/// Bytes in the line of a row: its fields and the line end (rule 6.6).
+pub const ROW_LINE: usize = 49;
 
 /// Bytes in the longest sheet, which has 64 rows (rules 6.7 and 15.8).
 pub const LONGEST_SHEET: usize = FIRST_LINE + ROWS * ROW_LINE;
@@ -75,16 +81,10 @@ fn read_or_refuse(bytes: &[u8]) -> Result<Table, u32> {
     }
     let mut rows = Vec::new();
     for line in row_lines.chunks(ROW_LINE) {
-        let [release, work, deadline, level, promised] = read_line(line).ok_or(2u32)?;
-        rows.push(Row {
-            release,
-            work,
-            deadline,
-            level,
-            promised,
-        });
+        rows.push(Row::of(read_line(line).ok_or(2u32)?));
     }
-    // The count has passed 3, so what is left of these checks is 4, 11, 5, then 12.
+    // The count has passed 3, so what is left of these checks is 4, 11, 5, 12, then 13 to
+    // 15.
     let table = Table::of(normal, degraded, loading, &rows);
     match check_table(&table) {
         0 => Ok(table),
@@ -133,13 +133,7 @@ pub fn write_line(numbers: &[u32]) -> Vec<u8> {
 pub fn write_sheet(n: u32, normal: u32, degraded: u32, loading: u32, rows: &[Row]) -> Vec<u8> {
     let mut sheet = write_line(&[n, normal, degraded, loading]);
     for row in rows {
-        sheet.extend(write_line(&[
-            row.release,
-            row.work,
-            row.deadline,
-            row.level,
-            row.promised,
-        ]));
+        sheet.extend(write_line(&row.figures()));
     }
     sheet
 }

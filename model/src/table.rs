@@ -1,5 +1,5 @@
-//! Rows, tables, need and allowance, and the checks on tables (3, 4, 11, 5 and 12;
-//! sections 1 and 5 of the rules).
+//! Rows, tables, need and allowance, and the checks on tables (3, 4, 11, 5, 12 and 13 to
+//! 15; sections 1 and 5 of the rules).
 
 /// Entries in every column of a table: the most rows it can hold (rule 5.1).
 pub const ROWS: usize = 64;
@@ -36,6 +36,40 @@ pub struct Row {
     /// Promised part r, in work units: what a LO job gets by its deadline even at
     /// G; 0 promises nothing (rule 1.11).
     pub promised: u32,
+    /// The row w that the job follows, 0 for none (rule 1.12).
+    pub follows: u32,
+}
+
+/// How many figures a row has.
+pub const FIGURES: usize = 6;
+
+impl Row {
+    /// The row with these figures: a (slots), c (work units), d (slots), level, r (work
+    /// units) and w (a row number).
+    pub fn of(figures: [u32; FIGURES]) -> Row {
+        let [release, work, deadline, level, promised, follows] = figures;
+        Row {
+            release,
+            work,
+            deadline,
+            level,
+            promised,
+            follows,
+        }
+    }
+
+    /// These figures of the row.
+    pub fn figures(&self) -> [u32; FIGURES] {
+        let Row {
+            release,
+            work,
+            deadline,
+            level,
+            promised,
+            follows,
+        } = *self;
+        [release, work, deadline, level, promised, follows]
+    }
 }
 
 /// A table of n rows with its two speeds and its loading time. The column entry
@@ -62,6 +96,8 @@ pub struct Table {
     pub level: [u32; ROWS],
     /// Promised part of each row, in work units.
     pub promised: [u32; ROWS],
+    /// The row that each row follows, 0 for none.
+    pub follows: [u32; ROWS],
 }
 
 impl Table {
@@ -76,6 +112,7 @@ impl Table {
         deadline: [0; ROWS],
         level: [0; ROWS],
         promised: [0; ROWS],
+        follows: [0; ROWS],
     };
 
     /// The table with these speeds, this loading time and at most 64 rows, zeros
@@ -95,6 +132,7 @@ impl Table {
             table.deadline[index] = row.deadline;
             table.level[index] = row.level;
             table.promised[index] = row.promised;
+            table.follows[index] = row.follows;
         }
         table
     }
@@ -108,6 +146,14 @@ impl Table {
     pub fn without_promises(self) -> Table {
         Table {
             promised: [0; ROWS],
+            ..self
+        }
+    }
+
+    /// The same table in which no row follows another.
+    pub fn without_waits(self) -> Table {
+        Table {
+            follows: [0; ROWS],
             ..self
         }
     }
@@ -129,6 +175,7 @@ impl Table {
             deadline: self.deadline[index],
             level: self.level[index],
             promised: self.promised[index],
+            follows: self.follows[index],
         }
     }
 }
@@ -182,7 +229,8 @@ pub fn row_is_within_limits(row: &Row) -> bool {
 /// A row all zero, as every row after row n has to be (rule 5.4).
 pub fn row_is_zero(row: &Row) -> bool {
     let times = row.release == 0 && row.deadline == 0;
-    times && row.work == 0 && row.level == 0 && row.promised == 0
+    let others = row.work == 0 && row.level == 0 && row.promised == 0;
+    times && others && row.follows == 0
 }
 
 /// In work units; check 12 refuses any other promise: one of more than the work, and
@@ -191,9 +239,32 @@ pub fn promise_is_within_limit(row: &Row) -> bool {
     row.promised <= row.work && (row.level == LO || row.promised == 0)
 }
 
-/// Checks 3, 4, 11, 5 and 12 in this order on a table with any values: 0 if it is
-/// accepted (rule 5.5), else the number of the first refusal (rule 11.3). All rows
-/// and those after row n have passed 5 before any is asked for its promise.
+/// Checks 13, 14 and 15 of one row: 0 if it follows none, or one with a lower number that
+/// is released no later, and that is HI if the row itself is; else the number of the first
+/// refusal (rule 5.10).
+pub fn check_wait(table: &Table, row: u8) -> u32 {
+    let job = table.row(row);
+    if job.follows == 0 {
+        return 0;
+    }
+    if job.follows >= u32::from(row) {
+        return 13;
+    }
+    let followed = table.row(job.follows as u8);
+    if followed.release > job.release {
+        return 14;
+    }
+    if job.level == HI && followed.level == LO {
+        return 15;
+    }
+    0
+}
+
+/// Checks 3, 4, 11, 5, 12 and 13 to 15 in this order on a table with any values: 0 if it
+/// is accepted (rule 5.5), else the number of the first refusal (rule 11.3). All rows and
+/// those after row n have passed 5 before any is asked for its promise, and all have
+/// passed 12 before any is asked for the row that it follows; then the first row that is
+/// refused counts.
 pub fn check_table(table: &Table) -> u32 {
     if !count_is_within_limit(table.n) {
         return 3;
@@ -220,5 +291,6 @@ pub fn check_table(table: &Table) -> u32 {
             return 12;
         }
     }
-    0
+    let waits = (1..=table.n as u8).map(|row| check_wait(table, row));
+    waits.into_iter().find(|&refusal| refusal != 0).unwrap_or(0)
 }

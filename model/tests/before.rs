@@ -1,18 +1,19 @@
-//! A loading time of 0 slots changes no answer: the model and the plain planner
-//! answer as they did before tables had one, and one slot and forward do where there
-//! is no late preview to drop. Nor does a table without a promise: all calls answer as
-//! they did before rows had one (rule 20.2). Sheets of these times lack fields.
+//! With w = 0 in every row all calls of the model and of plain Rust answer as they did
+//! before rows followed rows (rule 21.5), with r = 0 too as before rows had a promise
+//! (rule 20.2), and with K = 0 too as before tables had a loading time, one slot and
+//! forward where there is no late preview to drop (rule 17.1). Sheets of these times lack
+//! fields.
 
 mod common;
 
-use common::table_without_loading;
-use model::before::{answers, Before, Calls};
-use model::cases::{p1, p2, p3, p4};
+use common::SMALL;
+use model::before::{answers, Before, Calls, TIMES};
+use model::cases::{p1, p2, p3, p4, promising_preview};
 use model::judge::judge_table;
 use model::plain;
 use model::plan::plan;
 use model::program::planning_program;
-use model::random::Random;
+use model::random::{table_in, Random};
 use model::record::{Forward, OneSlot, Record};
 use model::report::report;
 use model::sheet::{read_sheet, sheet_of, write_back, write_line};
@@ -36,7 +37,7 @@ fn the_model_answers_as_before() {
 }
 
 fn assert_as_before(calls: &Calls) {
-    for before in [Before::Loading, Before::Promises] {
+    for before in TIMES {
         assert_eq!(answers(calls, before), before.stored(), "{before:?}");
     }
 }
@@ -77,28 +78,30 @@ fn plain_forward(record: &Record, supplies: &[u32]) -> Forward {
     }
 }
 
-/// A sheet without a field of K is refused with 2, one without fields of r with 1
-/// (rule 20.6), and both are read with fields of 0 put in.
+/// A sheet without a field of K is refused with 2, one without fields of r or of w with 1
+/// (rules 17.3, 20.6 and 21.6), and with fields of 0 put in each is read as it was.
 fn assert_old_sheets(table: &Table) {
-    let (sheet, n) = (sheet_of(table), table.n as usize);
+    let n = table.n as usize;
     for (before, length, number) in [
         (Before::Loading, 25 + 33 * n, 2),
         (Before::Promises, 33 + 33 * n, 1),
+        (Before::Waits, 33 + 41 * n, 1),
     ] {
-        let old = before.old_sheet(&sheet);
+        let kept = before.old_table(table);
+        let old = before.old_sheet(&sheet_of(table));
         assert_eq!(old.len(), length);
         assert_eq!(read_sheet(&old), (number, Table::ZERO), "{table:?}");
         assert_eq!(planning_program(&old), write_line(&[number, 0]));
-        assert_eq!(before.new_sheet(&old), sheet);
+        assert_eq!(before.new_sheet(&old), sheet_of(&kept));
+        assert_eq!(read_sheet(&before.new_sheet(&old)), (0, kept));
     }
-    assert_eq!(read_sheet(&sheet), (0, *table));
 }
 
 #[test]
 fn sheets_without_a_field_are_refused() {
     let mut random = Random::seeded(902);
     for _ in 0..5_000 {
-        assert_old_sheets(&table_without_loading(&mut random).without_promises());
+        assert_old_sheets(&table_in(&mut random, SMALL));
     }
     for table in [p1(), p2(), p3(), p4()] {
         assert_old_sheets(&table);
@@ -112,4 +115,11 @@ fn sheets_without_a_field_are_refused() {
         "       0       5       5       0\n",
     );
     assert_eq!(Before::Loading.old_sheet(&sheet_of(&p1())), old.as_bytes());
+    // And this one had promises and no waits.
+    let old = concat!(
+        "       1       2       1       0\n",
+        "       0       4       2       0       3\n",
+    );
+    let sheet = sheet_of(&promising_preview(2, 3));
+    assert_eq!(Before::Waits.old_sheet(&sheet), old.as_bytes());
 }

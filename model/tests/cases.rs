@@ -1,23 +1,32 @@
 //! The cases that must hold, starred and also run (section 13 of the rules). In
-//! the starred ones no job loads; after them come cases in which jobs do.
+//! the starred ones no job loads; after them come cases in which jobs do, in which
+//! previews are late or promise a part, and in which rows follow rows.
 
 mod common;
 
 use common::correct::correct_by_every_course;
 use common::{p3_at, refused_verdict, RULES};
+use model::before::Before;
 use model::calls::LAST_CLOCK;
+use model::cases::waits::{
+    broken_above, chain, late_wait_runs, preempted, runs_that_break_waits, wait_plans, wait_runs,
+};
 use model::cases::{
     at_loading, at_loading_planned, late_runs, loading_runs, no_order, ordered, p1, p2, p3, p4,
-    promise_at_deadline, promise_runs, promises, row, serving, table, HandRun, P1_TEXT,
+    promise_at_deadline, promise_runs, promises, row, serving, table, HandPlan, HandRun, LateRun,
+    P1_TEXT,
 };
 use model::judge::{judge, judge_table, Verdict};
-use model::order::{order_of, orders, Order, NO_ORDER};
+use model::order::{keeps_waits, order_of, orders, Order, NO_ORDER};
 use model::plain;
-use model::plan::{passes_lowest, plan, promised_moment, slack, worst_finish, Plan};
+use model::plan::{
+    is_skipped, passes_lowest, plan, plan_and_trials, promised_moment, slack, trial_order,
+    trial_sequence, worst_finish, Plan,
+};
 use model::planners::each_trial;
 use model::program::planning_program;
 use model::record::Record;
-use model::run::{run_by, running_step, step, Rule, State};
+use model::run::{chosen, is_ready, is_waiting, run_by, running_step, step, Rule, State};
 use model::sheet::{read_sheet, sheet_of, write_sheet};
 use model::table::{allowance, need, Row, Table, MOST_LOADING};
 
@@ -103,11 +112,11 @@ fn p8_normal_run_of_p3() {
     }
 }
 
-/// P1 to P8 as above have a loading time of 0 slots.
+/// P1 to P8 as above have a loading time of 0 slots, promise nothing and have no waits.
 #[test]
 fn the_starred_cases_do_not_load() {
     for table in [p1(), p2(), p3(), p4(), table(3, 1, &[[0, 3, 1, 0]])] {
-        assert_eq!(table.loading, 0);
+        assert_eq!(Before::Loading.old_table(&table), table);
     }
 }
 
@@ -138,33 +147,52 @@ fn assert_worked(case: &HandRun) {
     assert_eq!(by_plain, worked.record, "{what}");
 }
 
-/// Each slot's row, what it brought and what it closed (rules 1.9, 1.10, 2.14), by
-/// either rule of a slot.
-#[test]
-fn runs_that_load() {
-    for case in loading_runs() {
+/// The same by either rule of a slot.
+fn assert_worked_by_both(cases: Vec<HandRun>) {
+    for case in cases {
         let expected = (case.rows.clone(), case.ends.clone());
         assert_eq!(rows_and_ends(step, &case), expected, "{}", case.what);
         assert_worked(&case);
     }
 }
 
-/// Runs in which a LO row has its allowance by its promise (rule 1.9), by either rule of
-/// a slot.
+/// Each slot's row, what it brought and what it closed (rules 1.9, 1.10, 2.14).
+#[test]
+fn runs_that_load() {
+    assert_worked_by_both(loading_runs());
+}
+
+/// Runs in which a LO row has its allowance by its promise (rule 1.9).
 #[test]
 fn runs_with_promises() {
-    for case in promise_runs() {
+    assert_worked_by_both(promise_runs());
+}
+
+/// Runs in which a row waits for the one that it follows, preempted or not, until that one
+/// is done or dropped (rule 2.15).
+#[test]
+fn runs_with_waits() {
+    assert_worked_by_both(wait_runs());
+    assert_late(late_wait_runs());
+}
+
+/// A follower waits under arrangements that are no orders too.
+#[test]
+fn runs_that_break_a_wait() {
+    for case in runs_that_break_waits() {
         let expected = (case.rows.clone(), case.ends.clone());
-        assert_eq!(rows_and_ends(step, &case), expected, "{}", case.what);
-        assert_worked(&case);
+        for rule in RULES {
+            assert_eq!(rows_and_ends(rule, &case), expected, "{}", case.what);
+        }
+        let fresh = Record::fresh(&case.table, &case.order);
+        assert_eq!(fresh, (6, Record::ZERO), "{}", case.what);
     }
 }
 
 /// Worst finishes, promised moments, slacks, verdict and planner's answer (rules 3.6 to
 /// 3.9 and 4.4), and the verdict over every course of speed (rule 3.4).
-#[test]
-fn tables_with_promises() {
-    for case in promises() {
+fn assert_planned(cases: Vec<HandPlan>) {
+    for case in cases {
         let (what, table, order) = (case.what, &case.table, &case.order);
         let rows = 1..=table.n as u8;
         let finishes: Vec<u32> = rows
@@ -193,6 +221,55 @@ fn tables_with_promises() {
     }
 }
 
+#[test]
+fn tables_with_promises() {
+    assert_planned(promises());
+}
+
+#[test]
+fn tables_with_waits() {
+    assert_planned(wait_plans());
+}
+
+/// At the lowest place row 1 is skipped, since rows 2 and 3 follow it; once both are placed
+/// it is tried (rule 4.11).
+#[test]
+fn skips_look_at_the_rows_left() {
+    let skipped = |left: &[u8]| -> Vec<u8> {
+        let rows = left.iter().copied();
+        rows.filter(|&row| is_skipped(&chain(1, 1), left, row))
+            .collect()
+    };
+    assert_eq!(skipped(&[1, 2, 3]), [1]);
+    assert_eq!(skipped(&[1, 3]), [1]);
+    assert_eq!(skipped(&[1]), []);
+    assert_eq!(plan_and_trials(&chain(1, 1)), (ordered(&[1, 3, 2]), 3));
+    assert_eq!(plan_and_trials(&chain(1, 2)), (ordered(&[1, 2, 3]), 3));
+}
+
+/// Row 3 is tried with row 2 above row 1, which it follows: it finishes when the set does
+/// (rule 21.3).
+#[test]
+fn a_trial_above_which_a_wait_is_broken() {
+    let table = broken_above();
+    assert_eq!(trial_sequence(&table, &[1, 2, 3]), [2, 1, 3]);
+    for above in [[2, 1], [1, 2]] {
+        let order = trial_order(&[above[0], above[1], 3], &[], 3);
+        assert_eq!(worst_finish(&table, &order, 3), 3, "{above:?}");
+    }
+    assert_eq!(plan_and_trials(&table), (ordered(&[1, 2, 3]), 4));
+}
+
+/// The follower is the highest row and waits, and so the row that it follows is chosen.
+#[test]
+fn a_follower_waits_whatever_its_place() {
+    let (table, order) = (preempted(), order_of(&[2, 1, 3]));
+    assert_eq!(chosen(&table, &order, &State::FRESH), 1);
+    assert!(is_waiting(&table, &State::FRESH, 2) && !is_ready(&table, &State::FRESH, 2));
+    assert!(!is_waiting(&table, &State::FRESH, 1) && is_ready(&table, &State::FRESH, 1));
+    assert!(!keeps_waits(&table, &order));
+}
+
 /// Its runs are among the late ones.
 #[test]
 fn a_promise_kept_at_its_deadline_alone() {
@@ -208,7 +285,11 @@ fn a_promise_kept_at_its_deadline_alone() {
 /// planning rule makes of them (rules 13.13 and 19.1 to 19.4).
 #[test]
 fn runs_with_late_previews() {
-    for case in late_runs() {
+    assert_late(late_runs());
+}
+
+fn assert_late(cases: Vec<LateRun>) {
+    for case in cases {
         assert_worked(&case.run);
         let planned = (case.planned_rows, case.planned_ends);
         assert_eq!(rows_and_ends(step, &case.run), planned, "{}", case.run.what);
@@ -222,9 +303,9 @@ fn a_table_without_a_correct_order_that_is_served() {
     let table = serving();
     assert_eq!(plan(&table), no_order(0b111));
     let serves = |order: &Order| correct_by_every_course(running_step, &table, order);
-    let serving: Vec<Order> = orders(3).into_iter().filter(serves).collect();
+    let serving: Vec<Order> = orders(&table).into_iter().filter(serves).collect();
     assert_eq!(serving, [order_of(&[1, 2, 3])]);
-    for order in orders(3) {
+    for order in orders(&table) {
         assert!(!correct_by_every_course(step, &table, &order), "{order:?}");
     }
 }

@@ -10,12 +10,12 @@ use common::correct::{
 };
 use common::{
     all_rows, calls_for, fresh, rows_at_level, slots_with_loading, supplies, table_and_order,
-    Loadings, SMALL,
+    Kinds, SMALL,
 };
 use model::cases::row;
 use model::order::{orders, Order};
 use model::plan::plan;
-use model::random::{table_in, Random};
+use model::random::{table_in, with_waits, Random};
 use model::run::{kept_deadline, running_step, step, State};
 use model::table::{allowance, Table, HI, LO};
 
@@ -54,10 +54,10 @@ fn the_clock_drops_late_previews_and_nothing_else() {
     let mut random = Random::seeded(81);
     let mut seen = AtDeadlines::default();
     let (mut alike, mut at_once) = (0, 0);
-    let mut loadings = Loadings::default();
+    let mut kinds = Kinds::default();
     for _ in 0..12_000 {
         let (table, order) = table_about_deadlines(&mut random);
-        loadings.saw(&table);
+        kinds.saw(&table);
         let slots = slots_with_loading(&table, 40);
         let mut state = State::FRESH;
         for supply in supplies(&mut random, slots) {
@@ -78,7 +78,7 @@ fn the_clock_drops_late_previews_and_nothing_else() {
     assert!(seen.done > 200 && seen.used_up > 200 && seen.high_open > 1_000);
     assert!(seen.late_running > 1_000 && seen.late_waiting > 1_000);
     assert!(alike > 100_000 && at_once > 50);
-    loadings.assert_all(60);
+    kinds.assert_all(60);
 }
 
 /// Was the row dropped by the clock? `planned` is the state that the planning rule
@@ -180,7 +180,8 @@ fn crowded_table(random: &mut Random) -> Table {
         row([release, work, release + window, random.between(0, 1)])
     };
     let rows = [(); 3].map(|()| row(random));
-    Table::of(random.between(2, 3), 1, loading, &rows)
+    let table = Table::of(random.between(2, 3), 1, loading, &rows);
+    with_waits(random, &table)
 }
 
 /// Over every course of speed: a correct order serves, and each of its rows keeps its
@@ -192,17 +193,17 @@ fn correct_orders_serve_and_some_others_do() {
     let mut random = Random::seeded(83);
     let (mut correct, mut others, mut serving, mut without) = (0, 0, 0, 0);
     let mut lost = 0;
-    let mut loadings = Loadings::default();
+    let mut kinds = Kinds::default();
     for round in 0..12_000 {
         let table = if round % 2 == 0 {
             table_in(&mut random, TINY)
         } else {
             crowded_table(&mut random)
         };
-        loadings.saw(&table);
+        kinds.saw(&table);
         let has_correct = plan(&table).number == 0;
         let mut is_served = false;
-        for order in orders(table.n) {
+        for order in orders(&table) {
             let serves = correct_by_every_course(running_step, &table, &order);
             let in_windows = |&row: &u8| kept_in_its_window(running_step, &table, &order, row);
             if correct_by_slacks(&table, &order) {
@@ -223,7 +224,7 @@ fn correct_orders_serve_and_some_others_do() {
     println!("{without} tables without a correct order have one that serves");
     assert!(correct > 3_000 && others > 3_000 && serving > 10 && without > 10);
     assert!(lost > 3_000);
-    loadings.assert_all(150);
+    kinds.assert_all(150);
 }
 
 /// The same on larger tables, under random courses of speed.
@@ -231,11 +232,11 @@ fn correct_orders_serve_and_some_others_do() {
 fn correct_orders_serve_under_random_courses() {
     let mut random = Random::seeded(84);
     let (mut correct, mut failed) = (0, 0);
-    let mut loadings = Loadings::default();
+    let mut kinds = Kinds::default();
     for _ in 0..10_000 {
         let table = table_in(&mut random, SMALL);
-        loadings.saw(&table);
-        let order = random.one_of(&orders(table.n));
+        kinds.saw(&table);
+        let order = random.one_of(&orders(&table));
         let planned = plan(&table);
         let candidates = [order, planned.order];
         for order in &candidates[..if planned.number == 0 { 2 } else { 1 }] {
@@ -249,7 +250,7 @@ fn correct_orders_serve_under_random_courses() {
     }
     println!("{correct} correct orders, {failed} orders that do not serve");
     assert!(correct > 2_000 && failed > 2_000);
-    loadings.assert_all(200);
+    kinds.assert_all(200);
 }
 
 /// A course whose slots before `from` supply anything and those from there on at least
@@ -285,12 +286,12 @@ fn first_difference(table: &Table, order: &Order, course: &[u32]) -> Option<u32>
 fn one_run_while_the_speed_is_normal() {
     let mut random = Random::seeded(85);
     let (mut same, mut part_below, mut part_otherwise) = (0, 0, 0);
-    let mut loadings = Loadings::default();
+    let mut kinds = Kinds::default();
     for _ in 0..12_000 {
         let table = table_in(&mut random, SMALL);
         let slots = slots_with_loading(&table, 40);
         let earliest = table.rows().iter().map(|job| job.release).min().unwrap();
-        let order = random.one_of(&orders(table.n));
+        let order = random.one_of(&orders(&table));
         let planned = plan(&table);
         let candidates = [order, planned.order];
         for order in &candidates[..if planned.number == 0 { 2 } else { 1 }] {
@@ -301,7 +302,7 @@ fn one_run_while_the_speed_is_normal() {
                 continue;
             }
             assert_eq!(parted, None, "{table:?} {order:?}");
-            loadings.saw(&table);
+            kinds.saw(&table);
             same += 1;
             // From some slot on, every one supplies less.
             let from = random.between(earliest, earliest + 10);
@@ -316,7 +317,7 @@ fn one_run_while_the_speed_is_normal() {
     println!("{same} runs alike, {part_below} part after a slot below N");
     println!("{part_otherwise} part under an order that is not correct");
     assert!(same > 5_000 && part_below > 500 && part_otherwise > 2_000);
-    loadings.assert_all(50);
+    kinds.assert_all(50);
 }
 
 /// The table with every row HI, and so without promises.

@@ -5,7 +5,8 @@
 mod common;
 
 use common::{p3_at, refused_verdict, rubbish, TOO_LONG};
-use model::cases::{checked_promises, p1, p3, promising_table, table};
+use model::cases::waits::{checked_wait_orders, checked_waits};
+use model::cases::{checked_promises, p1, p3, table};
 use model::judge::{judge, judge_table};
 use model::order::{check_order, order_of, Order, NO_ORDER};
 use model::plain;
@@ -16,7 +17,7 @@ use model::report::{report, LONGEST_REPORT};
 use model::run::State;
 use model::sheet::{read_sheet, sheet_of, write_back, write_sheet};
 use model::speeds::{least, Least, BOTH};
-use model::table::{check_table, Table, MOST_LOADING};
+use model::table::{check_table, Row, Table, MOST_LOADING};
 
 #[test]
 fn number_1_no_bytes() {
@@ -62,15 +63,18 @@ fn number_4_degraded_above_normal() {
     assert_eq!(check_table(&fastest), 0);
 }
 
-/// The sheet of this table, its speeds and loading time cut to eight digits.
+/// The sheet of this table, all figures cut to eight digits.
 fn cut_sheet(table: &Table) -> Vec<u8> {
+    let cut = |figure: u32| figure.min(99_999_999);
     let figures = [table.normal, table.degraded, table.loading];
-    let [normal, degraded, loading] = figures.map(|figure| figure.min(99_999_999));
-    write_sheet(table.n, normal, degraded, loading, &table.rows())
+    let [normal, degraded, loading] = figures.map(cut);
+    let rows = table.rows().into_iter();
+    let rows: Vec<Row> = rows.map(|row| Row::of(row.figures().map(cut))).collect();
+    write_sheet(table.n, normal, degraded, loading, &rows)
 }
 
 /// Every call that takes a table refuses this one with this number: with zeros, with
-/// lent bytes as they were (rules 10.5, 10.11 and 10.12), and within 9 for a record
+/// lent bytes as they were (rules 10.5 and 10.11 to 10.15), and within 9 for a record
 /// (rule 8.4).
 fn assert_refused(table: &Table, order: &Order, number: u32) {
     let refused = Plan {
@@ -124,11 +128,10 @@ fn number_11_loading_of_17_slots() {
     }
 }
 
-/// A promise of more than the work, and one of a HI row; after 5 in all rows, and
-/// before 6 (rules 5.9, 10.12 and 11.3).
-#[test]
-fn number_12_promises_above_the_work_and_of_hi_rows() {
-    for (what, table, number) in checked_promises() {
+/// Tables that the checks refuse, or not, with these numbers: so they do in a table, in a
+/// sheet and in a list of rows, whatever the order; and 6 comes after them.
+fn assert_checked(cases: Vec<(&'static str, Table, u32)>) {
+    for (what, table, number) in cases {
         let rows: Vec<u8> = (1..=table.n as u8).collect();
         for order in [order_of(&rows), NO_ORDER] {
             let refusal = if number == 0 && order == NO_ORDER {
@@ -141,19 +144,29 @@ fn number_12_promises_above_the_work_and_of_hi_rows() {
                 assert_refused(&table, &order, number);
             }
         }
-        if table.promised[63] == 0 {
-            let (normal, degraded) = (table.normal, table.degraded);
-            let listed = judge(
-                normal,
-                degraded,
-                table.loading,
-                &table.rows(),
-                &order_of(&rows),
-            );
-            assert_eq!(listed.number, number, "{what}");
+        let listed = table.rows();
+        let (normal, degraded, loading) = (table.normal, table.degraded, table.loading);
+        if Table::of(normal, degraded, loading, &listed) == table {
+            let verdict = judge(normal, degraded, loading, &listed, &order_of(&rows));
+            assert_eq!(verdict.number, number, "{what}");
             assert_eq!(read_sheet_number(&table), number, "{what}");
         }
     }
+}
+
+/// A promise of more than the work, and one of a HI row; after 5 in all rows, and
+/// before 6 (rules 5.9, 10.12 and 11.3).
+#[test]
+fn number_12_promises_above_the_work_and_of_hi_rows() {
+    assert_checked(checked_promises());
+}
+
+/// Waits for a row that has no lower number, that is released later, and of a HI row for a
+/// LO row; row by row, after 12 in all rows, and before 6 (rules 5.10, 10.13 to 10.15 and
+/// 11.3).
+#[test]
+fn numbers_13_to_15_waits() {
+    assert_checked(checked_waits());
 }
 
 #[test]
@@ -182,14 +195,15 @@ fn number_5_release_at_the_deadline() {
 #[test]
 fn number_5_figures_after_the_last_row() {
     for index in [4, 63] {
-        for column in 0..5 {
+        for column in 0..6 {
             let mut behind = p1();
             match column {
                 0 => behind.release[index] = 1,
                 1 => behind.work[index] = 1,
                 2 => behind.deadline[index] = 1,
                 3 => behind.level[index] = 1,
-                _ => behind.promised[index] = 1,
+                4 => behind.promised[index] = 1,
+                _ => behind.follows[index] = 1,
             }
             assert_eq!(check_table(&behind), 5, "column {column}, index {index}");
         }
@@ -209,15 +223,30 @@ fn number_6_row_1_twice() {
         &[1, 255],
     ];
     for rows in refused {
-        assert_eq!(check_order(2, &order_of(rows)), 6, "{rows:?}");
+        assert_eq!(check_order(&p3(), &order_of(rows)), 6, "{rows:?}");
         assert_eq!(judge_table(&p3(), &order_of(rows)), refused_verdict(6));
         assert_eq!(Record::fresh(&p3(), &order_of(rows)), (6, Record::ZERO));
     }
     let mut last_place = order_of(&[1, 2]);
     last_place[63] = 1;
-    assert_eq!(check_order(2, &last_place), 6);
-    assert_eq!(check_order(2, &order_of(&[1, 2])), 0);
-    assert_eq!(check_order(2, &order_of(&[2, 1])), 0);
+    assert_eq!(check_order(&p3(), &last_place), 6);
+    assert_eq!(check_order(&p3(), &order_of(&[1, 2])), 0);
+    assert_eq!(check_order(&p3(), &order_of(&[2, 1])), 0);
+}
+
+/// An order that has a follower above the row it follows is as wrong as one that names a
+/// row twice (rule 5.11).
+#[test]
+fn number_6_a_wait_broken() {
+    for (what, table, order, number) in checked_wait_orders() {
+        assert_eq!(check_order(&table, &order), number, "{what}");
+        assert_eq!(judge_table(&table, &order).number, number, "{what}");
+        assert_eq!(plain::judge(&table, &order).number, number, "{what}");
+        assert_eq!(Record::fresh(&table, &order).0, number, "{what}");
+        let record = Record::holding(&table, &order, &State::FRESH);
+        assert_eq!(record.one_slot(1).number, if number == 0 { 0 } else { 9 });
+        assert_eq!(record.is_sound(), plain::is_sound(&record), "{what}");
+    }
 }
 
 #[test]
@@ -257,25 +286,25 @@ fn refused_writing(table: &Table, room: usize) -> (u32, u32) {
 
 #[test]
 fn number_10_a_byte_less_than_the_sheet() {
-    for room in [0, 1, 33, 189, 196] {
+    for room in [0, 1, 33, 197, 228] {
         assert_eq!(refused_writing(&p1(), room), (10, 0), "{room} bytes");
     }
-    let mut lent = [165; 198];
-    assert_eq!(write_back(&p1(), &mut lent[..197]), (0, 197));
-    assert_eq!((&lent[..197], lent[197]), (&sheet_of(&p1())[..], 165));
-    assert_eq!(write_back(&p1(), &mut lent), (0, 197));
-    assert_eq!((&lent[..197], lent[197]), (&sheet_of(&p1())[..], 165));
+    let mut lent = [165; 230];
+    assert_eq!(write_back(&p1(), &mut lent[..229]), (0, 229));
+    assert_eq!((&lent[..229], lent[229]), (&sheet_of(&p1())[..], 165));
+    assert_eq!(write_back(&p1(), &mut lent), (0, 229));
+    assert_eq!((&lent[..229], lent[229]), (&sheet_of(&p1())[..], 165));
 }
 
-/// 3, 4, 11, 5 and 12 come before 10, however few the lent bytes (rule 11.6).
+/// 3, 4, 11, 5, 12 and 13 to 15 come before 10, however few the lent bytes (rule 11.6).
 #[test]
 fn checks_of_the_writer_come_in_their_order() {
     let mut wrong = Table {
         n: 0,
         normal: 0,
-        ..promising_table(1, 1, &[[4, 1, 4, 0, 2]]).with_loading(17)
+        ..table(1, 1, &[[4, 1, 4, 0, 2, 1]]).with_loading(17)
     };
-    for room in [0, 73, 74, 3_000] {
+    for room in [0, 81, 82, 3_000] {
         for n in [0, 65, u32::MAX] {
             wrong.n = n;
             assert_eq!(refused_writing(&wrong, room), (3, 0), "n {n}");
@@ -295,10 +324,12 @@ fn checks_of_the_writer_come_in_their_order() {
         assert_eq!(refused_writing(&behind, room), (5, 0));
         assert_eq!(refused_writing(&loads, room), (12, 0));
         loads.promised[0] = 1;
-        if room < 74 {
+        assert_eq!(refused_writing(&loads, room), (13, 0));
+        loads.follows[0] = 0;
+        if room < 82 {
             assert_eq!(refused_writing(&loads, room), (10, 0));
         } else {
-            assert_eq!(write_back(&loads, &mut vec![165; room]), (0, 74));
+            assert_eq!(write_back(&loads, &mut vec![165; room]), (0, 82));
         }
     }
 }
@@ -308,7 +339,7 @@ fn checks_on_a_table_come_in_their_order() {
     let wrong = Table {
         n: 65,
         normal: 0,
-        ..promising_table(1, 1, &[[4, 1, 4, 0, 2]]).with_loading(u32::MAX)
+        ..table(1, 1, &[[4, 1, 4, 0, 2, 1]]).with_loading(u32::MAX)
     };
     let order = order_of(&[1, 1]);
     assert_eq!(judge_table(&wrong, &order).number, 3);
@@ -324,6 +355,8 @@ fn checks_on_a_table_come_in_their_order() {
     limited.deadline[0] = 5;
     assert_eq!(judge_table(&limited, &order).number, 12);
     limited.promised[0] = 1;
+    assert_eq!(judge_table(&limited, &order).number, 13);
+    limited.follows[0] = 0;
     assert_eq!(judge_table(&limited, &order).number, 6);
     assert_eq!(judge_table(&limited, &order_of(&[1])).number, 0);
 }

@@ -11,14 +11,14 @@ use common::correct::{
     survives_random_courses, TINY,
 };
 use common::{
-    all_rows, calls_for, fresh, rows_in_word, slots_with_loading, supplies, Loadings, RULES, SMALL,
+    all_rows, calls_for, fresh, rows_in_word, slots_with_loading, supplies, Kinds, RULES, SMALL,
 };
 use model::judge::judge_table;
 use model::order::{orders, Order};
 use model::plain;
-use model::plan::{passes_lowest, plan, promised_moment, slack, worst_finish};
+use model::plan::{is_skipped, passes_lowest, plan, promised_moment, slack, worst_finish};
 use model::planners::{each_place, each_trial};
-use model::random::{promise, table_in, with_promises, Random, Ranges};
+use model::random::{promise, table_in, tight_under, with_promises, Random, Ranges};
 use model::run::{has_promised, run_by, running_step, step, State};
 use model::speeds::{Sought, BOTH};
 use model::table::{check_table, need, promised_need, Table, HI, LO};
@@ -48,15 +48,9 @@ fn promising_table(random: &mut Random, ranges: Ranges) -> Table {
 /// The same with deadlines that leave no slot to spare under some order, moved by up to a
 /// slot, so that promises often decide.
 fn tight_table(random: &mut Random, ranges: Ranges) -> Table {
-    let mut table = promising_table(random, ranges);
-    let order = random.one_of(&orders(table.n));
-    for row in all_rows(&table) {
-        let index = row as usize - 1;
-        let tight = i64::from(table.deadline[index]) - slack(&table, &order, row);
-        let moved = tight as u32 - 1 + random.between(0, 2);
-        table.deadline[index] = moved.max(table.release[index] + 1);
-    }
-    table
+    let table = promising_table(random, ranges);
+    let order = random.one_of(&orders(&table));
+    tight_under(random, &table, &order, &[-1, 0, 1])
 }
 
 /// Tables with deadlines of either kind, in turns.
@@ -75,11 +69,11 @@ fn any_table(random: &mut Random, round: u32, ranges: Ranges) -> Table {
 fn slacks_judge_as_every_course_of_speed_does() {
     let mut random = Random::seeded(91);
     let (mut correct, mut incorrect, mut by_promise) = (0, 0, 0);
-    let mut loadings = Loadings::default();
+    let mut kinds = Kinds::default();
     for round in 0..6_000 {
         let table = any_table(&mut random, round, TINY);
-        loadings.saw(&table);
-        for order in orders(table.n) {
+        kinds.saw(&table);
+        for order in orders(&table) {
             let by_slacks = correct_by_slacks(&table, &order);
             let by_courses = correct_by_every_course(step, &table, &order);
             assert_eq!(by_slacks, by_courses, "{table:?} {:?}", &order[..3]);
@@ -96,7 +90,7 @@ fn slacks_judge_as_every_course_of_speed_does() {
     }
     println!("{correct} correct orders, {incorrect} others, {by_promise} by a promise");
     assert!(correct > 3_000 && incorrect > 3_000 && by_promise > 500);
-    loadings.assert_all(100);
+    kinds.assert_all(100);
 }
 
 /// The same on larger tables, under exact and random courses of at least G and N.
@@ -107,7 +101,7 @@ fn slacks_judge_as_random_courses_of_speed_do() {
     for round in 0..8_000 {
         let table = any_table(&mut random, round, SMALL);
         let planned = plan(&table);
-        let any = random.one_of(&orders(table.n));
+        let any = random.one_of(&orders(&table));
         let candidates = [any, planned.order];
         for order in &candidates[..if planned.number == 0 { 2 } else { 1 }] {
             let by_slacks = correct_by_slacks(&table, order);
@@ -133,12 +127,12 @@ fn slacks_judge_as_random_courses_of_speed_do() {
 fn an_order_is_answered_exactly_if_a_correct_one_exists() {
     let mut random = Random::seeded(93);
     let (mut answered, mut lost, mut changed) = ([0; 2], 0, 0);
-    let mut loadings = Loadings::default();
+    let mut kinds = Kinds::default();
     for round in 0..15_000 {
         let table = any_table(&mut random, round, SMALL);
-        loadings.saw(&table);
+        kinds.saw(&table);
         let answer = plan(&table);
-        let exists = orders(table.n)
+        let exists = orders(&table)
             .iter()
             .any(|order| correct_by_slacks(&table, order));
         assert_eq!(answer.number, if exists { 0 } else { 7 }, "{table:?}");
@@ -148,8 +142,9 @@ fn an_order_is_answered_exactly_if_a_correct_one_exists() {
             let left = rows_in_word(answer.left);
             let mut placed = all_rows(&table);
             placed.retain(|row| !left.contains(row));
+            let is_tried = |row: &&u8| !is_skipped(&table, &left, **row);
             let passes = |&row: &u8| passes_lowest(&table, &left, &placed, row);
-            assert!(!left.iter().any(passes), "{table:?}");
+            assert!(!left.iter().filter(is_tried).any(passes), "{table:?}");
         }
         let counted = model::plan::plan_and_trials(&table);
         assert_eq!(each_trial::plan_and_trials(&table), counted, "{table:?}");
@@ -162,7 +157,7 @@ fn an_order_is_answered_exactly_if_a_correct_one_exists() {
     }
     println!("answers 0 and 7 {answered:?}, {lost} have 7 and {changed} another order by promises");
     assert!(answered.iter().all(|&times| times > 2_000) && lost > 500 && changed > 100);
-    loadings.assert_all(100);
+    kinds.assert_all(100);
 }
 
 /// The finish, in slots, of a sweep over these rows at G for one of them that stands
@@ -196,11 +191,11 @@ fn swept(table: &Table, rows: &[u8], row: u8, own: u32) -> u32 {
 fn the_promised_moment_is_the_finish_of_a_sweep() {
     let mut random = Random::seeded(94);
     let (mut moments, mut before_finish, mut after_finish) = (0, 0, 0);
-    let mut loadings = Loadings::default();
+    let mut kinds = Kinds::default();
     for round in 0..20_000 {
         let table = any_table(&mut random, round, SMALL);
-        loadings.saw(&table);
-        let order = random.one_of(&orders(table.n));
+        kinds.saw(&table);
+        let order = random.one_of(&orders(&table));
         for place in 0..table.n as usize {
             let row = order[place];
             if table.row(row).promised == 0 {
@@ -229,7 +224,7 @@ fn the_promised_moment_is_the_finish_of_a_sweep() {
     }
     println!("{moments} moments, {before_finish} before the finish, {after_finish} after it");
     assert!(moments > 10_000 && before_finish > 1_000 && after_finish > 1_000);
-    loadings.assert_all(200);
+    kinds.assert_all(200);
 }
 
 /// Slack and promised moment of a row depend on the set of rows above it, and neither on
@@ -241,7 +236,7 @@ fn promises_depend_on_the_set_above_and_never_gain_by_a_larger_one() {
     for round in 0..1_500 {
         let table = any_table(&mut random, round, SMALL);
         let mut found: HashMap<(u8, Vec<u8>), (i64, u32)> = HashMap::new();
-        for order in orders(table.n) {
+        for order in orders(&table) {
             for place in 0..table.n as usize {
                 let row = order[place];
                 let mut above = order[..place].to_vec();
@@ -260,12 +255,12 @@ fn promises_depend_on_the_set_above_and_never_gain_by_a_larger_one() {
             for out in 0..above.len() {
                 let mut fewer = above.clone();
                 fewer.remove(out);
-                let (more_slack, earlier) = found[&(*row, fewer)];
-                assert!(
-                    more_slack >= *slack && earlier <= *moment,
-                    "row {row} {table:?}"
-                );
-                later += u32::from(earlier < *moment);
+                // It is not there if one of these, or the row, follows the one taken out.
+                if let Some((more_slack, earlier)) = found.get(&(*row, fewer)) {
+                    let gains = more_slack < slack || earlier > moment;
+                    assert!(!gains, "row {row} {table:?}");
+                    later += u32::from(earlier < moment);
+                }
             }
         }
     }
@@ -281,7 +276,7 @@ fn larger_speeds_and_smaller_promises_spoil_nothing() {
     let (mut earlier, mut gained, mut of_promise) = (0, 0, 0);
     for round in 0..15_000 {
         let table = any_table(&mut random, round, SMALL);
-        let order = random.one_of(&orders(table.n));
+        let order = random.one_of(&orders(&table));
         let normal = table.normal + random.between(0, 3);
         let degraded = random.between(table.degraded, normal);
         let faster = Sought::Degraded.put(&Sought::Normal.put(&table, normal), degraded);
@@ -343,7 +338,7 @@ fn correct_orders_keep_promises_in_their_windows() {
     let (mut kept, mut broken, mut serving) = (0, 0, 0);
     for round in 0..2_500 {
         let table = any_table(&mut random, round, TINY);
-        for order in orders(table.n) {
+        for order in orders(&table) {
             let is_correct = correct_by_slacks(&table, &order);
             for row in promising_rows(&table) {
                 let [by_planning, by_running] =
@@ -386,14 +381,14 @@ fn course_in_window(random: &mut Random, table: &Table, row: u8, slots: u32) -> 
 fn planned_rows_keep_promises_in_runs_of_records() {
     let mut random = Random::seeded(99);
     let (mut kept, mut just, mut lost) = (0, 0, 0);
-    let mut loadings = Loadings::default();
+    let mut kinds = Kinds::default();
     for round in 0..25_000 {
         let table = any_table(&mut random, round, SMALL);
         let answer = plan(&table);
         if answer.number != 0 {
             continue;
         }
-        loadings.saw(&table);
+        kinds.saw(&table);
         let row = random.one_of(&promising_rows(&table));
         let job = table.row(row);
         let slots = slots_with_loading(&table, 30).max(job.deadline + 2);
@@ -425,7 +420,7 @@ fn planned_rows_keep_promises_in_runs_of_records() {
     }
     println!("{kept} watched, {just} just at the deadline; {lost} others lost their part");
     assert!(kept > 3_000 && just > 300 && lost > 200);
-    loadings.assert_all(50);
+    kinds.assert_all(50);
 }
 
 /// With every r = 0 the promised moments play no part: finishes decide, and both rules of
@@ -436,7 +431,7 @@ fn without_promises_the_finishes_decide() {
     let mut random = Random::seeded(100);
     for _ in 0..5_000 {
         let table = table_in(&mut random, SMALL).without_promises();
-        let order: Order = random.one_of(&orders(table.n));
+        let order: Order = random.one_of(&orders(&table));
         for row in all_rows(&table) {
             let job = table.row(row);
             let finish = worst_finish(&table, &order, row);

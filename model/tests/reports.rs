@@ -4,15 +4,15 @@
 
 mod common;
 
-use common::{rubbish, table_and_order, Loadings, SMALL};
+use common::{rubbish, table_and_order, Kinds, SMALL};
 use model::cases::{p1, p3, reports, table};
 use model::judge::judge_table;
 use model::order::{order_of, orders, Order, NO_ORDER};
 use model::plain;
 use model::plan::{plan, promised_moment, slack, worst_finish};
-use model::random::{loading_table_in, table_in, table_of_rows_in, Random, Ranges};
+use model::random::{loading_table_in, random_order, table_in, table_of_rows_in, Random, Ranges};
 use model::report::{figure, report, report_of, LONGEST_REPORT};
-use model::table::{Table, ROWS};
+use model::table::Table;
 
 /// Right-justified in ten columns, as Rust's own formatting has it; a column is
 /// left before every number of up to eight digits (rule 16.11).
@@ -114,10 +114,10 @@ fn assert_judged(table: &Table, order: &Order, lines: &[Vec<i64>], last: &[i64])
 fn lines_and_totals_are_those_of_the_rows_and_of_the_judge() {
     let mut random = Random::seeded(41);
     let mut by_late = [0; 6];
-    let mut loadings = Loadings::default();
+    let mut kinds = Kinds::default();
     for _ in 0..20_000 {
         let (table, order) = table_and_order(&mut random);
-        loadings.saw(&table);
+        kinds.saw(&table);
         let (lines, last) = numbers_of(&report_of(&table, &order));
         assert_places(&table, &order, &lines);
         assert_totals(&table, &order, &lines, &last);
@@ -126,7 +126,7 @@ fn lines_and_totals_are_those_of_the_rows_and_of_the_judge() {
     }
     println!("tables by rows late: {by_late:?}");
     assert!(by_late.iter().all(|&times| times > 20), "{by_late:?}");
-    loadings.assert_all(400);
+    kinds.assert_all(400);
 }
 
 /// A planned order has no row that is late (rule 16.10).
@@ -142,7 +142,7 @@ fn a_planned_order_has_a_last_line_with_0() {
             assert_eq!(last[1], 0, "{table:?}");
             planned += 1;
         } else {
-            for order in orders(table.n) {
+            for order in orders(&table) {
                 let (_, last) = numbers_of(&report_of(&table, &order));
                 assert!(last[1] > 0, "{table:?} {order:?}");
             }
@@ -181,12 +181,6 @@ fn short_rows(n: u32) -> Ranges {
     }
 }
 
-/// The rows of a table of n rows from the last up.
-fn upwards(n: u32) -> Order {
-    let rows: Vec<u8> = (1..=n as u8).rev().collect();
-    order_of(&rows)
-}
-
 /// From no byte to more than the longest report has: 10 exactly if they are
 /// fewer than 51 for each row and 21 (rules 16.7 and 16.9).
 #[test]
@@ -194,10 +188,11 @@ fn lent_bytes_of_every_length() {
     let mut random = Random::seeded(43);
     for (n, loading) in [(1, 16), (2, 3), (17, 1), (64, 0)] {
         let table = loading_table_in(&mut random, n, loading, short_rows(n));
+        let order = random_order(&mut random, &table);
         let length = 51 * n as usize + 21;
-        assert_eq!(report_of(&table, &upwards(n)).len(), length);
+        assert_eq!(report_of(&table, &order).len(), length);
         for room in 0..=LONGEST_REPORT + 15 {
-            let answer = compare_over(&table, &upwards(n), &rubbish(room));
+            let answer = compare_over(&table, &order, &rubbish(room));
             let enough = (0, length as u32);
             let expected = if room < length { (10, 0) } else { enough };
             assert_eq!(answer, expected, "{n} rows, {room} bytes");
@@ -206,7 +201,7 @@ fn lent_bytes_of_every_length() {
     assert_eq!(LONGEST_REPORT, 3_285);
 }
 
-/// 3, 4, 11, 5, 12 and 6 come before 10, however few the lent bytes (rule 11.7).
+/// 3, 4, 11, 5, 12 to 15 and 6 come before 10, however few the lent bytes (rule 11.7).
 #[test]
 fn checks_of_the_report_come_in_their_order() {
     let enough = 2 * 51 + 21;
@@ -234,11 +229,21 @@ fn checks_of_the_report_come_in_their_order() {
         limited.promised[0] = 2;
         assert_eq!(number(&limited, &twice), 12, "{room} bytes");
         limited.promised[0] = 1;
-        for order in [twice, NO_ORDER, order_of(&[1]), order_of(&[1, 2, 2])] {
+        limited.follows[1] = 2;
+        assert_eq!(number(&limited, &twice), 13, "{room} bytes");
+        limited.follows[1] = 1;
+        let broken = order_of(&[2, 1]);
+        for order in [
+            twice,
+            NO_ORDER,
+            order_of(&[1]),
+            order_of(&[1, 2, 2]),
+            broken,
+        ] {
             assert_eq!(number(&limited, &order), 6, "{order:?}, {room} bytes");
         }
         let last = if room < enough { 10 } else { 0 };
-        assert_eq!(number(&limited, &order_of(&[2, 1])), last, "{room} bytes");
+        assert_eq!(number(&limited, &order_of(&[1, 2])), last, "{room} bytes");
     }
 }
 
@@ -274,23 +279,22 @@ fn over_other_reports_and_other_bytes() {
 #[test]
 fn the_plain_report_on_many_rows_and_on_long_works() {
     let mut random = Random::seeded(45);
-    let most: Vec<u8> = (1..=ROWS as u8).collect();
-    let mut loadings = Loadings::default();
+    let mut kinds = Kinds::default();
     for round in 0..600 {
         let n = 1 + round % 64;
         let table = table_of_rows_in(&mut random, n, short_rows(n));
-        loadings.saw(&table);
-        let order = order_of(&random.shuffled(&most[..n as usize]));
+        kinds.saw(&table);
+        let order = random_order(&mut random, &table);
         let length = 51 * n + 21;
         let answer = compare_over(&table, &order, &rubbish(LONGEST_REPORT));
         assert_eq!(answer, (0, length), "{table:?} {order:?}");
     }
-    loadings.assert_all(5);
+    kinds.assert_all(5);
     for (level, loading) in [(0, 0), (1, 0), (0, 16), (1, 16)] {
         let rows = [[0, 1_000_000, 1, level], [0, 1_000_000, 1, 1]];
         let long = table(1, 1, &rows).with_loading(loading);
         let finish = 2_000_000 + 2 * i64::from(loading);
-        for order in orders(2) {
+        for order in orders(&long) {
             let answer = compare_over(&long, &order, &rubbish(123));
             assert_eq!(answer, (0, 123), "{order:?}");
             let (lines, last) = numbers_of(&report_of(&long, &order));

@@ -5,8 +5,7 @@
 mod common;
 
 use common::{
-    all_rows, calls_for, fresh, slots_with_loading, supplies, table_and_order, Loadings, RULES,
-    SMALL,
+    all_rows, calls_for, fresh, slots_with_loading, supplies, table_and_order, Kinds, RULES, SMALL,
 };
 use model::calls::{play_on_paper, Answer, LAST_CLOCK};
 use model::cases::{p1, p3, table};
@@ -21,10 +20,10 @@ use model::table::{allowance, HI, LO, MOST_LOADING};
 fn calls_on_a_record_answer_as_on_paper() {
     let mut random = Random::seeded(41);
     let mut idle = 0;
-    let mut loadings = Loadings::default();
+    let mut kinds = Kinds::default();
     for _ in 0..3_000 {
         let (table, order) = table_and_order(&mut random);
-        loadings.saw(&table);
+        kinds.saw(&table);
         let most = slots_with_loading(&table, 40);
         let count = random.between(0, most);
         let supplies = supplies(&mut random, count);
@@ -39,7 +38,7 @@ fn calls_on_a_record_answer_as_on_paper() {
             .count();
     }
     assert!(idle > 1_000, "{idle} idle slots");
-    loadings.assert_all(40);
+    kinds.assert_all(40);
 }
 
 #[test]
@@ -127,12 +126,12 @@ fn the_row_is_the_same_for_every_supply_of_its_slot() {
 #[test]
 fn the_first_slots_that_a_row_runs_load_it() {
     let mut random = Random::seeded(48);
-    let mut loadings = Loadings::default();
+    let mut kinds = Kinds::default();
     let (mut broken_off, mut worked) = (0, 0);
     for round in 0..4_000 {
         let rule = RULES[round % 2];
         let (table, order) = table_and_order(&mut random);
-        loadings.saw(&table);
+        kinds.saw(&table);
         let slots = slots_with_loading(&table, 30);
         let mut state = State::FRESH;
         let mut slots_run = [0; 64];
@@ -158,7 +157,7 @@ fn the_first_slots_that_a_row_runs_load_it() {
         broken_off > 500 && worked > 5_000,
         "{broken_off} came back while they loaded, {worked} slots brought work"
     );
-    loadings.assert_all(60);
+    kinds.assert_all(60);
 }
 
 #[test]
@@ -177,6 +176,10 @@ fn a_slot_runs_the_first_ready_row_of_the_order() {
                 .copied()
                 .filter(|&row| table.row(row).release <= before.clock)
                 .filter(|&row| before.closing[row as usize - 1] == 0)
+                .filter(|&row| match table.row(row).follows {
+                    0 => true,
+                    followed => before.closing[followed as usize - 1] != 0,
+                })
                 .collect();
             assert_eq!(run, ready.first().copied().unwrap_or(0));
             passed_over += ready.len().saturating_sub(1);
@@ -297,14 +300,14 @@ fn rows_left_out_of_the_table_stay_zero() {
 fn planned_rows_keep_their_deadlines_in_their_windows() {
     let mut random = Random::seeded(47);
     let (mut kept, mut lost) = ([0; 2], [0; 2]);
-    let mut loadings = Loadings::default();
+    let mut kinds = Kinds::default();
     for _ in 0..12_000 {
         let table = table_in(&mut random, SMALL);
         let answer = plan(&table);
         if answer.number != 0 {
             continue;
         }
-        loadings.saw(&table);
+        kinds.saw(&table);
         let slots = slots_with_loading(&table, 30);
         let earliest = table.rows().iter().map(|job| job.release).min().unwrap();
         let watched = random.between(1, table.n) as u8;
@@ -340,5 +343,5 @@ fn planned_rows_keep_their_deadlines_in_their_windows() {
     println!("LO and HI rows: {kept:?} watched, {lost:?} others lost their deadlines");
     let [low, high] = [LO, HI].map(|level| (kept[level as usize], lost[level as usize]));
     assert!(low.0 > 800 && low.1 > 200 && high.0 > 800 && high.1 > 50);
-    loadings.assert_all(50);
+    kinds.assert_all(50);
 }

@@ -4,8 +4,8 @@
 
 mod common;
 
-use common::{rubbish, Loadings};
-use model::cases::{p1, p2, promising_row, promising_table, row, table};
+use common::{rubbish, Kinds};
+use model::cases::{p1, p2, row, table};
 use model::program::{planning_program, KEPT};
 use model::random::{table_in, Random, Ranges};
 use model::sheet::{
@@ -91,15 +91,15 @@ const WIDE: Ranges = Ranges {
 #[test]
 fn sheets_are_read_back_whole() {
     let mut random = Random::seeded(12);
-    let mut loadings = Loadings::default();
+    let mut kinds = Kinds::default();
     for _ in 0..1_000 {
         let table = table_in(&mut random, WIDE);
         let sheet = sheet_of(&table);
-        assert_eq!(sheet.len(), 33 + 41 * table.n as usize);
+        assert_eq!(sheet.len(), 33 + 49 * table.n as usize);
         assert_eq!(read_sheet(&sheet), (0, table));
-        loadings.saw(&table);
+        kinds.saw(&table);
     }
-    loadings.assert_all(10);
+    kinds.assert_all(10);
 }
 
 /// The number for a sheet; a refusal comes with a table of zeros.
@@ -115,7 +115,8 @@ fn number(sheet: &[u8]) -> u32 {
 fn sheet_checks_come_in_their_order() {
     let good = row([0, 1, 1, 0]);
     let bad = row([4, 1, 4, 2]);
-    let promising = promising_row([0, 1, 1, 0, 2]);
+    let promising = row([0, 1, 1, 0, 2, 9]);
+    let waiting = row([0, 1, 1, 0, 0, 2]);
     let spoil = |mut sheet: Vec<u8>, place: usize| {
         sheet[place] = b'x';
         sheet
@@ -146,7 +147,7 @@ fn sheet_checks_come_in_their_order() {
         1
     );
     // The rows' fields and line ends come before the speeds.
-    for place in [40, 48, 56, 64, 72, 73, 74 + 39, 74 + 40] {
+    for place in [40, 48, 56, 64, 72, 80, 81, 82 + 47, 82 + 48] {
         let sheet = write_sheet(2, 0, 0, 17, &[bad, bad]);
         assert_eq!(number(&spoil(sheet, place)), 2, "byte {place}");
     }
@@ -159,11 +160,15 @@ fn sheet_checks_come_in_their_order() {
         let rows_with = |last| write_sheet(2, 1, 1, loading, &[good, last]);
         assert_eq!(number(&rows_with(bad)), 5);
         assert_eq!(number(&rows_with(promising)), 12);
+        assert_eq!(number(&rows_with(waiting)), 13);
         assert_eq!(number(&rows_with(good)), 0);
     }
-    // The limits of all rows come before their promises.
-    for rows in [[promising, bad], [bad, promising]] {
+    // The limits of all rows come before their promises, and those before their waits.
+    for rows in [[promising, bad], [bad, promising], [waiting, bad]] {
         assert_eq!(number(&write_sheet(2, 1, 1, 0, &rows)), 5);
+    }
+    for rows in [[promising, waiting], [waiting, promising]] {
+        assert_eq!(number(&write_sheet(2, 1, 1, 0, &rows)), 12);
     }
     assert_eq!(number(&write_sheet(1, 1, 1, 17, &[promising])), 11);
     // Well formed but outside the limits is 5 and not 2.
@@ -179,7 +184,7 @@ fn every_other_length_is_refused_with_1() {
         assert_eq!(number(&sheet[..length]), 1, "{length} bytes");
     }
     let mut longer = sheet;
-    for _ in 0..40 {
+    for _ in 0..48 {
         longer.push(b'\n');
         assert_eq!(number(&longer), 1, "{} bytes", longer.len());
     }
@@ -188,7 +193,7 @@ fn every_other_length_is_refused_with_1() {
 #[test]
 fn every_other_line_end_is_refused_with_2() {
     let sheet = sheet_of(&p2().with_loading(16));
-    for place in [32, 73, 114, 155, 196] {
+    for place in [32, 81, 130, 179, 228] {
         assert_eq!(sheet[place], b'\n');
         for byte in (0..=255).filter(|&byte| byte != b'\n') {
             let mut damaged = sheet.clone();
@@ -232,7 +237,7 @@ fn bytes_after_those_kept_change_no_answer() {
 /// Writes an accepted table into just enough bytes, and reads it again (rules
 /// 15.2 and 15.6).
 fn written(table: &Table) -> Vec<u8> {
-    let mut lent = rubbish(33 + 41 * table.n as usize);
+    let mut lent = rubbish(33 + 49 * table.n as usize);
     assert_eq!(write_back(table, &mut lent), (0, lent.len() as u32));
     assert_eq!(read_sheet(&lent), (0, *table));
     lent
@@ -270,7 +275,7 @@ fn figures_of_every_length_come_back() {
                 for (level, &promised) in [0, 1].iter().flat_map(with_each) {
                     let loading = accepted % (MOST_LOADING + 1);
                     let figures = [release, work, deadline, level, promised];
-                    let one = promising_table(10, 9, &[figures]).with_loading(loading);
+                    let one = table(10, 9, &[figures]).with_loading(loading);
                     if check_table(&one) == 0 {
                         let sheet = sheet_of(&one);
                         assert_eq!(written(&one), sheet);
@@ -304,16 +309,20 @@ fn figures_of_every_length_come_back() {
 fn the_sheet_of_p1() {
     let sheet = concat!(
         "       4       5       2       0\n",
-        "       0      20      10       1       0\n",
-        "       5      15      10       0       0\n",
-        "       5      11      19       1       0\n",
-        "       0       5       5       0       0\n",
+        "       0      20      10       1       0       0\n",
+        "       5      15      10       0       0       0\n",
+        "       5      11      19       1       0       0\n",
+        "       0       5       5       0       0       0\n",
     );
     assert_eq!(written(&p1()), sheet.as_bytes());
     let mut promising = p1();
     promising.promised[1] = 9;
     let sheet = sheet.replace("10       0       0", "10       0       9");
     assert_eq!(written(&promising), sheet.as_bytes());
+    let mut waiting = promising;
+    waiting.follows[2] = 1;
+    let sheet = sheet.replace("19       1       0       0", "19       1       0       1");
+    assert_eq!(written(&waiting), sheet.as_bytes());
 }
 
 /// Every accepted sheet among many damaged ones is the sheet of its table (rule
@@ -362,5 +371,5 @@ fn lent_bytes_of_every_length() {
         }
     }
     assert_eq!(sheet_of(&longest).len(), LONGEST_SHEET);
-    assert_eq!(LONGEST_SHEET, 2_657);
+    assert_eq!(LONGEST_SHEET, 3_169);
 }

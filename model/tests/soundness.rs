@@ -3,7 +3,7 @@
 
 mod common;
 
-use common::{all_rows, fresh, slots_with_loading, supplies, table_and_order, Loadings, TOO_LONG};
+use common::{all_rows, fresh, slots_with_loading, supplies, table_and_order, Kinds, TOO_LONG};
 use model::calls::LAST_CLOCK;
 use model::cases::table;
 use model::order::order_of;
@@ -16,10 +16,10 @@ use model::table::{allowance, LO, MOST_LOADING};
 fn every_step_from_a_fresh_record_keeps_it_sound() {
     let mut random = Random::seeded(45);
     let (mut done, mut used_up, mut late) = (0, 0, 0);
-    let mut loadings = Loadings::default();
+    let mut kinds = Kinds::default();
     for _ in 0..2_000 {
         let (table, order) = table_and_order(&mut random);
-        loadings.saw(&table);
+        kinds.saw(&table);
         let mut record = fresh(&table, &order);
         assert!(record.is_sound());
         let slots = slots_with_loading(&table, 40);
@@ -48,7 +48,7 @@ fn every_step_from_a_fresh_record_keeps_it_sound() {
         done > 1_000 && used_up > 400 && late > 400,
         "{done} done, dropped {used_up} for their allowance and {late} for their deadline"
     );
-    loadings.assert_all(20);
+    kinds.assert_all(20);
 }
 
 /// A sound record that need not be reachable by running: any figures that check
@@ -94,10 +94,10 @@ fn sound_record(random: &mut Random) -> Record {
 fn sound_records_that_no_run_reaches_step_by_the_same_rule() {
     let mut random = Random::seeded(46);
     let (mut unreached, mut refused, mut early, mut dropped) = (0, 0, 0, 0);
-    let mut loadings = Loadings::default();
+    let mut kinds = Kinds::default();
     for _ in 0..10_000 {
         let record = sound_record(&mut random);
-        loadings.saw(&record.table);
+        kinds.saw(&record.table);
         let supply = random.between(0, 5);
         let slot = record.one_slot(supply);
         let used: u32 = record.used.iter().sum();
@@ -121,7 +121,7 @@ fn sound_records_that_no_run_reaches_step_by_the_same_rule() {
         unreached > 400 && refused > 400 && early > 400 && dropped > 100,
         "{unreached} {refused} {early} {dropped}"
     );
-    loadings.assert_all(100);
+    kinds.assert_all(100);
 }
 
 /// A row has got work in slots that should have loaded it, as none does in a run.
@@ -199,6 +199,16 @@ fn check_9_refuses_each_clause_alone() {
     refused_for(Unsound::TableOrOrder(5), |r| r.table.promised[3] = 1);
     refused_for(Unsound::TableOrOrder(12), |r| r.table.promised[0] = 5);
     refused_for(Unsound::TableOrOrder(12), |r| r.table.promised[1] = 1);
+    // Row 2 is HI and row 1 LO; row 3 stands above row 2.
+    refused_for(Unsound::TableOrOrder(5), |r| r.table.follows[3] = 1);
+    for follows in [2, 3, 64, 65, u32::MAX] {
+        refused_for(Unsound::TableOrOrder(13), |r| r.table.follows[1] = follows);
+    }
+    refused_for(Unsound::TableOrOrder(14), |r| {
+        (r.table.release[0], r.table.follows[1]) = (1, 1);
+    });
+    refused_for(Unsound::TableOrOrder(15), |r| r.table.follows[1] = 1);
+    refused_for(Unsound::TableOrOrder(6), |r| r.table.follows[2] = 2);
     refused_for(Unsound::TableOrOrder(6), |r| r.order[0] = 2);
     refused_for(Unsound::TableOrOrder(6), |r| r.order[3] = 1);
     // Row 3 was dropped at its deadline, so that only the clock is wrong.
@@ -275,6 +285,7 @@ fn check_9_lets_the_limits_themselves_through() {
     accepted(|r| r.used[2] = 0);
     accepted(|r| r.closing[0] = 30);
     accepted(|r| r.table.promised[0] = 2);
+    accepted(|r| r.table.follows[2] = 1);
     accepted(|r| {
         r.table.promised[2] = 4;
         r.used[2] = r.table.loading + 3;

@@ -5,7 +5,7 @@
 mod common;
 
 use common::correct::{correct_by_every_course, correct_by_slacks, survives_random_courses, TINY};
-use common::{all_rows, Loadings, SMALL};
+use common::{all_rows, Kinds, SMALL};
 use model::cases::{cooler, least_of, least_speeds, table};
 use model::order::{orders, Order, NO_ORDER};
 use model::plain::{least_and_plannings, least_by_halves, least_by_scan};
@@ -95,7 +95,7 @@ fn least_of_every_order(
     most: u32,
     is_correct: impl Fn(&Table, &Order) -> bool,
 ) -> Option<u32> {
-    let all = orders(table.n);
+    let all = orders(table);
     let (mut speeds, at): (_, fn(&mut Table) -> &mut u32) = match sought {
         Sought::Degraded => (1..=table.normal, |table| &mut table.degraded),
         Sought::Normal => (table.degraded..=most, |table| &mut table.normal),
@@ -125,10 +125,10 @@ fn end_of_range(table: &Table, sought: Sought, answer: &Least) -> usize {
 fn every_order_of_small_tables() {
     let mut random = Random::seeded(61);
     let mut seen = [[0; 4]; 2];
-    let mut loadings = Loadings::default();
+    let mut kinds = Kinds::default();
     for round in 0..6_000 {
         let table = table_in(&mut random, if round % 2 == 0 { SMALL } else { FAST });
-        loadings.saw(&table);
+        kinds.saw(&table);
         // The range of N has up to 1,000 speeds, and none of them may do.
         let few = if round % 6 == 0 {
             &BOTH[..]
@@ -150,7 +150,7 @@ fn every_order_of_small_tables() {
         [0, 1, 3].map(|end| normal[end] > 100) == [true; 3],
         "{seen:?}"
     );
-    loadings.assert_all(100);
+    kinds.assert_all(100);
 }
 
 /// The number is 0 with the planner's order at the least speed, or 7 with zeros.
@@ -190,11 +190,11 @@ fn every_order_under_every_course_of_speed() {
 fn correct_orders_stay_correct_at_larger_speeds() {
     let mut random = Random::seeded(64);
     let (mut kept, mut gained) = (0, 0);
-    let mut loadings = Loadings::default();
+    let mut kinds = Kinds::default();
     for _ in 0..2_000 {
         let table = table_in(&mut random, FAST);
-        loadings.saw(&table);
-        let (all, sought) = (orders(table.n), random.one_of(&BOTH));
+        kinds.saw(&table);
+        let (all, sought) = (orders(&table), random.one_of(&BOTH));
         let speeds = sought.range(&table).take_while(|&speed| speed <= 50);
         let at = |speed| sought.put(&table, speed);
         let mut before = vec![false; all.len()];
@@ -211,7 +211,7 @@ fn correct_orders_stay_correct_at_larger_speeds() {
     }
     println!("{kept} times still correct, {gained} times newly");
     assert!(kept > 50_000 && gained > 2_000);
-    loadings.assert_all(30);
+    kinds.assert_all(30);
 }
 
 /// Under any order no slack falls when G, N or both are raised.
@@ -221,7 +221,7 @@ fn no_larger_speeds_lower_a_slack() {
     let (mut same, mut more) = (0, 0);
     for _ in 0..3_000 {
         let table = table_in(&mut random, FAST);
-        let order = random.one_of(&orders(table.n));
+        let order = random.one_of(&orders(&table));
         let normal = table.normal + random.between(0, 5);
         let degraded = random.between(table.degraded, normal);
         let faster = Sought::Degraded.put(&Sought::Normal.put(&table, normal), degraded);
@@ -285,13 +285,13 @@ fn a_search_by_halves_makes_few_plannings() {
 #[test]
 fn refusals_are_those_of_the_planner_and_of_the_reader() {
     let mut random = Random::seeded(66);
-    let mut numbers = [0; 13];
+    let mut numbers = [0; 16];
     let figures = [0, 1, 2, 17, 65, 1_000, 1_001, 1_000_001];
     for _ in 0..4_000 {
         let mut spoiled = table_in(&mut random, SMALL);
         for _ in 0..random.between(1, 2) {
             let figure = random.one_of(&figures);
-            match random.between(0, 8) {
+            match random.between(0, 10) {
                 0 => spoiled.n = figure,
                 1 => spoiled.normal = figure,
                 2 => spoiled.degraded = figure,
@@ -300,7 +300,9 @@ fn refusals_are_those_of_the_planner_and_of_the_reader() {
                 5 => spoiled.deadline[0] = figure,
                 6 => spoiled.level[63] = figure,
                 7 => spoiled.promised[0] = figure,
-                _ => spoiled.promised[63] = figure,
+                8 => spoiled.promised[63] = figure,
+                9 => spoiled.follows[0] = figure,
+                _ => spoiled.follows[63] = figure,
             }
         }
         let refusal = check_table(&spoiled);
@@ -314,7 +316,7 @@ fn refusals_are_those_of_the_planner_and_of_the_reader() {
         }
         numbers[refusal as usize] += 1;
     }
-    assert!([3, 4, 5, 11, 12]
+    assert!([3, 4, 5, 11, 12, 13]
         .iter()
         .all(|&number| numbers[number] > 100));
     let rows = cooler(19).rows();

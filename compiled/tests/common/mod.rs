@@ -8,10 +8,12 @@ pub mod records;
 pub mod sheets;
 
 use compiled::raw;
-use compiled::sheets::{random_order, tight};
+use compiled::sheets::tight;
 use model::cases::row;
 use model::order::{check_order, Order, NO_ORDER};
-use model::random::{spoil_promise, table_in, with_promises, Random, Ranges};
+use model::random::{
+    random_order, spoil_promise, spoil_wait, table_in, with_promises, with_waits, Random, Ranges,
+};
 use model::sheet::write_sheet;
 use model::table::{Row, Table, MOST_LOADING, ROWS};
 use std::collections::BTreeMap;
@@ -80,25 +82,29 @@ impl Loadings {
     }
 }
 
-/// Counts tables by whether a row promises a part, where nothing was refused, so that a
-/// test can show that it looked at both.
-pub struct Promises(Tally<bool>);
+/// Counts tables by whether a row promises a part and whether one follows another, where
+/// nothing was refused, so that a test can show that it looked at all four kinds.
+pub struct Kinds(Tally<(bool, bool)>);
 
-impl Promises {
-    pub fn new(of: &'static str) -> Promises {
-        Promises(Tally::new(of))
+impl Kinds {
+    pub fn new(of: &'static str) -> Kinds {
+        Kinds(Tally::new(of))
     }
 
     /// Counts a table if the call's number, 0 or 7, rests on it.
     pub fn saw(&mut self, number: u32, table: &Table) {
         if number == 0 || number == 7 {
-            self.0.saw(table.promised != [0; ROWS]);
+            let is_used = |column: &[u32; ROWS]| *column != [0; ROWS];
+            self.0
+                .saw((is_used(&table.promised), is_used(&table.follows)));
         }
     }
 
-    /// Fails unless tables with promises and without came up `least` times each.
-    pub fn assert_both(&self, least: u64) {
-        self.0.assert_common(&[true, false], least);
+    /// Fails unless tables with promises, with waits, with both and with neither came up
+    /// `least` times each.
+    pub fn assert_all(&self, least: u64) {
+        let promising = [true, false].map(|promises| [(promises, true), (promises, false)]);
+        self.0.assert_common(&promising.concat(), least);
     }
 }
 
@@ -111,9 +117,9 @@ pub fn rubbish(length: usize) -> Vec<u8> {
 pub const SMALL_TABLES: u64 = 2 * 239_940;
 
 /// Calls `with` on every table of one to three rows whose figures come from a
-/// small grid, some with an order and some with none: each without loading and
-/// promises, and then with one of the other loading times, which take turns, and with
-/// random promises or none.
+/// small grid, some with an order and some with none: each without loading, promises and
+/// waits, and then with one of the other loading times, which take turns, and with random
+/// promises and waits or none.
 pub fn for_each_small_table(mut with: impl FnMut(&Table)) {
     let grid = grid_rows();
     let mut random = Random::seeded(99);
@@ -122,7 +128,8 @@ pub fn for_each_small_table(mut with: impl FnMut(&Table)) {
         with(&table);
         loading = 1 + loading % MOST_LOADING;
         let loads = with_time_to_load(&table, loading);
-        with(&with_promises(&mut random, &loads));
+        let promising = with_promises(&mut random, &loads);
+        with(&with_waits(&mut random, &promising));
     };
     for [normal, degraded] in [[1, 1], [2, 1], [2, 2], [3, 1], [3, 2]] {
         for &first in &grid {
@@ -161,8 +168,8 @@ fn grid_rows() -> Vec<Row> {
     rows
 }
 
-/// Calls `with` on the five figures of a row at both levels, where release, work
-/// and deadline are every one of 0, 1, 9, 10, 99, 100 and so on up to 1,000,000. The
+/// Calls `with` on the figures of a row that follows none, at both levels, where release,
+/// work and deadline are every one of 0, 1, 9, 10, 99, 100 and so on up to 1,000,000. The
 /// promised part is 0, and then each of these in turn.
 pub fn for_each_length_of_figures(mut with: impl FnMut([u32; 5])) {
     let powers = (0..=6).map(|digits| 10u32.pow(digits));
@@ -263,36 +270,40 @@ pub fn large_table(random: &mut Random) -> Table {
     }
 }
 
-/// Sixty-four numbers that are no order of n rows.
-pub fn no_order_of(random: &mut Random, n: u32) -> Order {
+/// Sixty-four numbers that are no order of this accepted table. Where rows follow rows,
+/// many hold each row once and break a wait.
+pub fn no_order_of(random: &mut Random, table: &Table) -> Order {
+    let n = table.n;
     loop {
-        let mut order = random_order(random, n);
+        let mut order = random_order(random, table);
         let place = random.between(0, n - 1) as usize;
-        match random.between(0, 5) {
+        match random.between(0, 8) {
             0 => order[place] = 0,
             1 => order[place] = random.word() as u8,
             2 => order[place] = order[random.between(0, n - 1) as usize],
             3 => order[random.between(0, 63) as usize] = random.between(1, 65) as u8,
             4 => order = std::array::from_fn(|_| random.word() as u8),
-            _ => order = NO_ORDER,
+            5 => order = NO_ORDER,
+            6 => order.swap(place, random.between(0, n - 1) as usize),
+            _ => order = random_order(random, &table.without_waits()),
         }
-        if check_order(n, &order) == 6 {
+        if check_order(table, &order) == 6 {
             return order;
         }
     }
 }
 
-/// An order of n rows, or once in `out_of` times sixty-four other numbers.
-pub fn any_order(random: &mut Random, n: u32, out_of: u32) -> Order {
+/// An order of this accepted table, or once in `out_of` times sixty-four other numbers.
+pub fn any_order(random: &mut Random, table: &Table, out_of: u32) -> Order {
     if random.once_in(out_of) {
-        no_order_of(random, n)
+        no_order_of(random, table)
     } else {
-        random_order(random, n)
+        random_order(random, table)
     }
 }
 
 /// The numbers of the checks on tables, in their order (rule 11.3).
-pub const TABLE_CHECKS: [u32; 5] = [3, 4, 11, 5, 12];
+pub const TABLE_CHECKS: [u32; 8] = [3, 4, 11, 5, 12, 13, 14, 15];
 
 /// The table changed so that a check on tables refuses it with this number, or
 /// with one before it.
@@ -311,6 +322,7 @@ pub fn spoil_table(random: &mut Random, table: &mut Table, number: u32) {
             table.loading = random.one_of(&[17, 17, 18, 64, u32::MAX, any]);
         }
         12 => spoil_promise(random, table),
+        13..=15 => spoil_wait(random, table, number),
         _ => match random.between(0, 5) {
             0 => table.work[index] = random.one_of(&[0, 1_000_001, u32::MAX]),
             1 => table.deadline[index] = random.one_of(&[1_000_001, u32::MAX]),
@@ -323,11 +335,12 @@ pub fn spoil_table(random: &mut Random, table: &mut Table, number: u32) {
 }
 
 /// The table changed so that one of the checks on tables refuses it, or several of
-/// them would.
+/// them would, three at most.
 pub fn spoil_by_several(random: &mut Random, table: &mut Table) {
-    let wanted = random.between(1, 31);
-    for (bit, number) in TABLE_CHECKS.into_iter().enumerate().rev() {
-        if wanted >> bit & 1 == 1 {
+    let wanted = [(); 3].map(|()| random.one_of(&TABLE_CHECKS));
+    let count = random.between(1, 3) as usize;
+    for number in TABLE_CHECKS.into_iter().rev() {
+        if wanted[..count].contains(&number) {
             spoil_table(random, table, number);
         }
     }
@@ -342,12 +355,13 @@ fn spoil_tail(random: &mut Random, table: &mut Table) {
     }
     let index = random.between(table.n, 63) as usize;
     let figure = random.one_of(&[1, 2, 1 << 31, u32::MAX]);
-    match random.between(0, 5) {
+    match random.between(0, 6) {
         0 => table.release[index] = figure,
         1 => table.work[index] = figure,
         2 => table.deadline[index] = figure,
         3 => table.level[index] = figure,
         4 => table.promised[index] = figure,
+        5 => table.follows[index] = figure,
         _ => (table.work[index], table.deadline[index]) = (1, 1),
     }
 }
@@ -376,14 +390,8 @@ pub fn refused_sheet(random: &mut Random, table: &Table) -> Vec<u8> {
     let field = |figure: u32| figure.min(99_999_999);
     let count = field(spoiled.n);
     spoiled.n = table.n;
-    let rows = spoiled.rows().into_iter().map(|row| Row {
-        release: field(row.release),
-        work: field(row.work),
-        deadline: field(row.deadline),
-        level: field(row.level),
-        promised: field(row.promised),
-    });
-    let rows: Vec<Row> = rows.collect();
+    let rows = spoiled.rows().into_iter();
+    let rows: Vec<Row> = rows.map(|row| Row::of(row.figures().map(field))).collect();
     let figures = [spoiled.normal, spoiled.degraded, spoiled.loading];
     let [normal, degraded, loading] = figures.map(field);
     write_sheet(count, normal, degraded, loading, &rows)

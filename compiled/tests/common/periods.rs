@@ -2,7 +2,8 @@
 //! these are done or a slot later, at N and at G; and tables with many ties.
 
 use compiled::sheets::tightened;
-use model::random::{loading, promise, with_promises, Random};
+use model::cases::row;
+use model::random::{loading, promise, with_promises, with_waits, Random};
 use model::table::{allowance, need, Row, Table, HI, LATEST_DEADLINE, LO};
 
 /// Where a row is released: at the end, at N (0) or at G (1), of the busy period of all
@@ -36,24 +37,20 @@ pub fn joined(random: &mut Random, n: u32, joints: &[Joint]) -> Joined {
         release = release.max(ends[speed] + gap);
         gaps.push(ends.map(|end| release - end));
         let (work, level) = (random.between(1, 3 * normal), random.one_of(&[LO, HI]));
-        let row = Row {
-            release: release as u32,
-            work,
-            deadline: LATEST_DEADLINE,
-            level,
-            promised: if promises {
-                promise(random, work, level)
-            } else {
-                0
-            },
+        let promised = if promises {
+            promise(random, work, level)
+        } else {
+            0
         };
+        let row = row([release as u32, work, LATEST_DEADLINE, level, promised]);
         let alone = Table::of(normal, degraded, loading, &[row]);
         ends = [0, 1].map(|speed| release.max(ends[speed]) + taken(&alone)[speed]);
         rows.push(row);
     }
     let table = Table::of(normal, degraded, loading, &random.shuffled(&rows));
+    let waiting = with_waits(random, &table);
     Joined {
-        table: tightened(random, &table),
+        table: tightened(random, &waiting),
         gaps: gaps.split_off(1),
     }
 }
@@ -74,17 +71,17 @@ pub fn tied(random: &mut Random, n: u32) -> Table {
     let normal = random.between(1, 5);
     let degraded = random.between(1, normal);
     let span = random.between(1, 3 * n);
-    let row = |random: &mut Random| Row {
-        release: random.one_of(&[0, 0, span]),
-        work: random.one_of(&[1, normal, 2 * normal]),
-        deadline: LATEST_DEADLINE,
-        level: random.one_of(&[LO, LO, HI]),
-        promised: 0,
+    let row = |random: &mut Random| {
+        let release = random.one_of(&[0, 0, span]);
+        let work = random.one_of(&[1, normal, 2 * normal]);
+        let level = random.one_of(&[LO, LO, HI]);
+        row([release, work, LATEST_DEADLINE, level])
     };
     let rows: Vec<Row> = (0..n).map(|_| row(random)).collect();
     let table = Table::of(normal, degraded, loading(random), &rows);
     let promising = with_promises(random, &table);
-    let tight = tightened(random, &promising);
+    let waiting = with_waits(random, &promising);
+    let tight = tightened(random, &waiting);
     with_steps(random, &tight)
 }
 

@@ -2,20 +2,22 @@
 //! break one clause of check 9 alone.
 
 use super::{large_table, no_order_of, small_table, spoil_table, supplies};
-use compiled::sheets::random_order;
 use model::calls::LAST_CLOCK;
-use model::random::Random;
+use model::random::{random_order, Random};
 use model::record::{Record, Unsound};
 use model::run::is_late_preview;
 use model::table::{allowance, Table, HI, LATEST_DEADLINE, LO, ROWS};
 
 /// Every clause of check 9.
-pub const CLAUSES: [Unsound; 14] = [
+pub const CLAUSES: [Unsound; 17] = [
     Unsound::TableOrOrder(3),
     Unsound::TableOrOrder(4),
     Unsound::TableOrOrder(11),
     Unsound::TableOrOrder(5),
     Unsound::TableOrOrder(12),
+    Unsound::TableOrOrder(13),
+    Unsound::TableOrOrder(14),
+    Unsound::TableOrOrder(15),
     Unsound::TableOrOrder(6),
     Unsound::Clock,
     Unsound::GotOverWork,
@@ -34,7 +36,7 @@ pub fn fresh_record(random: &mut Random) -> Record {
     } else {
         small_table(random)
     };
-    let order = random_order(random, table.n);
+    let order = random_order(random, &table);
     Record::fresh(&table, &order).1
 }
 
@@ -158,7 +160,7 @@ fn break_clause(random: &mut Random, record: &mut Record, clause: Unsound) {
     let index = row as usize - 1;
     let over = |figure: u32, random: &mut Random| random.one_of(&[figure + 1, u32::MAX]);
     match clause {
-        Unsound::TableOrOrder(6) => record.order = no_order_of(random, n),
+        Unsound::TableOrOrder(6) => record.order = no_order_of(random, &record.table),
         Unsound::TableOrOrder(number) => spoil_table(random, &mut record.table, number),
         Unsound::Clock => record.clock = over(LAST_CLOCK, random),
         Unsound::GotOverWork => record.got[index] = over(record.table.work[index], random),
@@ -222,6 +224,7 @@ pub fn any_record(random: &mut Random) -> Record {
     record.table.deadline = std::array::from_fn(|_| word());
     record.table.level = std::array::from_fn(|_| word());
     record.table.promised = std::array::from_fn(|_| word());
+    record.table.follows = std::array::from_fn(|_| word());
     record.order = [0; ROWS].map(|_: u8| word() as u8);
     record.clock = word();
     record.got = std::array::from_fn(|_| word());

@@ -2,15 +2,16 @@
 //! the writer have in common.
 
 use super::{refused_sheet, small_table};
-use compiled::sheets::{hard, hard_loading, late_promises};
-use model::cases::{above_a_hi_row, checked_promises, p1, p3, promising_table, row, table};
+use compiled::sheets::{chain, hard, hard_loading, late_promises};
+use model::cases::waits::{checked_waits, preempted};
+use model::cases::{above_a_hi_row, checked_promises, p1, p3, row, table};
 use model::program::KEPT;
 use model::random::Random;
 use model::sheet::{sheet_of, write_field, write_line, write_sheet, FIRST_LINE, ROW_LINE};
-use model::table::{Table, MOST_LOADING};
+use model::table::{Row, Table, MOST_LOADING};
 
 /// Bytes of the longest input tried at every length.
-pub const LONGEST: usize = 2_750;
+pub const LONGEST: usize = 3_260;
 
 /// A sheet as far as it is text.
 pub fn text(sheet: &[u8]) -> String {
@@ -33,11 +34,12 @@ fn malformed_at_the_end(mut sheet: Vec<u8>) -> Vec<u8> {
     sheet
 }
 
-/// Calls `with` on the first bytes of several inputs, none to 2,750 of them.
+/// Calls `with` on the first bytes of several inputs, none to 3,260 of them.
 pub fn for_each_length(mut with: impl FnMut(&[u8])) {
-    let a_row = write_line(&[0, 20, 10, 1, 0]);
-    let outside_limits = write_line(&[4, 1, 4, 0, 0]);
-    let promising_too_much = write_line(&[0, 20, 10, 0, 21]);
+    let a_row = write_line(&[0, 20, 10, 1, 0, 0]);
+    let outside_limits = write_line(&[4, 1, 4, 0, 0, 0]);
+    let promising_too_much = write_line(&[0, 20, 10, 0, 21, 0]);
+    let following_itself = write_line(&[0, 20, 10, 0, 20, 9]);
     let bases = [
         extended(sheet_of(&hard_loading(64, 16)), &a_row),
         extended(sheet_of(&p1()), &a_row),
@@ -48,6 +50,8 @@ pub fn for_each_length(mut with: impl FnMut(&[u8])) {
         extended(write_line(&[9, 1_000, 1_000, 17]), &outside_limits),
         extended(write_line(&[9, 1_000, 1_000, 16]), &outside_limits),
         extended(write_line(&[9, 1_000, 1_000, 16]), &promising_too_much),
+        extended(write_line(&[9, 1_000, 1_000, 16]), &following_itself),
+        extended(sheet_of(&chain(64, 16)), &a_row),
         extended(sheet_of(&late_promises(64, 16)), b" "),
         extended(write_line(&[4, 5, 2]), &a_row),
         extended(malformed_at_the_end(sheet_of(&hard(32))), &a_row),
@@ -67,7 +71,9 @@ pub fn for_each_single_byte_change(mut with: impl FnMut(&[u8])) {
     let largest_row = table(1_000, 999, &[[999_999, 1_000_000, 1_000_000, 1]]);
     let largest_promise = [[999_999, 1_000_000, 1_000_000, 0, 1_000_000]];
     let sheets = [
-        sheet_of(&promising_table(1_000, 999, &largest_promise)),
+        sheet_of(&table(1_000, 999, &largest_promise)),
+        sheet_of(&preempted()),
+        sheet_of(&chain(12, 1)),
         sheet_of(&p1()),
         sheet_of(&p3().with_loading(9)),
         sheet_of(&largest_row.with_loading(16)),
@@ -92,17 +98,18 @@ pub fn for_each_of_several_changes(mut with: impl FnMut(&[u8])) {
     let bases = [
         sheet_of(&p1()),
         sheet_of(&above_a_hi_row(2)),
+        sheet_of(&preempted()),
         sheet_of(&hard(64)),
     ];
     let fields = [
         0, 1, 2, 3, 4, 9, 16, 17, 64, 65, 1_000, 1_001, 1_000_000, 1_000_001,
     ];
     for round in 0..200_000 {
-        let mut sheet = bases[if round % 16 == 0 { 2 } else { round % 2 }].clone();
+        let mut sheet = bases[if round % 16 == 0 { 3 } else { round % 3 }].clone();
         for _ in 0..random.between(1, 3) {
             let field = match random.between(0, 4) as usize {
                 0 => 8 * random.between(0, 3) as usize,
-                row => FIRST_LINE + ROW_LINE * (row - 1) + 8 * random.between(0, 4) as usize,
+                row => FIRST_LINE + ROW_LINE * (row - 1) + 8 * random.between(0, 5) as usize,
             };
             if field + 8 <= sheet.len() {
                 let number = random.one_of(&fields);
@@ -160,10 +167,19 @@ pub fn sheets_at_limits() -> Vec<(Vec<u8>, u32)> {
         (vec![b' '; 33], 2),
     ];
     sheets.extend((0..=MOST_LOADING).map(|slots| (loading(slots), 0)));
-    let promises = checked_promises().into_iter();
-    let in_sheets = promises.filter(|(_, table, _)| table.promised[63] == 0);
+    let checked = checked_promises().into_iter().chain(checked_waits());
+    let in_sheets = checked.filter(|(_, table, _)| is_all_in_its_sheet(table));
     sheets.extend(in_sheets.map(|(_, table, number)| (sheet_of(&table), number)));
     sheets
+}
+
+/// The sheet of a table with these figures has all of them: none stands after the last row
+/// or has more than eight digits.
+pub fn is_all_in_its_sheet(table: &Table) -> bool {
+    let rows = table.rows();
+    let fits = |row: &Row| row.figures().iter().all(|&figure| figure < 100_000_000);
+    let (normal, degraded, loading) = (table.normal, table.degraded, table.loading);
+    rows.iter().all(fits) && Table::of(normal, degraded, loading, &rows) == *table
 }
 
 /// The sheet with a byte changed, or with a byte more or some fewer.

@@ -26,7 +26,7 @@ const NOT_USABLE: u8 = 2;
 fn words_for(number: u32) -> &'static str {
     match number {
         0 => "success",
-        1 => "the sheet has under 33 bytes, or not 33 + 41 for each row",
+        1 => "the sheet has under 33 bytes, or not 33 + 49 for each row",
         2 => "a field or a line end of the sheet is malformed",
         3 => "the row count is not 1 to 64",
         4 => "N is not 1 to 1,000, or G is not 1 to N (work units per slot)",
@@ -39,6 +39,9 @@ fn words_for(number: u32) -> &'static str {
         8 => "the clock is 2,000,000 slots, and no further slot is worked",
         11 => "K is above 16 slots",
         12 => "a promised part is above its row's work, or above 0 work units on a HI row",
+        13 => "a row follows what is not a row above it in the table",
+        14 => "a row follows one that is released later than itself",
+        15 => "a row is HI and the row that it follows LO",
         _ => unreachable!("no other number comes up in a run on paper"),
     }
 }

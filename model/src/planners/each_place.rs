@@ -2,11 +2,11 @@
 //!
 //! A busy period has one end, and whichever of its rows stands lowest finishes then. Of
 //! those at one level the first in the trial sequence has the latest deadline: if it
-//! fails, they all do. So of the rows that promise nothing one of each busy period is
-//! looked at. When a row gets its place, just the busy period in which it stood is swept
-//! again; a row that passes goes on passing. A promise is looked at when its row is in
-//! time and every row tried before it fails, over its busy period at G; if it is not
-//! kept, again when this period has lost a row.
+//! fails, they all do. So of the rows that promise nothing and that no row follows one of
+//! each busy period is looked at. When a row gets its place, just the busy period in which
+//! it stood is swept again; a row that passes goes on passing, skipped or not. A promise is
+//! looked at when its row is in time and every row tried before it fails, over its busy
+//! period at G; if it is not kept, again when this period has lost a row.
 
 use super::left::{is_over, Left, DEGRADED, SPEEDS};
 use super::{planned, turns_in, Sweeps, Trials};
@@ -26,8 +26,8 @@ pub fn plan_and_trials(table: &Table) -> (Plan, u32) {
 
 /// What the sweeps have found.
 struct EachPlace {
-    /// Of each busy period the first row tried that promises nothing, if it passes, and
-    /// those that promise a part and are in time at N.
+    /// Of each busy period the first row that is not watched, if it passes, and those that
+    /// are watched and in time.
     passing: u64,
     /// Of these, rows whose promise is not kept.
     failing: u64,
@@ -49,7 +49,7 @@ impl Sweeps for EachPlace {
     }
 
     fn first_to_pass(&mut self, trials: &Trials, left: &Left) -> Option<usize> {
-        for turn in turns_in(self.passing & !self.failing) {
+        for turn in turns_in(self.passing & !self.failing & !trials.skipped) {
             if trials.keeps_promise(left, turn, || self.start_of(left.place_of(turn))) {
                 return Some(turn);
             }
@@ -102,14 +102,14 @@ impl EachPlace {
         let (mut end, mut period, mut starts, mut passing) = (0, 0, 0, 0);
         for (at, job) in left.jobs()[rows.clone()].iter().enumerate() {
             if is_over(end, job.release) {
-                passing |= trials.in_time(period & tried, end);
+                passing |= trials.in_time(speed, period & tried, end);
                 starts |= 1 << at;
                 (end, period) = (job.release, 0);
             }
             end += job.caps[speed];
             period |= 1 << job.turn;
         }
-        self.passing |= passing | trials.in_time(period & tried, end);
+        self.passing |= passing | trials.in_time(speed, period & tried, end);
         self.starts[speed] |= starts << rows.start;
     }
 }

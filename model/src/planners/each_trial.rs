@@ -24,7 +24,7 @@ impl Sweeps for EachTrial {
     }
 
     fn first_to_pass(&mut self, trials: &Trials, left: &Left) -> Option<usize> {
-        turns_in(trials.left).find(|&turn| {
+        turns_in(trials.to_try()).find(|&turn| {
             let speed = (trials.tried[DEGRADED] >> turn & 1) as usize;
             let due = trials.deadlines[turn];
             left.finish(turn, speed, due) <= due && trials.keeps_promise(left, turn, || 0)

@@ -4,7 +4,8 @@
 //! A sweep goes through the rows left by rising release and adds up what they take:
 //! where the processor is free by the next release a busy period ends, and that is the
 //! worst finish of each row in it that stands below all others. A row that promises a
-//! part has a sweep of its own for it, in which it takes its need of that part.
+//! part has a sweep of its own for it, in which it takes its need of that part. A row that
+//! a row left follows is skipped; for the finishes of others it is a row left like any.
 //!
 //! Clocks, caps, deadlines and finishes are in slots. A row's turn is where it stands
 //! in the trial sequence, from 0 on; words have a bit for each turn.
@@ -18,7 +19,7 @@ use crate::plan::Plan;
 use crate::table::{check_table, promised_need, Table, LATEST_DEADLINE, ROWS};
 use left::{sweep_speed, Left, Sorted, NORMAL};
 
-/// The trial sequence (rule 4.3), and whose turn is still to come.
+/// The trial sequence (rules 4.3 and 4.11), and whose turn is still to come.
 struct Trials {
     /// The row of each turn.
     rows: [u8; ROWS],
@@ -34,6 +35,15 @@ struct Trials {
     promising: u64,
     /// The need of each promised part at G, in slots.
     parts: [u32; ROWS],
+    /// The rows that promise a part and those that any row follows: such a row may be in
+    /// time and yet not get the place, so that each of them is looked at by itself.
+    watched: u64,
+    /// The rows that a row left follows.
+    skipped: u64,
+    /// How many rows left follow the row of each turn.
+    followers: [u8; ROWS],
+    /// The row that the row of each turn follows, 0 for none.
+    follows: [u8; ROWS],
 }
 
 impl Trials {
@@ -50,6 +60,10 @@ impl Trials {
             tried: [0; 2],
             promising: 0,
             parts: [0; ROWS],
+            watched: 0,
+            skipped: 0,
+            followers: [0; ROWS],
+            follows: [0; ROWS],
         };
         for (turn, index) in sequence.indices().enumerate() {
             trials.rows[turn] = index as u8 + 1;
@@ -61,7 +75,33 @@ impl Trials {
                 trials.parts[turn] = promised_need(table, index as u8 + 1);
             }
         }
+        for index in (0..n).filter(|&index| table.follows[index] != 0) {
+            let followed = table.follows[index] as u8;
+            let turn = trials.turn_of(followed);
+            trials.follows[trials.turns[index] as usize] = followed;
+            trials.followers[turn] += 1;
+            trials.skipped |= 1 << turn;
+        }
+        trials.watched = trials.promising | trials.skipped;
         trials
+    }
+
+    /// The turn of this row.
+    fn turn_of(&self, row: u8) -> usize {
+        self.turns[row as usize - 1] as usize
+    }
+
+    /// The row of this turn has its place and is left no more. If it was the last one left
+    /// to follow a row, that one is skipped no more.
+    fn place(&mut self, turn: usize) {
+        self.left &= !(1 << turn);
+        if self.follows[turn] != 0 {
+            let followed = self.turn_of(self.follows[turn]);
+            self.followers[followed] -= 1;
+            if self.followers[followed] == 0 {
+                self.skipped &= !(1 << followed);
+            }
+        }
     }
 
     /// The row promises nothing, or has got its part by its deadline, in its own sweep:
@@ -81,27 +121,39 @@ impl Trials {
         }
     }
 
-    /// Of these rows, which share this finish: the first that promises nothing, if it is
-    /// in time, and every one that promises a part and is in time.
-    fn in_time(&self, rows: u64, finish: u32) -> u64 {
-        let promising = match rows & self.promising {
+    /// Of these rows, which share this finish at this speed: the first that is not watched,
+    /// if it is in time, and every one that is watched and in time.
+    fn in_time(&self, speed: usize, rows: u64, finish: u32) -> u64 {
+        let watched = match rows & self.watched {
             0 => 0,
-            promising => promising & self.low_in_time(finish),
+            watched => watched & self.all_in_time(speed, finish),
         };
-        promising | self.first_if_in_time(rows & !self.promising, finish)
+        watched | self.first_if_in_time(rows & !self.watched, finish)
     }
 
-    /// The LO rows that are in time with this finish: the first ones, since their
-    /// deadlines fall.
-    fn low_in_time(&self, finish: u32) -> u64 {
-        let low = self.tried[NORMAL].count_ones() as usize;
-        let in_time = self.deadlines[..low].partition_point(|&deadline| finish <= deadline);
-        u64::MAX.checked_shr((ROWS - in_time) as u32).unwrap_or(0)
+    /// The turns up to the last row tried at this speed that is in time with this finish:
+    /// all rows of its level up to there are, since their deadlines fall.
+    fn all_in_time(&self, speed: usize, finish: u32) -> u64 {
+        let [low, high] = self.tried.map(|tried| tried.count_ones() as usize);
+        let at_level = if speed == NORMAL {
+            0..low
+        } else {
+            low..low + high
+        };
+        let from = at_level.start;
+        let in_time = self.deadlines[at_level].partition_point(|&deadline| finish <= deadline);
+        let after = (ROWS - from - in_time) as u32;
+        u64::MAX.checked_shr(after).unwrap_or(0)
     }
 
-    /// How many rows left come no later than this turn.
+    /// The rows left that are tried.
+    fn to_try(&self) -> u64 {
+        self.left & !self.skipped
+    }
+
+    /// How many of them come no later than this turn.
     fn up_to(&self, turn: usize) -> u32 {
-        (self.left & u64::MAX >> (ROWS - 1 - turn)).count_ones()
+        (self.to_try() & u64::MAX >> (ROWS - 1 - turn)).count_ones()
     }
 
     /// The rows left as the planner tells them (rule 4.8).
@@ -147,12 +199,12 @@ fn planned<By: Sweeps>(table: &Table) -> (Plan, u32) {
     let (mut order, mut tried) = (NO_ORDER, 0);
     for place in (0..n).rev() {
         let Some(turn) = sweeps.first_to_pass(&trials, &left) else {
-            tried += trials.left.count_ones();
+            tried += trials.to_try().count_ones();
             return (refused(7, trials.word()), tried);
         };
         tried += trials.up_to(turn);
         order[place] = trials.rows[turn];
-        trials.left &= !(1 << turn);
+        trials.place(turn);
         let at = left.take(turn);
         sweeps.renew(&trials, &left, at);
     }

@@ -7,10 +7,10 @@ use model::calls::Call;
 use model::cases::p3;
 use model::judge::Verdict;
 use model::order::{order_of, orders, Order};
-use model::random::{loading_table_in, table_in, Random, Ranges};
+use model::random::{table_in, Random, Ranges};
 use model::record::Record;
 use model::run::{running_step, step, Rule, State};
-use model::table::{Table, MOST_LOADING};
+use model::table::{Table, MOST_LOADING, ROWS};
 
 /// The planning rule and the running rule (rule 19.1).
 pub const RULES: [Rule; 2] = [step, running_step];
@@ -18,20 +18,34 @@ pub const RULES: [Rule; 2] = [step, running_step];
 /// Loading times that are refused, in slots.
 pub const TOO_LONG: [u32; 5] = [17, 18, 64, 1 << 31, u32::MAX];
 
-/// Counts the tables of each loading time, so that a test can show that it looked
-/// at all from 0 to 16 slots.
+/// Counts the tables of each loading time, and those without waits and with them, so that
+/// a test can show that it looked at all from 0 to 16 slots, and at both.
 #[derive(Default)]
-pub struct Loadings([u32; MOST_LOADING as usize + 1]);
+pub struct Kinds {
+    loadings: [u32; MOST_LOADING as usize + 1],
+    waits: [u32; 2],
+}
 
-impl Loadings {
+impl Kinds {
     pub fn saw(&mut self, table: &Table) {
-        self.0[table.loading as usize] += 1;
+        self.loadings[table.loading as usize] += 1;
+        self.waits[usize::from(table.follows != [0; ROWS])] += 1;
     }
 
-    /// Fails unless each came up `least` times.
+    /// Fails unless each loading time, tables without waits and tables with them came up
+    /// `least` times.
     pub fn assert_all(&self, least: u32) {
-        println!("tables by loading time: {:?}", self.0);
-        assert!(self.0.iter().all(|&times| times >= least), "{:?}", self.0);
+        self.assert_loadings(least);
+        println!("tables without and with waits: {:?}", self.waits);
+        let both = self.waits.iter().all(|&times| times >= least);
+        assert!(both, "{:?}", self.waits);
+    }
+
+    /// Fails unless each loading time came up `least` times.
+    pub fn assert_loadings(&self, least: u32) {
+        println!("tables by loading time: {:?}", self.loadings);
+        let all = self.loadings.iter().all(|&times| times >= least);
+        assert!(all, "{:?}", self.loadings);
     }
 }
 
@@ -78,12 +92,6 @@ pub const SMALL: Ranges = Ranges {
     window: 11,
 };
 
-/// A small accepted table with a loading time of 0 slots.
-pub fn table_without_loading(random: &mut Random) -> Table {
-    let n = random.between(1, SMALL.rows);
-    loading_table_in(random, n, 0, SMALL)
-}
-
 /// Slots in which every row of a small table can be worked: some, and those in
 /// which all rows load.
 pub fn slots_with_loading(table: &Table, slots: u32) -> u32 {
@@ -93,7 +101,7 @@ pub fn slots_with_loading(table: &Table, slots: u32) -> u32 {
 /// An accepted table with one of its orders.
 pub fn table_and_order(random: &mut Random) -> (Table, Order) {
     let table = table_in(random, SMALL);
-    let order = random.one_of(&orders(table.n));
+    let order = random.one_of(&orders(&table));
     (table, order)
 }
 

@@ -2,9 +2,9 @@
 //! previews (rules 14.16 to 14.21), the smallest tables on which they go wrong, and
 //! the cases and random runs that tell them.
 
-use crate::search::{figures, first_of};
+use crate::search::{figures, first_of, FirstOf};
 use model::cases::{late_runs, table as table_of, HandRun};
-use model::order::{order_of, orders, Order};
+use model::order::{every_arrangement, order_of, orders, Order};
 use model::random::{table_in, Random, Ranges};
 use model::record::{Record, Unsound};
 use model::run::{chosen, is_finished, is_late_preview, running_step, step, Rule, State};
@@ -12,9 +12,9 @@ use model::table::Table;
 use std::collections::HashSet;
 
 /// A running rule with a fault.
-struct Faulty {
-    name: &'static str,
-    rule: Rule,
+pub struct Faulty {
+    pub name: &'static str,
+    pub rule: Rule,
 }
 
 /// The clock is looked at before the work of the slot is added: the last slot of a LO
@@ -89,7 +89,7 @@ fn drop_rows(table: &Table, state: &mut State, is_dropped: impl Fn(u8) -> bool) 
 /// A run in which a faulty rule makes another state than the true one, by its last
 /// slot and not before.
 #[derive(Debug, PartialEq, Eq)]
-struct Parting {
+pub struct Parting {
     table: Table,
     order: Order,
     /// What each slot supplies, in work units.
@@ -106,10 +106,10 @@ fn entries(table: &Table, state: &State) -> Vec<[u32; 3]> {
         .collect()
 }
 
-/// The shortest such run of a table, over every order and every course of supplies up
+/// The shortest such run of a table, over every arrangement and every course of supplies up
 /// to its largest work, two slots past its latest deadline at most.
 fn shortest(fault: &Faulty, table: &Table) -> Option<Parting> {
-    orders(table.n)
+    every_arrangement(table.n)
         .iter()
         .filter_map(|order| shortest_under(fault, table, order))
         .min_by_key(|parting| parting.supplies.len())
@@ -148,7 +148,7 @@ fn shortest_under(fault: &Faulty, table: &Table, order: &Order) -> Option<Partin
 }
 
 /// The shortest run of the smallest table on which this rule goes wrong.
-fn smallest(fault: &Faulty) -> Parting {
+pub fn smallest(first_of: FirstOf<Parting>, fault: &Faulty) -> Parting {
     let found = first_of(&|table: &Table| shortest(fault, table)).expect(fault.name);
     println!("{}\n  {}", fault.name, figures(&found.table));
     let order = &found.order[..found.table.n as usize];
@@ -159,7 +159,7 @@ fn smallest(fault: &Faulty) -> Parting {
 
 /// The run that is told, in few words: table, order, supplies, and the entries of
 /// each row by the true rule and by the faulty one.
-fn parting(
+pub fn parting(
     table: Table,
     rows: &[u8],
     supplies: &[u32],
@@ -209,12 +209,12 @@ fn smallest_runs() {
     ];
     assert_eq!(expected.len(), FAULTS.len());
     for (fault, run) in expected {
-        assert_eq!(smallest(fault), run, "{}", fault.name);
+        assert_eq!(smallest(first_of, fault), run, "{}", fault.name);
     }
 }
 
 /// Does this rule make another state than the true one somewhere in this run?
-fn tells(fault: &Faulty, table: &Table, order: &Order, supplies: &[u32]) -> bool {
+pub fn tells(fault: &Faulty, table: &Table, order: &Order, supplies: &[u32]) -> bool {
     let (mut truth, mut faulty) = (State::FRESH, State::FRESH);
     supplies.iter().any(|&supply| {
         running_step(table, order, &mut truth, supply);
@@ -236,7 +236,7 @@ fn random_runs(seed: u64, count: usize) -> Vec<(Table, Order, Vec<u32>)> {
     let mut random = Random::seeded(seed);
     let mut run = || {
         let table = table_in(&mut random, RANGES);
-        let order = random.one_of(&orders(table.n));
+        let order = random.one_of(&orders(&table));
         let supplies = (0..60).map(|_| random.between(0, table.normal)).collect();
         (table, order, supplies)
     };
@@ -312,7 +312,7 @@ fn reached_records(table: &Table) -> Vec<Record> {
     let largest = table.work.iter().copied().max().unwrap();
     let latest = table.deadline.iter().copied().max().unwrap();
     let mut records = Vec::new();
-    for order in orders(table.n) {
+    for order in orders(table) {
         let mut states = vec![State::FRESH];
         for _ in 0..latest + 2 {
             let held = |state| Record::holding(table, &order, state);
@@ -335,7 +335,7 @@ fn reached_records(table: &Table) -> Vec<Record> {
 /// past its latest deadline.
 fn fresh_records_at_clocks(table: &Table) -> Vec<Record> {
     let latest = table.deadline.iter().copied().max().unwrap();
-    let order = orders(table.n)[0];
+    let order = orders(table)[0];
     let at = |clock| Record {
         clock,
         ..Record::holding(table, &order, &State::FRESH)

@@ -3,7 +3,8 @@
 //! the true one differ. `sweeps` has faults of planners whose trials share sweeps,
 //! `speeds` faults in the search for the least workable speed, `late` those of runs
 //! that drop late previews and of check 9, `promises` those in promised parts and of
-//! check 12. Run with `--nocapture` to read the tables.
+//! check 12, `waits` those in rows that follow rows and of checks 6 and 13 to 15. Run with
+//! `--nocapture` to read the tables.
 
 mod late;
 mod planners;
@@ -11,6 +12,7 @@ mod promises;
 mod search;
 mod speeds;
 mod sweeps;
+mod waits;
 
 use model::cases::{p1, p2, p3, p4, serving, table as table_of};
 use model::order::{order_of, NO_ORDER};
@@ -22,7 +24,8 @@ use planners::{
     PLANNED_RUNNING, ROUNDING_ONCE, TRUE_PLANNER, TWO_LATEST,
 };
 use search::{
-    every_table, every_table_without_loading, print, smallest, witness, Kind, KINDS, TRIED,
+    every_table, every_table_without_loading, expect_by, print, smallest, witness, Kind, KINDS,
+    TRIED,
 };
 
 /// An answer 0 with this order.
@@ -45,10 +48,7 @@ fn leaves(rows: &[u8]) -> Plan {
 
 /// The smallest witness of these kinds is this table with these two answers.
 fn expect(planner: &Planner, kinds: &[Kind], table: Table, truth: Plan, faulty: Plan) {
-    let found = smallest(planner, kinds).expect(planner.name);
-    assert_eq!(found.table, table, "{}", planner.name);
-    assert_eq!(found.truth, truth, "{}", planner.name);
-    assert_eq!(found.faulty, faulty, "{}", planner.name);
+    expect_by(smallest, planner, kinds, table, truth, faulty);
 }
 
 #[test]

@@ -1,7 +1,7 @@
 //! Planners with one fault each, and one without.
 
 use model::order::{order_of, Order, NO_ORDER};
-use model::plan::{passes_lowest, slack, trial_order, trial_sequence, word_of, worst_speed, Plan};
+use model::plan::{passes_lowest, slack, trial_order, tried, word_of, worst_speed, Plan};
 use model::run::{chosen, kept_deadline, running_step, step, State};
 use model::table::{allowance, Table, HI, LO, ROWS};
 
@@ -19,7 +19,7 @@ pub struct Planner {
 }
 
 impl Planner {
-    /// The planner's loop (rules 4.1 to 4.6) with this planner's two parts. The
+    /// The planner's loop (rules 4.1 to 4.6 and 4.11) with this planner's two parts. The
     /// table is accepted.
     pub fn plan(&self, table: &Table) -> Plan {
         let mut left: Vec<u8> = (1..=table.n as u8).collect();
@@ -49,7 +49,7 @@ impl Planner {
 /// No fault: the two parts as the model has them.
 pub const TRUE_PLANNER: Planner = Planner {
     name: "no fault",
-    sequence: trial_sequence,
+    sequence: tried,
     trial: passes_lowest,
 };
 
@@ -61,7 +61,7 @@ pub const TWO_LATEST: Planner = Planner {
 };
 
 pub fn two_latest(table: &Table, left: &[u8]) -> Vec<u8> {
-    let sequence = trial_sequence(table, left);
+    let sequence = tried(table, left);
     [LO, HI]
         .into_iter()
         .filter_map(|level| {
@@ -76,7 +76,7 @@ pub fn two_latest(table: &Table, left: &[u8]) -> Vec<u8> {
 /// LO rows above a HI row are counted with their need at G (rule 14.2).
 pub const LO_AT_DEGRADED: Planner = Planner {
     name: "LO jobs charged at G (rule 14.2)",
-    sequence: trial_sequence,
+    sequence: tried,
     trial: passes_with_lo_at_degraded,
 };
 
@@ -96,7 +96,7 @@ pub fn passes_with_lo_at_degraded(table: &Table, left: &[u8], placed: &[u8], row
 /// stand in row order.
 pub const DROPPING_LATE: Planner = Planner {
     name: "late jobs taken out (rule 14.3)",
-    sequence: trial_sequence,
+    sequence: tried,
     trial: |table, left, placed, row| {
         passes_with_late_dropped(table, &trial_order(left, placed, row), row)
     },
@@ -105,7 +105,7 @@ pub const DROPPING_LATE: Planner = Planner {
 /// The same fault with the rows above in falling row order.
 pub const DROPPING_LATE_FALLING: Planner = Planner {
     name: "late jobs taken out (rule 14.3), rows above in falling row order",
-    sequence: trial_sequence,
+    sequence: tried,
     trial: |table, left, placed, row| {
         let falling: Vec<u8> = left.iter().rev().copied().collect();
         passes_with_late_dropped(table, &trial_order(&falling, placed, row), row)
@@ -135,7 +135,7 @@ pub fn drop_late_rows(table: &Table, state: &mut State) {
 /// deadlines (rule 14.22), and pass if they are done in time.
 pub const PLANNED_RUNNING: Planner = Planner {
     name: "planned by the running rule (rule 14.22)",
-    sequence: trial_sequence,
+    sequence: tried,
     trial: |table, left, placed, row| {
         let state = worst_running(table, &trial_order(left, placed, row), row);
         kept_deadline(table, &state, row)
@@ -146,7 +146,7 @@ pub const PLANNED_RUNNING: Planner = Planner {
 /// deadline, which that of a LO row never is.
 pub const FINISHED_RUNNING: Planner = Planner {
     name: "worst finishes by the running rule (rule 14.22)",
-    sequence: trial_sequence,
+    sequence: tried,
     trial: |table, left, placed, row| {
         let state = worst_running(table, &trial_order(left, placed, row), row);
         state.closing[row as usize - 1] <= table.row(row).deadline
@@ -166,7 +166,7 @@ fn worst_running(table: &Table, order: &Order, row: u8) -> State {
 /// A HI row is tried among the HI rows alone (rule 14.4).
 pub const LO_LEFT_OUT: Planner = Planner {
     name: "LO jobs left out (rule 14.4)",
-    sequence: trial_sequence,
+    sequence: tried,
     trial: passes_without_lo,
 };
 
@@ -186,7 +186,7 @@ pub fn passes_without_lo(table: &Table, left: &[u8], placed: &[u8], row: u8) -> 
 /// job leaves of it goes to the next.
 pub const ROUNDING_ONCE: Planner = Planner {
     name: "works rounded once (rule 14.5)",
-    sequence: trial_sequence,
+    sequence: tried,
     trial: passes_with_slots_shared,
 };
 
@@ -219,7 +219,7 @@ pub fn passes_with_slots_shared(table: &Table, left: &[u8], placed: &[u8], row: 
 /// A preempted row loads again when it comes back (against rule 2.14).
 pub const LOADING_AGAIN: Planner = Planner {
     name: "loaded again after a preemption",
-    sequence: trial_sequence,
+    sequence: tried,
     trial: passes_with_loading_again,
 };
 
@@ -249,7 +249,7 @@ pub fn passes_with_loading_again(table: &Table, left: &[u8], placed: &[u8], row:
 /// 1.8).
 pub const LOADING_ONCE: Planner = Planner {
     name: "loading added once to the total",
-    sequence: trial_sequence,
+    sequence: tried,
     trial: |table, left, placed, row| {
         let order = trial_order(left, placed, row);
         slack(&table.with_loading(0), &order, row) >= i64::from(table.loading)
@@ -279,7 +279,7 @@ fn passes_with_changes(
 /// (against rule 1.9).
 pub const ALLOWANCE_WITHOUT_LOADING: Planner = Planner {
     name: "loading missing from LO allowances",
-    sequence: trial_sequence,
+    sequence: tried,
     trial: |table, left, placed, row| {
         passes_with_changes(table, &trial_order(left, placed, row), row, drop_early)
     },
@@ -299,7 +299,7 @@ fn drop_early(table: &Table, state: &mut State) {
 /// HI rows get work from their first slot on (against rule 1.8).
 pub const HI_WITHOUT_LOADING: Planner = Planner {
     name: "loading missing from HI needs",
-    sequence: trial_sequence,
+    sequence: tried,
     trial: |table, left, placed, row| {
         passes_with_changes(table, &trial_order(left, placed, row), row, load_high)
     },
@@ -317,7 +317,7 @@ fn load_high(table: &Table, state: &mut State) {
 /// for the slots after them (against rules 1.10 and 2.5).
 pub const LOADING_NOT_USED: Planner = Planner {
     name: "loading slots not counted as used",
-    sequence: trial_sequence,
+    sequence: tried,
     trial: |table, left, placed, row| {
         passes_with_changes(table, &trial_order(left, placed, row), row, keep_longer)
     },

@@ -4,23 +4,23 @@
 
 use crate::planners::Planner;
 use crate::search::{
-    every_promising_table, figures, first_promising_of, smallest_promising, witness, Kind, KINDS,
-    TRIED_PROMISING,
+    assert_told, every_promising_table, expect_by, figures, first_promising_of, smallest_promising,
+    told_by_cases, witness, Kind, KINDS, TRIED_PROMISING,
 };
 use crate::speeds::{accepted_cases, random_searches, told_by, Search};
 use crate::{answers, leaves};
 use model::cases::{
     checked_promises, least_of, promise_at_deadline, promise_runs, promises, promising_preview,
-    promising_table as table_of,
+    table as table_of,
 };
 use model::order::{orders, Order};
-use model::plan::{plan, slack, trial_order, trial_sequence, Plan};
-use model::random::{table_in, Random, Ranges};
+use model::plan::{plan, slack, trial_order, tried, Plan};
+use model::random::{table_in, tight_under, Random, Ranges};
 use model::run::{chosen, has_promised, run, running_step, State};
 use model::speeds::{least, Least, Sought, BOTH};
 use model::table::{
-    check_table, count_is_within_limit, loading_is_within_limit, need, promise_is_within_limit,
-    promised_need, row_is_within_limits, row_is_zero, speeds_are_within_limits, Row, Table, HI, LO,
+    count_is_within_limit, loading_is_within_limit, need, promise_is_within_limit, promised_need,
+    row_is_within_limits, row_is_zero, speeds_are_within_limits, Row, Table, HI, LO,
 };
 
 /// The slots that a LO row may use.
@@ -108,7 +108,7 @@ fn passes_with(table: &Table, order: &Order, row: u8, allowance: Allowance) -> b
 /// No fault.
 const PROMISING: Planner = Planner {
     name: "promises, no fault",
-    sequence: trial_sequence,
+    sequence: tried,
     trial: |table, left, placed, row| {
         passes_with(table, &trial_order(left, placed, row), row, of_both)
     },
@@ -116,7 +116,7 @@ const PROMISING: Planner = Planner {
 
 const PROMISE_AT_NORMAL: Planner = Planner {
     name: "the promise judged at N (against rule 3.9)",
-    sequence: trial_sequence,
+    sequence: tried,
     trial: |table, left, placed, row| {
         let order = trial_order(left, placed, row);
         in_time(table, &order, row, of_both) && has_part(table, &order, row, table.normal, of_both)
@@ -125,7 +125,7 @@ const PROMISE_AT_NORMAL: Planner = Planner {
 
 const ALLOWANCE_OF_WORK: Planner = Planner {
     name: "the allowance from c alone (against rule 1.9)",
-    sequence: trial_sequence,
+    sequence: tried,
     trial: |table, left, placed, row| {
         passes_with(table, &trial_order(left, placed, row), row, of_work)
     },
@@ -134,7 +134,7 @@ const ALLOWANCE_OF_WORK: Planner = Planner {
 /// Rows above have the allowance from c, and the row itself the one that it has.
 const SHORT_ABOVE: Planner = Planner {
     name: "the allowance of rows above from c alone (against rule 1.9)",
-    sequence: trial_sequence,
+    sequence: tried,
     trial: |table, left, placed, row| {
         let mut own_promise = table.without_promises();
         own_promise.promised[row as usize - 1] = table.row(row).promised;
@@ -144,7 +144,7 @@ const SHORT_ABOVE: Planner = Planner {
 
 const PART_WITHOUT_LOADING: Planner = Planner {
     name: "the allowance from r without K (against rule 1.9)",
-    sequence: trial_sequence,
+    sequence: tried,
     trial: |table, left, placed, row| {
         passes_with(table, &trial_order(left, placed, row), row, without_loading)
     },
@@ -152,7 +152,7 @@ const PART_WITHOUT_LOADING: Planner = Planner {
 
 const MOMENT_IS_FINISH: Planner = Planner {
     name: "the promised moment taken as the finish at G (against rule 3.9)",
-    sequence: trial_sequence,
+    sequence: tried,
     trial: |table, left, placed, row| {
         let order = trial_order(left, placed, row);
         let at_degraded = || finish(table, &order, row, table.degraded, of_both);
@@ -164,7 +164,7 @@ const MOMENT_IS_FINISH: Planner = Planner {
 
 const LARGER_SLACK: Planner = Planner {
     name: "the larger of the two slacks (against rule 3.7)",
-    sequence: trial_sequence,
+    sequence: tried,
     trial: |table, left, placed, row| {
         let order = trial_order(left, placed, row);
         let promises = table.row(row).promised > 0;
@@ -175,16 +175,13 @@ const LARGER_SLACK: Planner = Planner {
 
 const NOT_JUDGED: Planner = Planner {
     name: "the promise not judged (against rule 4.4)",
-    sequence: trial_sequence,
+    sequence: tried,
     trial: |table, left, placed, row| in_time(table, &trial_order(left, placed, row), row, of_both),
 };
 
 /// The smallest witness of these kinds is this table with these two answers.
 fn expect(planner: &Planner, kinds: &[Kind], table: Table, truth: Plan, faulty: Plan) {
-    let found = smallest_promising(planner, kinds).expect(planner.name);
-    assert_eq!(found.table, table, "{}", planner.name);
-    assert_eq!(found.truth, truth, "{}", planner.name);
-    assert_eq!(found.faulty, faulty, "{}", planner.name);
+    expect_by(smallest_promising, planner, kinds, table, truth, faulty);
 }
 
 /// Calls `visit` with every table with promises that is tried.
@@ -300,15 +297,9 @@ const RANGES: Ranges = Ranges {
 /// A table with an order under which no row has a slot to spare, each deadline moved by
 /// up to a slot.
 fn tight_table(random: &mut Random) -> Table {
-    let mut table = table_in(random, RANGES);
-    let order = random.one_of(&orders(table.n));
-    for index in 0..table.n as usize {
-        let spare = slack(&table, &order, index as u8 + 1);
-        let tight = i64::from(table.deadline[index]) - spare;
-        let moved = tight as u32 - 1 + random.between(0, 2);
-        table.deadline[index] = moved.max(table.release[index] + 1);
-    }
-    table
+    let table = table_in(random, RANGES);
+    let order = random.one_of(&orders(&table));
+    tight_under(random, &table, &order, &[-1, 0, 1])
 }
 
 /// The first case worked out by hand whose planner's answer tells each fault; random
@@ -339,15 +330,7 @@ fn cases_and_random_tables_that_tell_a_fault() {
     ];
     let mut random = Random::seeded(75);
     let tables: Vec<Table> = (0..4_000).map(|_| tight_table(&mut random)).collect();
-    for (planner, first) in expected {
-        let tells = |table: &Table| witness(planner, table).is_some();
-        let cases = promises().into_iter().filter(|case| tells(&case.table));
-        let told: Vec<&str> = cases.map(|case| case.what).collect();
-        let count = tables.iter().filter(|table| tells(table)).count();
-        println!("{}: {} cases, {count} tables", planner.name, told.len());
-        assert_eq!(told.first(), Some(&first), "{}", planner.name);
-        assert!(count > 8, "{}: {count} tables", planner.name);
-    }
+    assert_told(&expected, &promises(), &tables, 8);
 }
 
 /// The first run worked out by hand that tells each allowance with a fault.
@@ -487,15 +470,8 @@ fn any_promise(rows: &[Row]) -> u32 {
 /// The cases that tell a check with a fault (against rules 5.9 and 11.3).
 #[test]
 fn cases_that_tell_a_check() {
-    let told = |check_rows: fn(&[Row]) -> u32| -> Vec<&str> {
-        let cases = checked_promises().into_iter();
-        cases
-            .filter(|(_, table, number)| {
-                assert_eq!(check_table(table), *number);
-                check_with(table, check_rows) != *number
-            })
-            .map(|(what, ..)| what)
-            .collect()
+    let told = |check_rows: fn(&[Row]) -> u32| {
+        told_by_cases(checked_promises(), |table| check_with(table, check_rows))
     };
     let later_row = "12 before 5 in a later row";
     assert_eq!(told(promise_before_other_rows), [later_row]);

@@ -5,7 +5,7 @@ use crate::planners::Planner;
 use crate::search::{every_table, smallest, witness, Kind, KINDS, TRIED};
 use crate::{answers, expect, leaves};
 use model::cases::{p1, p2, p3, p4, table as table_of};
-use model::plan::{plan, trial_sequence};
+use model::plan::{plan, tried};
 use model::random::{table_in, Random, Ranges};
 use model::table::{allowance, need, Table, LO};
 
@@ -53,7 +53,7 @@ fn passes(table: &Table, rows: &[u8], row: u8, is_over: fn(u32, u32) -> bool) ->
 /// No fault: every trial has the sweep of its place and speed.
 const SWEEPING: Planner = Planner {
     name: "by sweeps, no fault",
-    sequence: trial_sequence,
+    sequence: tried,
     trial: |table, left, _, row| passes(table, left, row, by_then),
 };
 
@@ -61,7 +61,7 @@ const SWEEPING: Planner = Planner {
 /// 4.4).
 const STALE: Planner = Planner {
     name: "a finish that still counts the row placed last",
-    sequence: trial_sequence,
+    sequence: tried,
     trial: |table, left, placed, row| {
         let last = &placed[..placed.len().min(1)];
         passes(table, &[left, last].concat(), row, by_then)
@@ -71,35 +71,35 @@ const STALE: Planner = Planner {
 /// A busy period goes on if the next row is released just when it ends.
 const JOINED_AT_ZERO: Planner = Planner {
     name: "a busy period not split at a gap of 0 slots",
-    sequence: trial_sequence,
+    sequence: tried,
     trial: |table, left, _, row| passes(table, left, row, |end, release| end < release),
 };
 
 /// A busy period ends though it has a slot left when the next row is released.
 const SPLIT_EARLY: Planner = Planner {
     name: "a busy period split though rows overlap by a slot",
-    sequence: trial_sequence,
+    sequence: tried,
     trial: |table, left, _, row| passes(table, left, row, |end, release| end <= release + 1),
 };
 
 /// LO rows are tried with the sweep at G (against rule 3.5).
 const LO_BY_DEGRADED: Planner = Planner {
     name: "LO rows by the sweep at G",
-    sequence: trial_sequence,
+    sequence: tried,
     trial: |table, left, _, row| swept(table, left, row, false, by_then) <= table.row(row).deadline,
 };
 
 /// HI rows are tried with the sweep at N (against rule 3.5).
 const HI_BY_NORMAL: Planner = Planner {
     name: "HI rows by the sweep at N",
-    sequence: trial_sequence,
+    sequence: tried,
     trial: |table, left, _, row| swept(table, left, row, true, by_then) <= table.row(row).deadline,
 };
 
 /// The sweep starts with the row that is tried, as if none before it had work left.
 const FROM_ROW_TRIED: Planner = Planner {
     name: "a sweep from the row tried on",
-    sequence: trial_sequence,
+    sequence: tried,
     trial: |table, left, _, row| {
         let from = table.row(row).release;
         passes(table, &released_from(table, left, from), row, by_then)
@@ -110,7 +110,7 @@ const FROM_ROW_TRIED: Planner = Planner {
 /// the start of the busy period that lost it. Rows released before keep a right finish.
 const FROM_ROW_PLACED: Planner = Planner {
     name: "a sweep from the row placed last on",
-    sequence: trial_sequence,
+    sequence: tried,
     trial: |table, left, placed, row| {
         let from = placed.first().map_or(0, |&last| table.row(last).release);
         if table.row(row).release < from {

@@ -58,9 +58,8 @@ fn print_conditions() {
     println!("write them whole, but of a sheet's or a report's buffer just the text. Run");
     println!("records stay in place from slot to slot; a forward call starts from a copy of a");
     println!("fresh record, and one slot about a deadline from a copy of its record, which is");
-    println!(
-        "in the time of both. K is 0 slots, and no row promises a part, where it is not named."
-    );
+    println!("in the time of both. K is 0 slots, and no row promises a part or follows another,");
+    println!("where it is not named.");
     println!("Times are the best of several batches that take turns.\n");
 }
 

@@ -3,7 +3,9 @@
 
 use crate::{for_each_count, pairs, Input};
 use compiled::raw;
-use compiled::sheets::{easy, hard, hard_loading, late_promises, one_period, promising, staggered};
+use compiled::sheets::{
+    chain, easy, grouped, hard, hard_loading, late_promises, one_period, promising, staggered,
+};
 use model::planners::{each_place, each_trial};
 use model::table::{Table, MOST_LOADING};
 use std::hint::black_box;
@@ -11,7 +13,7 @@ use std::hint::black_box;
 /// What a table is like, and how it is made with so many rows.
 type Kind = (&'static str, fn(u32) -> Table);
 
-const KINDS: [Kind; 8] = [
+const KINDS: [Kind; 10] = [
     ("plan, hard", hard),
     ("plan, hard, K 16", |n| hard_loading(n, MOST_LOADING)),
     ("plan, easy", easy),
@@ -20,6 +22,8 @@ const KINDS: [Kind; 8] = [
     ("plan, hard, promises", |n| promising(&hard(n))),
     ("plan, easy, promises", |n| promising(&easy(n))),
     ("plan, late promises", |n| late_promises(n, 0)),
+    ("plan, a chain", |n| chain(n, 0)),
+    ("plan, hard, waits", |n| grouped(n, 0)),
 ];
 
 pub fn measure() {
@@ -31,11 +35,11 @@ pub fn measure() {
     println!(
         "in which every LO row promises the work of one slot at G, and hard ones whose LO rows"
     );
-    println!("fail for that promise alone. Plain Rust makes a sweep for each trial, and in its");
-    println!(
-        "other planner one for each place and speed, over the busy period that has lost a row;"
-    );
-    println!("a promise has a sweep of its own in both.\n");
+    println!("fail for that promise alone; chains, in which every row follows the one before it");
+    println!("and all but one are skipped at each place, and hard ones in which of every three LO");
+    println!("rows two are followed by the next. Plain Rust makes a sweep for each trial, and in");
+    println!("its other planner one for each place and speed, over the busy period that has lost");
+    println!("a row; a promise has a sweep of its own in both.\n");
     pairs::print_head_with_two("trials", "each trial", "each place");
     for (kind, make) in KINDS {
         for_each_count(|n| measure_kind(kind, &make(n)));

@@ -4,6 +4,7 @@
 use crate::{for_each_count, pairs, Input};
 use compiled::raw::{self, StateWords};
 use compiled::sheets::easy;
+use model::cases::row;
 use model::order::order_of;
 use model::plain;
 use model::record::Record;
@@ -64,13 +65,7 @@ fn low_rows_open(n: u32, loading: u32, promised: u32) -> Record {
             last if last + 1 == n => (HI, 0),
             _ => (LO, promised),
         };
-        Row {
-            release: 20 * index,
-            work: MILLION,
-            deadline: MILLION,
-            level,
-            promised,
-        }
+        row([20 * index, MILLION, MILLION, level, promised])
     };
     let rows: Vec<Row> = (0..n).map(row).collect();
     let table = Table::of(7, 3, loading, &rows);
@@ -82,13 +77,7 @@ fn low_rows_open(n: u32, loading: u32, promised: u32) -> Record {
 /// A record at this clock, in slots, in which all rows are at this level, open and of
 /// one deadline, and none has run.
 fn at_clock(n: u32, level: u32, clock: u32) -> Record {
-    let row = Row {
-        release: 0,
-        work: 1_000_000,
-        deadline: DEADLINE,
-        level,
-        promised: 0,
-    };
+    let row = row([0, MILLION, DEADLINE, level]);
     let input = Input::of(&Table::of(7, 3, 0, &vec![row; n as usize]));
     let (_, fresh) = Record::fresh(&input.table, &input.order);
     Record { clock, ..fresh }
@@ -143,13 +132,7 @@ fn measure_from(what: &str, record: &Record) {
 /// A table of n rows at this level that fill a million slots, or little more with
 /// a loading time (slots), at one work unit per slot.
 pub fn busy(n: u32, level: u32, loading: u32) -> Table {
-    let row = Row {
-        release: 0,
-        work: MILLION / n,
-        deadline: MILLION,
-        level,
-        promised: 0,
-    };
+    let row = row([0, MILLION / n, MILLION, level]);
     Table::of(1, 1, loading, &vec![row; n as usize])
 }
 
@@ -166,12 +149,9 @@ fn promising_all(n: u32) -> Table {
 /// while all others wait, each at the level that its row number gives and with its own
 /// deadline: the last one after so many slots, the others evenly before it.
 fn waiting(n: u32, level: fn(u32) -> u32, last: u32) -> Table {
-    let row = |number: u32| Row {
-        release: 0,
-        work: MILLION,
-        deadline: last / n * number,
-        level: if number == 1 { HI } else { level(number) },
-        promised: 0,
+    let row = |number: u32| {
+        let level = if number == 1 { HI } else { level(number) };
+        row([0, MILLION, last / n * number, level])
     };
     let rows: Vec<Row> = (1..=n).map(row).collect();
     Table::of(1, 1, 0, &rows)
