@@ -116,15 +116,16 @@ static const char *level_word(uint32_t level) {
 
 /* A sheet of one row that the reader accepts. Probes put one part of another sheet in its place. */
 static const char PROBE[] = "       1       1       1       0\n"
-                            "       0       1       1       0       0\n";
+                            "       0       1       1       0       0       0\n";
 enum {
     PROBE_LENGTH = JB_FIRST_LINE + JB_ROW_LINE,
     FIRST_LINE_FIELDS = 4,
     LOADING_FIELD = 4, /* that of K in the first line, from 1 */
-    ROW_FIELDS = 5,
+    ROW_FIELDS = 6,
     WORK_FIELD = 2,
     LEVEL_FIELD = 4,
     PROMISED_FIELD = 5, /* that of the promised part in the line of a row */
+    FOLLOWS_FIELD = 6,  /* that of the followed row */
     LINE_END = 10
 };
 
@@ -365,6 +366,32 @@ static void find_promise_fault(const uint8_t *bytes, size_t length, fault *found
     }
 }
 
+/* The table of a sheet that is refused for its waits: read without them, with the followed rows put in as they stand. */
+static void read_with_waits(const uint8_t *bytes, size_t length, jb_table *table) {
+    uint8_t copy[JB_LONGEST_SHEET];
+    memcpy(copy, bytes, length);
+    for (size_t at = field_begin(1, FOLLOWS_FIELD); at + JB_FIELD < length; at += JB_ROW_LINE) {
+        jb_field(0, copy + at);
+    }
+    jb_read_table(copy, length, table);
+    for (uint32_t row = 1; row <= table->n; row++) {
+        table->follows[row - 1] = figure_of(bytes, row, FOLLOWS_FIELD);
+    }
+}
+
+/* Whose followed row made the reader answer 13, 14 or 15. */
+static void find_wait_fault(uint32_t number, const uint8_t *bytes, size_t length, fault *found) {
+    refused_figure refused = {0, 0, {0}};
+    jb_table table;
+    read_with_waits(bytes, length, &table);
+    find_refused_wait(&table, &refused);
+    if (refused.row != 0) {
+        note_field(bytes, (uint32_t)refused.row, FOLLOWS_FIELD, found);
+        const size_t said = strlen(found->what);
+        name_wrong_wait(number, &table, refused.row, found->what + said, sizeof found->what - said);
+    }
+}
+
 /* Where and why the reader answered this number. */
 static void find_fault(uint32_t number, const uint8_t *bytes, size_t length, fault *found) {
     memset(found, 0, sizeof *found);
@@ -376,6 +403,9 @@ static void find_fault(uint32_t number, const uint8_t *bytes, size_t length, fau
     case JB_LOADING: note_field(bytes, 0, LOADING_FIELD, found); break;
     case JB_ROW_LIMITS: find_row_fault(bytes, length, found); break;
     case JB_PROMISED: find_promise_fault(bytes, length, found); break;
+    case JB_NOT_LOWER:
+    case JB_RELEASED_LATER:
+    case JB_FOLLOWS_LOW: find_wait_fault(number, bytes, length, found); break;
     default: break;
     }
 }
@@ -444,8 +474,9 @@ static void put_allowed(FILE *to, const uint8_t *bytes, const fault *found) {
     if (kind->other != 0) {
         other = figure_of(bytes, found->row, (uint32_t)kind->other + (found->row == 0));
     }
-    const bool high = kind->of_low_rows && figure_of(bytes, found->row, LEVEL_FIELD) != JB_LO;
-    name_allowed(kind, high, kind->other == 0 ? NULL : &other, allowed, sizeof allowed);
+    const bool high = found->row != 0 && figure_of(bytes, found->row, LEVEL_FIELD) != JB_LO;
+    const figure_line line = {found->row, high, kind->other == 0 ? NULL : &other};
+    name_allowed(kind, &line, allowed, sizeof allowed);
     fprintf(to, "allowed: %s\n", allowed);
 }
 
@@ -476,11 +507,37 @@ static void put_rows_left(FILE *to, uint64_t left) {
     fputc('\n', to);
 }
 
-/* Says that no correct order exists, which rows are left, and what was not looked for. */
-static void explain_no_order(FILE *to, uint64_t left) {
+static bool any_waits(const jb_table *table) {
+    bool any = false;
+    for (uint32_t index = 0; index < table->n; index++) {
+        any = any || table->follows[index] != 0;
+    }
+    return any;
+}
+
+static jb_table without_waits(const jb_table *table) {
+    jb_table other = *table;
+    memset(other.follows, 0, sizeof other.follows);
+    return other;
+}
+
+/* Says of a table without a correct order, if rows of it follow rows, whether it would have one if none did. */
+static void put_waits_matter(FILE *to, const jb_table *table) {
+    const jb_table other = without_waits(table);
+    uint8_t order[JB_ROWS];
+    uint64_t left;
+    if (any_waits(table)) {
+        const bool matter = jb_plan_table(&other, order, &left) == JB_OK;
+        fprintf(to, "waits: without them %s\n", matter ? "a correct order exists" : "no correct order exists either");
+    }
+}
+
+/* Says that no correct order exists, which rows are left, whether waits are the reason, and what was not looked for. */
+static void explain_no_order(FILE *to, const jb_table *table, uint64_t left) {
     put_words(to, JB_NO_ORDER);
     fputs("rows left:", to);
     put_rows_left(to, left);
+    put_waits_matter(to, table);
     put_remedy(to, JB_NO_ORDER);
     fputs("not looked for: orders that would serve only because runs drop LO rows at their deadlines\n", to);
 }
@@ -491,10 +548,15 @@ static bool lacks_loading(const uint8_t *bytes, size_t length) {
     return length > begin && is_line_end(bytes[begin]) && ask_probe(0, bytes, begin) != JB_MALFORMED;
 }
 
-/* The line that begins here is well formed up to the field of a promised part, and ends where that begins. */
-static bool lacks_promised(const uint8_t *bytes, size_t length, size_t line) {
-    const size_t end = line + field_begin(0, PROMISED_FIELD);
+/* The line that begins here is well formed up to a field of a row, and ends where that begins. */
+static bool ends_before(const uint8_t *bytes, size_t length, size_t line, uint32_t field) {
+    const size_t end = line + field_begin(0, field);
     return length > end && is_line_end(bytes[end]) && ask_probe(JB_FIRST_LINE, bytes + line, end - line) != JB_MALFORMED;
+}
+
+/* How many fields the line of a row that begins here lacks, as in older sheets: that of the followed row, or the last two. */
+static unsigned row_lacks(const uint8_t *bytes, size_t length, size_t line) {
+    return ends_before(bytes, length, line, FOLLOWS_FIELD) ? 1 : ends_before(bytes, length, line, PROMISED_FIELD) ? 2 : 0;
 }
 
 /* The reader finds nothing malformed in the first line. */
@@ -502,34 +564,42 @@ static bool has_first_line(const uint8_t *bytes, size_t length) {
     return length >= JB_FIRST_LINE && ask_probe(0, bytes, JB_FIRST_LINE) != JB_MALFORMED;
 }
 
-/* Says what to do with a rows file that was given for a sheet, and with a sheet from before promised parts, or from before K. */
+/* What is missing in an older sheet, and what brings it up: without K's field or with it, and how many fields each row lacks. */
+static const char *const OLDER_SHEETS[2][3] = {
+    {"",
+     "the field of the followed row (a row number) is missing; a sheet from before rows could follow rows is brought up by a "
+     "field '       0' before the line end of each row: sed '2,$s/$/       0/' SHEET",
+     "the fields of the promised part (in work units) and of the followed row (a row number) are missing; a sheet from before "
+     "both is brought up by two fields '       0' before the line end of each row: sed '2,$s/$/       0       0/' SHEET"},
+    {"the field of K (loading, in slots) is missing; a sheet from before K is brought up by a field '       0' before its first "
+     "line end: sed '1s/$/       0/' SHEET",
+     "the fields of K (loading, in slots) and of the followed row (a row number) are missing; they are brought in by a field "
+     "'       0' before each line end: sed 's/$/       0/' SHEET",
+     "the fields of K (loading, in slots), of the promised part (in work units) and of the followed row (a row number) are "
+     "missing; a sheet from before all three is brought up by a field '       0' before each line end, and another one before "
+     "that of each row: sed 's/$/       0/; 2,$s/$/       0/' SHEET"}};
+
+/* Says what to do with a rows file that was given for a sheet, and with an older sheet. */
 static void put_hint(FILE *to, const sheet_file *sheet) {
     sheet_file copy = *sheet;
     const text_piece text = {copy.bytes, copy.length};
     const bool no_loading = lacks_loading(sheet->bytes, sheet->length);
     const size_t rows = no_loading ? field_begin(0, LOADING_FIELD) + 1 : JB_FIRST_LINE;
-    const bool no_promised = lacks_promised(sheet->bytes, sheet->length, rows);
+    const bool first_line = no_loading || has_first_line(sheet->bytes, sheet->length);
+    const unsigned lacking = first_line ? row_lacks(sheet->bytes, sheet->length, rows) : 0;
     if (begins_as_rows_file(text)) {
         fputs("hint: this is a rows file; 'jasminebrace sheet ROWS.csv' makes a sheet of it\n", to);
-    } else if (no_loading && no_promised) {
-        fputs("hint: the fields of K (loading, in slots) and of promised parts (in work units) are missing; a sheet from before "
-              "both is brought up by a field '       0' before each line end: sed 's/$/       0/' SHEET\n",
-              to);
-    } else if (no_promised && has_first_line(sheet->bytes, sheet->length)) {
-        fputs("hint: the field of the promised part (in work units) is missing; a sheet from before promised parts is brought up "
-              "by a field '       0' before the line end of each row: sed '2,$s/$/       0/' SHEET\n",
-              to);
-    } else if (no_loading) {
-        fputs("hint: the field of K (loading, in slots) is missing; a sheet from before K is brought up by a field "
-              "'       0' before its first line end: sed '1s/$/       0/' SHEET\n",
-              to);
+    } else if (no_loading || lacking != 0) {
+        fprintf(to, "hint: %s\n", OLDER_SHEETS[no_loading][lacking]);
     }
 }
 
 /* Says why a sheet was answered with a number other than 0. */
 static void explain_number(FILE *to, uint32_t number, const sheet_file *sheet, uint64_t left) {
     if (number == JB_NO_ORDER) {
-        explain_no_order(to, left);
+        jb_table table;
+        jb_read_table(sheet->bytes, sheet->length, &table);
+        explain_no_order(to, &table, left);
     } else {
         explain_refusal(to, number, sheet->bytes, sheet->length);
         put_hint(to, sheet);
@@ -686,12 +756,53 @@ static int refuse_sheet(const request *asked, uint32_t number, const sheet_file 
     return status_of(number);
 }
 
-/* Says a refusal of an order, or of a slot. */
-static int refuse_call(const request *asked, uint32_t number) {
-    if (asked->plain && number == JB_NOT_AN_ORDER) {
+/* Says a refusal that is none of an order that was given. */
+static int refuse_call(uint32_t number) {
+    put_words(stderr, number);
+    put_remedy(stderr, number);
+    return status_of(number);
+}
+
+/* The place of a row in an order, from 1. */
+static uint32_t place_of(const order_list *order, uint32_t row) {
+    uint32_t place = 1;
+    while (place < JB_ROWS && order->places[place - 1] != row) {
+        place++;
+    }
+    return place;
+}
+
+/*
+ * The row whose wait makes the archive refuse an order of a table: the first one such
+ * that it does so where this row and those before it wait; 0 where it would refuse the
+ * order without any waits.
+ */
+static uint32_t broken_wait(const jb_table *table, const order_list *order) {
+    jb_table other = without_waits(table);
+    uint32_t finishes[JB_ROWS];
+    uint32_t row = 0;
+    while (jb_worst_finishes(&other, order->places, finishes) == JB_OK) {
+        if (row == table->n) {
+            return 0;
+        }
+        other.follows[row] = table->follows[row];
+        row++;
+    }
+    return row;
+}
+
+/* Says a refusal of an order, and which row stands in it above the one that it follows, if that is the reason. */
+static int refuse_order(const request *asked, uint32_t number, const jb_table *table, const order_list *order) {
+    const uint32_t row = broken_wait(table, order);
+    if (asked->plain) {
         put_two_fields(number, 0);
     }
     put_words(stderr, number);
+    if (row != 0) {
+        const uint32_t followed = table->follows[row - 1];
+        fprintf(stderr, "where: place %" PRIu32 ", row %" PRIu32 ": it follows row %" PRIu32, place_of(order, row), row, followed);
+        fprintf(stderr, ", which stands below it, in place %" PRIu32 "\n", place_of(order, followed));
+    }
     put_remedy(stderr, number);
     return status_of(number);
 }
@@ -761,10 +872,11 @@ static uint32_t take_times(const jb_table *table, const uint8_t order[JB_ROWS], 
 /*
  * The moment of a row's promised part under an order, in slots: the archive's worst
  * finish of a HI row that has this part as its work and stands in the row's place. 0
- * where nothing is promised.
+ * where nothing is promised. Waits are left out: under an order that keeps them they
+ * change no slot, and the archive lets no HI row follow a LO row.
  */
 static uint32_t promised_moment(const jb_table *table, const uint8_t order[JB_ROWS], uint32_t row) {
-    jb_table other = *table;
+    jb_table other = without_waits(table);
     uint32_t worst[JB_ROWS];
     if (table->promised[row - 1] == 0) {
         return 0;
@@ -797,12 +909,21 @@ static int plan_plain(const sheet_file *sheet) {
     return status_of(number);
 }
 
+/* Says a row, its level, and the row that it follows, if it follows one. */
+static void put_row(const jb_table *table, uint32_t row) {
+    printf("row %" PRIu32 " (%s", row, level_word(table->level[row - 1]));
+    if (table->follows[row - 1] != 0) {
+        printf(", follows row %" PRIu32, table->follows[row - 1]);
+    }
+    putchar(')');
+}
+
 /* Says a correct order with the slack of each place; in the plain form the lines of its places alone. */
 static int put_correct_order(const request *asked, const jb_table *table, const uint8_t order[JB_ROWS]) {
     row_times times;
     const uint32_t number = take_times(table, order, &times);
     if (number != JB_OK) {
-        return refuse_call(asked, number);
+        return refuse_call(number);
     }
     if (!asked->plain) {
         printf("a correct order of %" PRIu32 " %s, highest place first\n", table->n, table->n == 1 ? "row" : "rows");
@@ -813,8 +934,9 @@ static int put_correct_order(const request *asked, const jb_table *table, const 
         if (asked->plain) {
             put_three_fields(place, row, (uint32_t)slack);
         } else {
-            printf("place %" PRIu32 ": row %" PRIu32 " (%s), slack %" PRId64 " %s\n", place, row,
-                   level_word(table->level[row - 1]), slack, slots(slack));
+            printf("place %" PRIu32 ": ", place);
+            put_row(table, row);
+            printf(", slack %" PRId64 " %s\n", slack, slots(slack));
         }
     }
     return FINE;
@@ -854,7 +976,7 @@ static int judge(const request *asked) {
     }
     const uint32_t number = jb_judge_order(&table, order.places, &yes, &row, &slack);
     if (number != JB_OK) {
-        return refuse_call(asked, number);
+        return refuse_order(asked, number, &table, &order);
     }
     if (asked->plain) {
         put_field(number);
@@ -900,7 +1022,8 @@ static void put_times(const request *asked, const jb_table *table, const row_tim
         putchar('\n');
         return;
     }
-    printf("row %" PRIu32 " (%s): worst finish %" PRIu32 " %s", row, level_word(table->level[row - 1]), finish, slots(finish));
+    put_row(table, row);
+    printf(": worst finish %" PRIu32 " %s", finish, slots(finish));
     if (promised != 0) {
         printf(", promised part at %" PRIu32 " %s", promised, slots(promised));
     }
@@ -917,7 +1040,7 @@ static int finishes(const request *asked) {
     }
     const uint32_t number = take_times(&table, order.places, &times);
     if (number != JB_OK) {
-        return refuse_call(asked, number);
+        return refuse_order(asked, number, &table, &order);
     }
     put_heading(asked, &order, table.n);
     for (uint32_t row = 1; row <= table.n; row++) {
@@ -945,7 +1068,7 @@ static int report(const request *asked) {
     }
     const uint32_t number = jb_report_order(&table, order.places, text, sizeof text, &length);
     if (number != JB_OK) {
-        return refuse_call(asked, number);
+        return refuse_order(asked, number, &table, &order);
     }
     if (!asked->plain) {
         fputs(REPORT_HEADING, stdout);
@@ -992,6 +1115,18 @@ static bool any_promised(const jb_table *table, uint64_t rows) {
     return any;
 }
 
+/* What the rows left at these speeds may need: fewer waits if there is an order without any. */
+static void put_rows_remedy(FILE *to, const jb_table *table, uint32_t normal, uint32_t degraded) {
+    uint64_t left;
+    uint64_t none;
+    plan_at(*table, normal, degraded, &left);
+    const bool promised = any_promised(table, left);
+    const bool fewer = any_waits(table) && plan_at(without_waits(table), normal, degraded, &none) == JB_OK;
+    fprintf(to, "remedy: give the rows left later deadlines%s less work", promised || fewer ? "," : " or");
+    fputs(!promised ? "" : fewer ? ", smaller promised parts" : " or smaller promised parts", to);
+    fputs(fewer ? " or fewer waits" : "", to);
+}
+
 /*
  * What to do where no speed of a range will do, as far as it can help: a larger
  * speed of the other kind if there is an order with both at their largest, a smaller
@@ -1001,9 +1136,7 @@ static void put_speed_remedy(FILE *to, const search *of, const jb_table *table, 
     jb_table unloaded = *table;
     unloaded.loading = 0;
     uint64_t left;
-    plan_at(*table, normal, degraded, &left);
-    fprintf(to, "remedy: give the rows left later deadlines%s",
-            any_promised(table, left) ? ", less work or smaller promised parts" : " or less work");
+    put_rows_remedy(to, table, normal, degraded);
     const bool faster = plan_at(*table, JB_MOST_SPEED, JB_MOST_SPEED, &left) == JB_OK;
     const bool lighter = plan_at(unloaded, normal, degraded, &left) == JB_OK;
     if (faster && lighter) {
@@ -1132,7 +1265,7 @@ static int slacks(const request *asked) {
     row_times times;
     uint32_t number = take_times(&table, order.places, &times);
     if (number != JB_OK) {
-        return refuse_call(asked, number);
+        return refuse_order(asked, number, &table, &order);
     }
     put_heading(asked, &order, table.n);
     for (uint32_t place = 1; asked->plain && place <= table.n; place++) {
@@ -1403,12 +1536,24 @@ static uint32_t run_stretches(const request *asked, jb_run *run, const uint32_t 
     return JB_OK;
 }
 
+/* Says an open row: that it is late, and for which row it waits. */
+static void put_open_row(const jb_run *run, uint32_t row) {
+    const bool late = jb_is_late(run, row);
+    printf(" %" PRIu32, row);
+    if (jb_is_waiting(run, row)) {
+        printf(" (%swaits for row %" PRIu32 ")", late ? "late, " : "", run->table.follows[row - 1]);
+    } else if (late) {
+        fputs(" (late)", stdout);
+    }
+}
+
 static void put_open_rows(const jb_run *run) {
     bool any = false;
     printf("after %" PRIu32 " %s:", run->clock, slots(run->clock));
     for (uint32_t row = 1; row <= run->table.n; row++) {
         if (jb_is_open(run, row)) {
-            printf("%s %" PRIu32 "%s", any ? "," : " rows still open:", row, jb_is_late(run, row) ? " (late)" : "");
+            fputs(any ? "," : " rows still open:", stdout);
+            put_open_row(run, row);
             any = true;
         }
     }
@@ -1428,14 +1573,14 @@ static int run_with(const request *asked, const uint32_t *supplies, size_t count
     }
     uint32_t number = jb_fresh_run(&table, order.places, &run);
     if (number != JB_OK) {
-        return refuse_call(asked, number);
+        return refuse_order(asked, number, &table, &order);
     }
     put_heading(asked, &order, table.n);
     number = asked->stretches ? run_stretches(asked, &run, supplies, count) : run_slots(asked, &run, supplies, count);
     if (!asked->plain) {
         put_open_rows(&run);
     }
-    return number == JB_OK ? FINE : refuse_call(asked, number);
+    return number == JB_OK ? FINE : refuse_call(number);
 }
 
 static int run(const request *asked) {
@@ -1559,7 +1704,8 @@ static int take_first_words(char **words, size_t count, jb_table *table) {
         const text_piece word = {(uint8_t *)words[index], strlen(words[index])};
         cells[index] = without_blanks(word);
     }
-    const size_t wrong = read_cells(cells, TABLE_KINDS, TABLE_COLUMNS, figures, what, sizeof what);
+    const cell_line line = {cells, TABLE_KINDS, TABLE_COLUMNS, 0};
+    const size_t wrong = read_cells(&line, figures, what, sizeof what);
     if (wrong != 0) {
         return not_usable("%s: %s%s", TABLE_KINDS[wrong - 1].name, what, more_on_word(wrong, cells[wrong - 1]));
     }
@@ -1568,8 +1714,9 @@ static int take_first_words(char **words, size_t count, jb_table *table) {
 }
 
 /*
- * Takes a row, counted from 1, from a word; without a fifth figure nothing is promised.
- * Gives FINE, or NOT_USABLE with the reason said.
+ * Takes a row, counted from 1, from a word; without a fifth figure nothing is promised,
+ * and without a sixth the row follows none. Gives FINE, or NOT_USABLE with the reason
+ * said.
  */
 static int take_row_word(char *word, size_t row, jb_table *table) {
     text_piece cells[ROW_COLUMNS];
@@ -1580,15 +1727,16 @@ static int take_row_word(char *word, size_t row, jb_table *table) {
     for (const char *byte = word; *byte != '\0'; byte++) {
         columns += *byte == ',';
     }
-    if (columns != ROW_COLUMNS && columns != PROMISED_COLUMN - 1) {
-        return not_usable("a row is release,work,deadline,level or release,work,deadline,level,promised: '%s'", word);
+    if (columns < LEVEL_COLUMN || columns > ROW_COLUMNS) {
+        return not_usable("a row is release,work,deadline,level or these and promised, or these and follows: '%s'", word);
     }
     for (size_t index = 0; index < columns; index++) {
         const text_piece part = {(uint8_t *)at, strcspn(at, ",")};
         cells[index] = without_blanks(part);
         at += part.length + 1;
     }
-    const size_t wrong = read_cells(cells, ROW_KINDS, columns, figures, what, sizeof what);
+    const cell_line line = {cells, ROW_KINDS, columns, row};
+    const size_t wrong = read_cells(&line, figures, what, sizeof what);
     if (wrong != 0) {
         return not_usable("row %zu, %s: %s", row, ROW_KINDS[wrong - 1].name, what);
     }
@@ -1662,7 +1810,9 @@ static const char PLAN_HELP[] =
     "got that part when every slot supplies exactly G. Plans do not count on LO rows\n"
     "being dropped at their deadlines, as run drops them: for correct orders and worst\n"
     "finishes late rows go on. So where the answer is 7, an order may still serve, only\n"
-    "because late LO rows are dropped; such orders are not looked for.\n"
+    "because late LO rows are dropped; such orders are not looked for. A row that follows\n"
+    "another stands below it, and orders in which it does not are not looked for either:\n"
+    "beside a 7 it is said whether there is a correct order without such waits.\n"
     "\n"
     "--plain: what the planning program writes. First line: 0 and the row count, or\n"
     "a refusal's number and the count of rows left, which is 0 but for 7. After 0 a\n"
@@ -1672,7 +1822,8 @@ static const char JUDGE_HELP[] =
     "says whether an order is correct, the row of least slack and that slack in slots\n"
     "\n"
     "ROW.. is the order: row numbers, highest place first, with spaces or commas\n"
-    "between them. On a tie the lower row is named.\n"
+    "between them. On a tie the lower row is named. An order in which a row stands above\n"
+    "the one that it follows is refused with 6, and that row is named.\n"
     "\n"
     "--plain: one line: 0, yes as 1 or no as 0, row of least slack, that slack in slots if\n"
     "it is above 0, and the slots by which it is below 0 (at least one of these two is\n"
@@ -1754,7 +1905,9 @@ static const char RUN_HELP[] =
     "after that of the slot or of the stretch. A HI row goes on until it is done, late\n"
     "if that is after its deadline.\n"
     "Of a row with a promised part the clock is named at which it got that part, and when\n"
-    "it is dropped, whether it has got it.\n"
+    "it is dropped, whether it has got it. A row that follows another does not run before\n"
+    "that one has closed, done or dropped; of rows still open at the end it is said for\n"
+    "which row they wait.\n"
     "The clock ends at 2,000,000 slots: a supply beyond that is refused with 8.\n"
     "\n"
     "--plain: first line: 0 and the row count, or a refusal's number and the count of\n"
@@ -1786,26 +1939,29 @@ static const char SHEET_HELP[] =
     "ROWS.csv is a rows file, or - for standard input: what jasminebrace rows writes,\n"
     "and what a spreadsheet program saves of it as CSV, with commas:\n"
     "\n"
-    "  normal speed N (work units per slot),degraded speed G (work units per slot),loading K (slots),,\n"
-    "  5,2,0,,\n"
-    "  release (slots),work (work units),deadline (slots),level (HI or LO),promised (work units)\n"
-    "  0,20,10,HI,0\n"
-    "  5,15,10,LO,4\n"
+    "  normal speed N (work units per slot),degraded speed G (work units per slot),loading K (slots),,,\n"
+    "  5,2,0,,,\n"
+    "  release (slots),work (work units),deadline (slots),level (HI or LO),promised (work units),follows (row or 0)\n"
+    "  0,20,10,HI,0,0\n"
+    "  5,15,10,LO,4,1\n"
     "\n"
     "The headings stay as they are, upper or lower case; they say the order of the\n"
     "columns and their units. A figure is a whole number with digits alone: no sign,\n"
     "point, comma or zero before it. A level is HI or LO, or 1 or 0. Cells may stand in\n"
     "double quotes with blanks around; lines may end with LF, CR LF or CR; a UTF-8 byte\n"
-    "order mark and empty cells and lines at the end do no harm. A file without the last\n"
-    "column, from before there were promised parts, promises none. There is no row count:\n"
-    "a file that is cut off at a line end is taken as fewer rows. A file may have up to\n"
-    "16,777,216 bytes.\n"
+    "order mark and empty cells and lines at the end do no harm. In a file without the last\n"
+    "column, from before rows could follow rows, no row follows another; in one without\n"
+    "the last two, from before there were promised parts, none is promised either. There is\n"
+    "no row count: a file that is cut off at a line end is taken as fewer rows. A file may\n"
+    "have up to 16,777,216 bytes.\n"
     "\n"
     "Without a file: N and G are the normal and the degraded speed in work units per\n"
     "slot, K is the loading of each job in slots, 0 where no job loads; RELEASE and\n"
     "DEADLINE are in slots, WORK and PROMISED in work units, LEVEL is as above. PROMISED\n"
     "is the part of a LO job's work that it is to have at its deadline whenever every slot\n"
-    "supplies at least G; it may be left out, and is 0 then, as on every HI job.\n"
+    "supplies at least G; it may be left out, and is 0 then, as on every HI job. FOLLOWS is\n"
+    "the row that has to be closed before this one runs: a row above it, released no later,\n"
+    "and HI if this one is. It is 0 for none, and may be left out then.\n"
     "\n"
     "What cannot be taken for a figure, a level or a heading ends with status 3, what\n"
     "the archive refuses with status 2; both name the place and what is allowed.\n"
@@ -1828,7 +1984,7 @@ static const command COMMANDS[] = {
     {"speeds", speeds, 1, 0, "speeds {SHEET | --slacks SHEET [ROW..]}", SPEEDS_HELP},
     {"run", run, 2, 0, "run SHEET [--order ROW,ROW..] [--stretches] SUPPLY..", RUN_HELP},
     {"explain", explain, 1, 1, "explain SHEET", EXPLAIN_HELP},
-    {"sheet", sheet, 1, 0, "sheet {ROWS.csv | N G K RELEASE,WORK,DEADLINE,LEVEL[,PROMISED]..}", SHEET_HELP},
+    {"sheet", sheet, 1, 0, "sheet {ROWS.csv | N G K RELEASE,WORK,DEADLINE,LEVEL[,PROMISED[,FOLLOWS]]..}", SHEET_HELP},
     {"rows", rows, 1, 1, "rows SHEET", ROWS_HELP},
 };
 enum { COMMAND_COUNT = sizeof COMMANDS / sizeof COMMANDS[0] };

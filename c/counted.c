@@ -9,11 +9,11 @@
 #include <stdio.h>
 #include <stdlib.h>
 
-uint32_t __real_jb_slot(const uint32_t table[324], const uint8_t order[64], uint32_t state[193], uint32_t supply, uint32_t *row);
-uint32_t __real_jb_forward(const uint32_t table[324], const uint8_t order[64], uint32_t state[193], const uint32_t *supplies,
+uint32_t __real_jb_slot(const uint32_t table[388], const uint8_t order[64], uint32_t state[193], uint32_t supply, uint32_t *row);
+uint32_t __real_jb_forward(const uint32_t table[388], const uint8_t order[64], uint32_t state[193], const uint32_t *supplies,
                            size_t count, uint32_t *worked);
-uint32_t __wrap_jb_slot(const uint32_t table[324], const uint8_t order[64], uint32_t state[193], uint32_t supply, uint32_t *row);
-uint32_t __wrap_jb_forward(const uint32_t table[324], const uint8_t order[64], uint32_t state[193], const uint32_t *supplies,
+uint32_t __wrap_jb_slot(const uint32_t table[388], const uint8_t order[64], uint32_t state[193], uint32_t supply, uint32_t *row);
+uint32_t __wrap_jb_forward(const uint32_t table[388], const uint8_t order[64], uint32_t state[193], const uint32_t *supplies,
                            size_t count, uint32_t *worked);
 
 static unsigned long slot_calls;
@@ -28,12 +28,12 @@ __attribute__((constructor)) static void begin(void) {
     atexit(say_counts);
 }
 
-uint32_t __wrap_jb_slot(const uint32_t table[324], const uint8_t order[64], uint32_t state[193], uint32_t supply, uint32_t *row) {
+uint32_t __wrap_jb_slot(const uint32_t table[388], const uint8_t order[64], uint32_t state[193], uint32_t supply, uint32_t *row) {
     slot_calls++;
     return __real_jb_slot(table, order, state, supply, row);
 }
 
-uint32_t __wrap_jb_forward(const uint32_t table[324], const uint8_t order[64], uint32_t state[193], const uint32_t *supplies,
+uint32_t __wrap_jb_forward(const uint32_t table[388], const uint8_t order[64], uint32_t state[193], const uint32_t *supplies,
                            size_t count, uint32_t *worked) {
     const uint32_t number = __real_jb_forward(table, order, state, supplies, count, worked);
     forward_calls++;

@@ -29,7 +29,7 @@ typedef struct {
     size_t line;
 } csv_text;
 
-enum { CSV_COLUMNS = 5 };
+enum { CSV_COLUMNS = 6 };
 
 /* A line cut into cells; a cell that the line does not have is empty. */
 typedef struct {

@@ -3,10 +3,12 @@
  * On the way the sheet is written back from the table that was read, and the
  * report of the planned order is printed. With supplies below N a LO row may be
  * dropped at its deadline, even while another row runs; with supplies of at least G it
- * has its promised part then, if it has one:
+ * has its promised part then, if it has one. A row that follows another runs when that
+ * one is closed; for this nothing is called:
  *
  *     example samples/late-preview.sheet 4 4 4 4 1
  *     example samples/promise.sheet 2
+ *     example samples/lifting.sheet 2
  *
  *     example [SHEET [SUPPLY ...]]
  *

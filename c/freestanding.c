@@ -1,9 +1,9 @@
 /*
  * The library without a C library: the two functions that the archive needs, an
- * entry of its own, and a run of case P1 from its sheet to its last row, with LO rows
- * dropped on the way; then the sheet is written back, a report of its rows, and its
- * least G is asked for. It shows what a board has to provide. Build and run it on
- * x86-64 Linux:
+ * entry of its own, and a run of case P1, with row 3 to follow row 1, from its sheet to
+ * its last row, with LO rows dropped on the way; then the sheet is written back, a report
+ * of its rows, and its least G is asked for. It shows what a board has to provide. Build
+ * and run it on x86-64 Linux:
  *
  *     gcc -std=c11 -O2 -ffreestanding -nostdlib -static -fno-tree-loop-distribute-patterns \
  *         -o freestanding c/freestanding.c target/staticlib/libjasminebrace.a
@@ -34,10 +34,10 @@ void *memset(void *to, int byte, size_t count) {
 }
 
 static const char SHEET[] = "       4       5       2       0\n"
-                            "       0      20      10       1       0\n"
-                            "       5      15      10       0       0\n"
-                            "       5      11      19       1       0\n"
-                            "       0       5       5       0       0\n";
+                            "       0      20      10       1       0       0\n"
+                            "       5      15      10       0       0       0\n"
+                            "       5      11      19       1       0       1\n"
+                            "       0       5       5       0       0       0\n";
 
 /* Its report under the planned order: place and row; need at N, worst finish and slack in slots. */
 static const char REPORT[] = "         1         1         4        10         0\n"
@@ -92,8 +92,13 @@ static int steps(void) {
         const uint32_t supply = supply_of(run.clock);
         uint32_t coming;
         uint32_t row;
+        const int waiting = jb_is_waiting(&run, 3);
         if (jb_coming_row(&run, &coming) != JB_OK || jb_work_slot(&run, supply, &row) != JB_OK || coming != row) {
             return 6;
+        }
+        /* Row 3 does not run while row 1 is open. */
+        if (waiting != (run.closing[0] == 0 || run.closing[0] == run.clock) || (waiting && row == 3)) {
+            return 12;
         }
     }
     /* Every slot supplied at least G, so both HI rows are done, neither of them late. */

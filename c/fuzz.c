@@ -30,7 +30,7 @@ enum {
     GUARD_SIZE = 256,  /* bytes of it that are checked */
     MOST_SUPPLIES = 40,
     SEARCHED = 4, /* rounds for one in which least speeds are sought: each search plans many times */
-    LONGEST_INPUT = 2800, /* bytes, some more than a sheet has */
+    LONGEST_INPUT = 3300, /* bytes, some more than a sheet has */
     MOST_ROOM = 3400      /* bytes lent for a report, some more than one has */
 };
 
@@ -134,6 +134,11 @@ static void fill_with_any(void *memory, size_t size) {
     }
 }
 
+/* Rows of a table; 64 for a count above that, 1 for none. */
+static uint32_t rows_of(const jb_table *table) {
+    return table->n > JB_ROWS ? JB_ROWS : table->n == 0 ? 1 : table->n;
+}
+
 /* Most rows of a table: few in most cases, so that many cases are tried. */
 static uint32_t any_count(void) {
     return once_in(16) ? between(1, JB_ROWS) : between(1, 6);
@@ -142,6 +147,15 @@ static uint32_t any_count(void) {
 /* What may be promised of a LO row: nothing, all of its work, or some. */
 static uint32_t any_part(uint32_t work) {
     return once_in(3) ? 0 : once_in(4) ? work : between(0, work);
+}
+
+/* A row that one may follow: one above it, released no later, and HI if it is; 0 if the one that is picked is none. */
+static uint32_t any_followed(const jb_table *table, uint32_t row) {
+    const uint32_t followed = between(0, row - 1);
+    if (followed == 0 || table->release[followed - 1] > table->release[row - 1]) {
+        return 0;
+    }
+    return table->level[row - 1] == JB_HI && table->level[followed - 1] == JB_LO ? 0 : followed;
 }
 
 static void fill_accepted(jb_table *table) {
@@ -158,6 +172,10 @@ static void fill_accepted(jb_table *table) {
         table->deadline[index] = table->release[index] + between(1, most_window);
         table->level[index] = between(0, 1);
         table->promised[index] = table->level[index] == JB_HI ? 0 : any_part(table->work[index]);
+    }
+    const bool waits = once_in(2);
+    for (uint32_t row = 1; waits && row <= table->n; row++) {
+        table->follows[row - 1] = any_followed(table, row);
     }
 }
 
@@ -178,15 +196,52 @@ static void fill_table(jb_table *table) {
         uint32_t index = between(0, any_count() - 1);
         table->promised[index] = table->work[index] + 1;
     }
+    if (once_in(6)) { /* a followed row that may be released later, LO, the row itself or anything */
+        uint32_t row = between(1, rows_of(table));
+        table->follows[row - 1] = once_in(8) ? any_figure() : between(0, row);
+    }
 }
 
-static void fill_order(uint8_t *order, uint32_t n) {
+/* The row stands in the first places of an order. */
+static bool is_placed(const uint8_t *order, uint32_t places, uint32_t row) {
+    return memchr(order, (int)row, places) != NULL;
+}
+
+/* Every followed row has a lower row number, so that no row follows itself over others. */
+static bool are_waits_lower(const jb_table *table) {
+    bool lower = true;
+    for (uint32_t index = 0; index < JB_ROWS; index++) {
+        lower = lower && (table->follows[index] == 0 || table->follows[index] <= index);
+    }
+    return lower;
+}
+
+/* Moves rows up, each to right above the first row that follows it from a higher place, until all waits are kept. */
+static void keep_waits(const jb_table *table, uint8_t *order, uint32_t n) {
+    uint32_t place = 0;
+    while (place < n) {
+        const uint32_t followed = table->follows[order[place] - 1];
+        if (followed == 0 || is_placed(order, place, followed)) {
+            place++;
+        } else { /* the row that is moved up is looked at next: it may follow another one */
+            uint8_t *at = (uint8_t *)memchr(order, (int)followed, n);
+            memmove(order + place + 1, order + place, (size_t)(at - (order + place)));
+            order[place] = (uint8_t)followed;
+        }
+    }
+}
+
+/* An order of a table in most cases, and one that keeps its waits in most of these. */
+static void fill_order(const jb_table *table, uint8_t *order) {
+    const uint32_t n = table->n <= JB_ROWS ? table->n : JB_ROWS;
     memset(order, 0, JB_ROWS);
-    n = n <= JB_ROWS ? n : JB_ROWS;
     for (uint32_t place = 0; place < n; place++) {
         uint32_t other = between(0, place);
         order[place] = order[other];
         order[other] = (uint8_t)(place + 1);
+    }
+    if (!once_in(6) && are_waits_lower(table)) {
+        keep_waits(table, order, n);
     }
     if (once_in(8)) {
         order[between(0, JB_ROWS - 1)] = (uint8_t)between(0, 66);
@@ -251,8 +306,14 @@ static void change_field(uint8_t *sheet, uint32_t n) {
                                          "      65", "    1000", "    1001", " 1000000", " 1000001", "12345678", "99999999"};
     uint32_t row = once_in(3) ? 0 : between(1, n);
     uint32_t line = row == 0 ? 0 : JB_FIRST_LINE + (row - 1) * JB_ROW_LINE;
-    uint32_t field = between(0, row == 0 ? 3 : 4);
+    uint32_t field = between(0, row == 0 ? 3 : 5);
     memcpy(sheet + line + field * JB_FIELD, fields[between(0, sizeof fields / sizeof *fields - 1)], JB_FIELD);
+}
+
+/* Puts the number of a row, or of one above it, into its field of the followed row. */
+static void change_wait(uint8_t *sheet, uint32_t n) {
+    uint32_t row = between(1, n);
+    jb_field(between(0, row), sheet + JB_FIRST_LINE + (row - 1) * JB_ROW_LINE + 5 * JB_FIELD);
 }
 
 /* A sheet, often damaged, or any bytes; gives its length. */
@@ -268,6 +329,9 @@ static size_t fill_input(uint8_t *input) {
     expect(jb_write_table(&table, input, LONGEST_INPUT, &length) == JB_OK, "an accepted table has a sheet");
     for (uint32_t changes = once_in(3) ? between(1, 3) : 0; changes > 0; changes--) {
         change_field(input, table.n);
+    }
+    if (once_in(6)) {
+        change_wait(input, table.n);
     }
     if (once_in(3)) {
         input[between(0, length - 1)] = (uint8_t)"\n 0129x"[between(0, 6)];
@@ -309,26 +373,28 @@ static const struct {
     const char *name;
     int numbers[NUMBERS];
 } functions[FUNCTIONS] = {
-    [READ] = {"read", {0, 1, 2, 3, 4, 11, 5, 12, END}},
-    [WRITE] = {"write", {0, 3, 4, 11, 5, 12, 10, END}},
-    [PLAN] = {"plan", {0, 3, 4, 11, 5, 12, 7, END}},
-    [LEAST_DEGRADED] = {"least G", {0, 3, 4, 11, 5, 12, 7, END}},
-    [LEAST_NORMAL] = {"least N", {0, 3, 4, 11, 5, 12, 7, END}},
-    [READ_LEAST_DEGRADED] = {"sheet's G", {0, 1, 2, 3, 4, 11, 5, 12, 7, END}},
-    [READ_LEAST_NORMAL] = {"sheet's N", {0, 1, 2, 3, 4, 11, 5, 12, 7, END}},
-    [JUDGE] = {"judge", {0, 3, 4, 11, 5, 12, 6, END}},
-    [FINISHES] = {"finishes", {0, 3, 4, 11, 5, 12, 6, END}},
-    [REPORT] = {"report", {0, 3, 4, 11, 5, 12, 6, 10, END}},
-    [FRESH] = {"fresh", {0, 3, 4, 11, 5, 12, 6, END}},
+    [READ] = {"read", {0, 1, 2, 3, 4, 11, 5, 12, 13, 14, 15, END}},
+    [WRITE] = {"write", {0, 3, 4, 11, 5, 12, 13, 14, 15, 10, END}},
+    [PLAN] = {"plan", {0, 3, 4, 11, 5, 12, 13, 14, 15, 7, END}},
+    [LEAST_DEGRADED] = {"least G", {0, 3, 4, 11, 5, 12, 13, 14, 15, 7, END}},
+    [LEAST_NORMAL] = {"least N", {0, 3, 4, 11, 5, 12, 13, 14, 15, 7, END}},
+    [READ_LEAST_DEGRADED] = {"sheet's G", {0, 1, 2, 3, 4, 11, 5, 12, 13, 14, 15, 7, END}},
+    [READ_LEAST_NORMAL] = {"sheet's N", {0, 1, 2, 3, 4, 11, 5, 12, 13, 14, 15, 7, END}},
+    [JUDGE] = {"judge", {0, 3, 4, 11, 5, 12, 13, 14, 15, 6, END}},
+    [FINISHES] = {"finishes", {0, 3, 4, 11, 5, 12, 13, 14, 15, 6, END}},
+    [REPORT] = {"report", {0, 3, 4, 11, 5, 12, 13, 14, 15, 6, 10, END}},
+    [FRESH] = {"fresh", {0, 3, 4, 11, 5, 12, 13, 14, 15, 6, END}},
     [COMING] = {"coming", {0, 8, 9, END}},
     [SLOT] = {"slot", {0, 8, 9, END}},
     [FORWARD] = {"forward", {0, 8, 9, END}},
-    [PROGRAM] = {"program", {0, 1, 2, 3, 4, 11, 5, 12, 7, END}},
+    [PROGRAM] = {"program", {0, 1, 2, 3, 4, 11, 5, 12, 13, 14, 15, 7, END}},
 };
 static uint64_t counts[FUNCTIONS][NUMBERS];
 static uint64_t range_ends[2]; /* least speeds that are the first and the last of their range */
 static uint64_t loading_slots, working_slots; /* slots worked one by one that brought no work by K, and other ones of a row */
 static uint64_t dropped_for_need, dropped_running, dropped_waiting; /* LO rows: for their allowance, at their deadlines as they ran, and as they did not */
+static uint64_t waiting_rows, followers; /* rows that wait at a slot, and slots of rows that follow others */
+static uint64_t broken_waits; /* orders that are refused for a wait alone */
 static uint64_t tight_promises, longer_allowances; /* slacks that a promised part makes smaller, and allowances that it makes longer */
 
 /* Counts an answer, whose number is one that the function can give. */
@@ -507,13 +573,8 @@ static void fill_lent(void) {
     fill_table(table);
     lend(&table_at);
     uint8_t *order = (uint8_t *)place(&order_at, JB_ROWS);
-    fill_order(order, table->n);
+    fill_order(table, order);
     lend(&order_at);
-}
-
-/* Rows of a table; 64 for a count above that. */
-static size_t rows_of(const jb_table *table) {
-    return table->n <= JB_ROWS ? table->n : JB_ROWS;
 }
 
 static size_t sheet_length(const jb_table *table) {
@@ -559,6 +620,16 @@ static void try_write(void) {
     }
 }
 
+/* No row of the order stands above the one that it follows. */
+static bool are_waits_kept(const jb_table *table, const uint8_t *order) {
+    bool kept = true;
+    for (uint32_t place = 0; place < table->n; place++) {
+        const uint32_t followed = table->follows[order[place] - 1];
+        kept = kept && (followed == 0 || is_placed(order, place, followed));
+    }
+    return kept;
+}
+
 static void try_plan(void) {
     const jb_table *table = (const jb_table *)table_at.start;
     uint8_t *order = (uint8_t *)place(&out_at, JB_ROWS);
@@ -575,6 +646,7 @@ static void try_plan(void) {
         int32_t slack;
         expect(jb_judge_order(table, order, &yes, &row, &slack) == JB_OK, "the judge takes the planner's order");
         expect(yes == 1 && slack >= 0, "the judge says yes to the planner's order");
+        expect(are_waits_kept(table, order), "the planner's order keeps all waits");
     }
 }
 
@@ -583,7 +655,7 @@ static void try_judge_list(const jb_table *table, const uint8_t *order, uint32_t
     jb_row rows[JB_ROWS];
     size_t count = table->n < JB_ROWS ? table->n : JB_ROWS;
     for (size_t i = 0; i < count; i++) {
-        rows[i] = (jb_row){table->release[i], table->work[i], table->deadline[i], table->level[i], table->promised[i]};
+        rows[i] = (jb_row){table->release[i], table->work[i], table->deadline[i], table->level[i], table->promised[i], table->follows[i]};
     }
     uint32_t list_yes, list_row;
     int32_t list_slack;
@@ -594,9 +666,16 @@ static void try_judge_list(const jb_table *table, const uint8_t *order, uint32_t
     }
 }
 
+/* The same table without waits. */
+static jb_table without_waits(const jb_table *table) {
+    jb_table other = *table;
+    memset(other.follows, 0, sizeof other.follows);
+    return other;
+}
+
 /* The first clock at which a row has its promised part at exactly G, in slots: when a HI row with that work would be done in its place. */
 static uint32_t promised_moment(const jb_table *table, const uint8_t *order, uint32_t row) {
-    jb_table other = *table;
+    jb_table other = without_waits(table); /* a HI row follows no LO row, and waits change no finish */
     uint32_t finishes[JB_ROWS];
     other.level[row - 1] = JB_HI;
     other.work[row - 1] = table->promised[row - 1];
@@ -615,6 +694,22 @@ static int64_t slack_of(const jb_table *table, const uint8_t *order, const uint3
     const int64_t of_promise = deadline - promised_moment(table, order, row);
     tight_promises += of_promise < of_finish;
     return of_promise < of_finish ? of_promise : of_finish;
+}
+
+/* Of an accepted table an order is taken exactly if it is taken without waits and keeps them, and then with the same worst finishes. */
+static void expect_waits(const jb_table *table, const uint8_t *order, uint32_t number, const uint32_t *finishes) {
+    const jb_table other = without_waits(table);
+    uint32_t others[JB_ROWS];
+    if (number != JB_OK && number != JB_NOT_AN_ORDER) {
+        return;
+    }
+    if (jb_worst_finishes(&other, order, others) != JB_OK) {
+        expect(number == JB_NOT_AN_ORDER, "waits make no order of one that is none");
+        return;
+    }
+    expect((number == JB_OK) == are_waits_kept(table, order), "6 exactly if a wait is broken");
+    expect(number != JB_OK || memcmp(others, finishes, sizeof others) == 0, "waits change no worst finish");
+    broken_waits += number == JB_NOT_AN_ORDER;
 }
 
 static void try_judge(void) {
@@ -638,6 +733,7 @@ static void try_judge(void) {
     expect_unwritten(&order_at);
     expect_guards(&out_at);
     expect(other == number, "judge and finishes refuse alike");
+    expect_waits(table, order, number, finishes);
     if (number != JB_OK) {
         expect(*yes == 0 && *row == 0 && *slack == 0, "a refused verdict is zero");
         expect(all_zero(finishes, JB_ROWS * sizeof *finishes), "refused finishes are zero");
@@ -788,7 +884,12 @@ static void expect_slot(const jb_run *run, uint32_t number, uint32_t row, uint32
     }
     uint32_t next;
     expect(jb_coming_row(run, &next) != JB_UNSOUND, "a slot leaves a sound record");
+    for (uint32_t other = 1; other <= run->table.n; other++) {
+        waiting_rows += (uint32_t)jb_is_waiting(before, other);
+    }
     if (row != 0) {
+        expect(!jb_is_waiting(before, row), "no slot runs a row that waits");
+        followers += run->table.follows[row - 1] != 0;
         expect(run->got[row - 1] == got_after(before, row, supply), "work got grows by what the slot brings");
         expect(run->used[row - 1] == before->used[row - 1] + 1, "slots used grow by one");
         expect(jb_is_loading(before, row) == (jb_loaded(run, row) > jb_loaded(before, row)), "a loading slot is one more loaded");
@@ -878,6 +979,7 @@ static uint32_t number_with(uint32_t n, uint32_t normal, uint32_t degraded, uint
         table.deadline[index] = row.deadline;
         table.level[index] = row.level;
         table.promised[index] = row.promised;
+        table.follows[index] = row.follows;
     }
     return jb_plan_table(&table, order, &left);
 }
@@ -890,51 +992,57 @@ static uint32_t number_of(uint32_t n, uint32_t normal, uint32_t degraded, jb_row
 /* The header's limits are the library's: a figure at its limit is taken, and one past it is refused. */
 static void try_limits(void) {
     const uint32_t last = JB_LAST_DEADLINE;
-    expect(number_of(1, 1, 1, (jb_row){0, 1, last, JB_LO, 0}) == JB_OK, "one row, speeds of 1, the latest deadline");
-    expect(number_of(1, 1, 1, (jb_row){0, 1, last + 1, JB_LO, 0}) == JB_ROW_LIMITS, "a later deadline");
-    expect(number_of(1, 1, 1, (jb_row){last - 1, 1, last, JB_HI, 0}) == JB_OK, "the latest release");
-    expect(number_of(1, 1, 1, (jb_row){last, 1, last, JB_HI, 0}) == JB_ROW_LIMITS, "a release at the deadline");
-    expect(number_of(1, 1, 1, (jb_row){0, 1, 1, JB_HI + 1, 0}) == JB_ROW_LIMITS, "a level above HI");
-    expect(number_of(1, 1, 1, (jb_row){0, JB_MOST_WORK, last, JB_HI, 0}) == JB_OK, "the largest work");
-    expect(number_of(1, 2, 2, (jb_row){0, JB_MOST_WORK + 1, last, JB_HI, 0}) == JB_ROW_LIMITS, "a larger work");
-    expect(number_of(1, 1, 1, (jb_row){0, 0, last, JB_HI, 0}) == JB_ROW_LIMITS, "no work");
-    expect(number_of(1, JB_MOST_SPEED, JB_MOST_SPEED, (jb_row){0, 1, 1, JB_LO, 0}) == JB_OK, "the largest speeds");
-    expect(number_of(1, JB_MOST_SPEED + 1, 1, (jb_row){0, 1, 1, JB_LO, 0}) == JB_SPEEDS, "a larger speed");
-    expect(number_of(1, 1, 2, (jb_row){0, 1, 1, JB_LO, 0}) == JB_SPEEDS, "G above N");
-    expect(number_of(1, 1, 0, (jb_row){0, 1, 1, JB_LO, 0}) == JB_SPEEDS, "no G");
-    expect(number_of(JB_ROWS, 1, 1, (jb_row){0, 1, JB_ROWS, JB_LO, 0}) == JB_OK, "the most rows");
-    expect(number_of(JB_ROWS + 1, 1, 1, (jb_row){0, 1, JB_ROWS, JB_LO, 0}) == JB_ROW_COUNT, "one row more");
-    expect(number_of(0, 1, 1, (jb_row){0, 1, 1, JB_LO, 0}) == JB_ROW_COUNT, "no row");
+    expect(number_of(1, 1, 1, (jb_row){0, 1, last, JB_LO, 0, 0}) == JB_OK, "one row, speeds of 1, the latest deadline");
+    expect(number_of(1, 1, 1, (jb_row){0, 1, last + 1, JB_LO, 0, 0}) == JB_ROW_LIMITS, "a later deadline");
+    expect(number_of(1, 1, 1, (jb_row){last - 1, 1, last, JB_HI, 0, 0}) == JB_OK, "the latest release");
+    expect(number_of(1, 1, 1, (jb_row){last, 1, last, JB_HI, 0, 0}) == JB_ROW_LIMITS, "a release at the deadline");
+    expect(number_of(1, 1, 1, (jb_row){0, 1, 1, JB_HI + 1, 0, 0}) == JB_ROW_LIMITS, "a level above HI");
+    expect(number_of(1, 1, 1, (jb_row){0, JB_MOST_WORK, last, JB_HI, 0, 0}) == JB_OK, "the largest work");
+    expect(number_of(1, 2, 2, (jb_row){0, JB_MOST_WORK + 1, last, JB_HI, 0, 0}) == JB_ROW_LIMITS, "a larger work");
+    expect(number_of(1, 1, 1, (jb_row){0, 0, last, JB_HI, 0, 0}) == JB_ROW_LIMITS, "no work");
+    expect(number_of(1, JB_MOST_SPEED, JB_MOST_SPEED, (jb_row){0, 1, 1, JB_LO, 0, 0}) == JB_OK, "the largest speeds");
+    expect(number_of(1, JB_MOST_SPEED + 1, 1, (jb_row){0, 1, 1, JB_LO, 0, 0}) == JB_SPEEDS, "a larger speed");
+    expect(number_of(1, 1, 2, (jb_row){0, 1, 1, JB_LO, 0, 0}) == JB_SPEEDS, "G above N");
+    expect(number_of(1, 1, 0, (jb_row){0, 1, 1, JB_LO, 0, 0}) == JB_SPEEDS, "no G");
+    expect(number_of(JB_ROWS, 1, 1, (jb_row){0, 1, JB_ROWS, JB_LO, 0, 0}) == JB_OK, "the most rows");
+    expect(number_of(JB_ROWS + 1, 1, 1, (jb_row){0, 1, JB_ROWS, JB_LO, 0, 0}) == JB_ROW_COUNT, "one row more");
+    expect(number_of(0, 1, 1, (jb_row){0, 1, 1, JB_LO, 0, 0}) == JB_ROW_COUNT, "no row");
     /* At G 1 and N 2 a LO row of four work units is dropped after two slots and a HI row takes all four. */
-    expect(number_of(1, 2, 1, (jb_row){0, 4, 2, JB_LO, 0}) == JB_OK, "LO is tried at N");
-    expect(number_of(1, 2, 1, (jb_row){0, 4, 2, JB_HI, 0}) == JB_NO_ORDER, "HI is tried at G");
+    expect(number_of(1, 2, 1, (jb_row){0, 4, 2, JB_LO, 0, 0}) == JB_OK, "LO is tried at N");
+    expect(number_of(1, 2, 1, (jb_row){0, 4, 2, JB_HI, 0, 0}) == JB_NO_ORDER, "HI is tried at G");
     /* The longest loading and one slot of work take 17 slots. */
     const uint32_t most = JB_MOST_LOADING;
-    expect(number_with(1, 1, 1, most, (jb_row){0, 1, most + 1, JB_LO, 0}) == JB_OK, "the longest loading");
-    expect(number_with(1, 1, 1, most, (jb_row){0, 1, most, JB_LO, 0}) == JB_NO_ORDER, "a slot too few for the longest loading");
-    expect(number_with(1, 1, 1, most + 1, (jb_row){0, 1, last, JB_LO, 0}) == JB_LOADING, "a longer loading");
-    expect(number_with(1, 1, 1, UINT32_MAX, (jb_row){0, 1, last, JB_LO, 0}) == JB_LOADING, "the largest figure as loading");
-    expect(number_with(1, 1, 1, most + 1, (jb_row){last, 1, last, JB_LO, 0}) == JB_LOADING, "11 before 5");
-    expect(number_with(1, 1, 2, most + 1, (jb_row){0, 1, last, JB_LO, 0}) == JB_SPEEDS, "4 before 11");
-    expect(number_with(0, 1, 1, most + 1, (jb_row){0, 1, last, JB_LO, 0}) == JB_ROW_COUNT, "3 before 11");
+    expect(number_with(1, 1, 1, most, (jb_row){0, 1, most + 1, JB_LO, 0, 0}) == JB_OK, "the longest loading");
+    expect(number_with(1, 1, 1, most, (jb_row){0, 1, most, JB_LO, 0, 0}) == JB_NO_ORDER, "a slot too few for the longest loading");
+    expect(number_with(1, 1, 1, most + 1, (jb_row){0, 1, last, JB_LO, 0, 0}) == JB_LOADING, "a longer loading");
+    expect(number_with(1, 1, 1, UINT32_MAX, (jb_row){0, 1, last, JB_LO, 0, 0}) == JB_LOADING, "the largest figure as loading");
+    expect(number_with(1, 1, 1, most + 1, (jb_row){last, 1, last, JB_LO, 0, 0}) == JB_LOADING, "11 before 5");
+    expect(number_with(1, 1, 2, most + 1, (jb_row){0, 1, last, JB_LO, 0, 0}) == JB_SPEEDS, "4 before 11");
+    expect(number_with(0, 1, 1, most + 1, (jb_row){0, 1, last, JB_LO, 0, 0}) == JB_ROW_COUNT, "3 before 11");
     /* At N 2 and G 1 four work units take 2 slots, and with K 3 the LO row is tried by 5 slots and the HI row by 7. */
-    expect(number_with(1, 2, 1, 3, (jb_row){0, 4, 5, JB_LO, 0}) == JB_OK, "LO is tried at N with loading");
-    expect(number_with(1, 2, 1, 3, (jb_row){0, 4, 4, JB_LO, 0}) == JB_NO_ORDER, "LO needs its loading");
-    expect(number_with(1, 2, 1, 3, (jb_row){0, 4, 7, JB_HI, 0}) == JB_OK, "HI is tried at G with loading");
-    expect(number_with(1, 2, 1, 3, (jb_row){0, 4, 6, JB_HI, 0}) == JB_NO_ORDER, "HI needs its loading");
+    expect(number_with(1, 2, 1, 3, (jb_row){0, 4, 5, JB_LO, 0, 0}) == JB_OK, "LO is tried at N with loading");
+    expect(number_with(1, 2, 1, 3, (jb_row){0, 4, 4, JB_LO, 0, 0}) == JB_NO_ORDER, "LO needs its loading");
+    expect(number_with(1, 2, 1, 3, (jb_row){0, 4, 7, JB_HI, 0, 0}) == JB_OK, "HI is tried at G with loading");
+    expect(number_with(1, 2, 1, 3, (jb_row){0, 4, 6, JB_HI, 0, 0}) == JB_NO_ORDER, "HI needs its loading");
     /* Of six work units, which take 3 slots at N 2, three are promised by 3 slots at G 1, and four by 4; with K 1 it is a slot more. */
-    expect(number_of(1, 2, 1, (jb_row){0, 6, 3, JB_LO, 3}) == JB_OK, "a promised part in time");
-    expect(number_of(1, 2, 1, (jb_row){0, 6, 3, JB_LO, 4}) == JB_NO_ORDER, "a promised part a slot too late");
-    expect(number_of(1, 2, 1, (jb_row){0, 6, 4, JB_LO, 4}) == JB_OK, "a larger promised part in time");
-    expect(number_with(1, 2, 1, 1, (jb_row){0, 6, 5, JB_LO, 4}) == JB_OK, "a promised part with its loading");
-    expect(number_with(1, 2, 1, 1, (jb_row){0, 6, 4, JB_LO, 4}) == JB_NO_ORDER, "a promised part needs its loading");
-    expect(number_of(1, 2, 1, (jb_row){0, 6, 6, JB_LO, 6}) == JB_OK, "all work is promised");
-    expect(number_of(1, 2, 1, (jb_row){0, 6, 6, JB_LO, 7}) == JB_PROMISED, "more than all work is promised");
-    expect(number_of(1, 2, 1, (jb_row){0, 6, 6, JB_HI, 1}) == JB_PROMISED, "a part of a HI row is promised");
-    expect(number_of(1, 2, 1, (jb_row){0, JB_MOST_WORK, last, JB_LO, JB_MOST_WORK}) == JB_OK, "the largest promised part");
-    expect(number_of(1, 2, 1, (jb_row){0, 1, last, JB_LO, UINT32_MAX}) == JB_PROMISED, "the largest figure as promised part");
-    expect(number_of(2, 2, 1, (jb_row){6, 6, 6, JB_HI, 1}) == JB_ROW_LIMITS, "5 before 12");
-    expect(number_with(1, 2, 1, most + 1, (jb_row){0, 6, 6, JB_HI, 1}) == JB_LOADING, "11 before 12");
+    expect(number_of(1, 2, 1, (jb_row){0, 6, 3, JB_LO, 3, 0}) == JB_OK, "a promised part in time");
+    expect(number_of(1, 2, 1, (jb_row){0, 6, 3, JB_LO, 4, 0}) == JB_NO_ORDER, "a promised part a slot too late");
+    expect(number_of(1, 2, 1, (jb_row){0, 6, 4, JB_LO, 4, 0}) == JB_OK, "a larger promised part in time");
+    expect(number_with(1, 2, 1, 1, (jb_row){0, 6, 5, JB_LO, 4, 0}) == JB_OK, "a promised part with its loading");
+    expect(number_with(1, 2, 1, 1, (jb_row){0, 6, 4, JB_LO, 4, 0}) == JB_NO_ORDER, "a promised part needs its loading");
+    expect(number_of(1, 2, 1, (jb_row){0, 6, 6, JB_LO, 6, 0}) == JB_OK, "all work is promised");
+    expect(number_of(1, 2, 1, (jb_row){0, 6, 6, JB_LO, 7, 0}) == JB_PROMISED, "more than all work is promised");
+    expect(number_of(1, 2, 1, (jb_row){0, 6, 6, JB_HI, 1, 0}) == JB_PROMISED, "a part of a HI row is promised");
+    expect(number_of(1, 2, 1, (jb_row){0, JB_MOST_WORK, last, JB_LO, JB_MOST_WORK, 0}) == JB_OK, "the largest promised part");
+    expect(number_of(1, 2, 1, (jb_row){0, 1, last, JB_LO, UINT32_MAX, 0}) == JB_PROMISED, "the largest figure as promised part");
+    expect(number_of(2, 2, 1, (jb_row){6, 6, 6, JB_HI, 1, 0}) == JB_ROW_LIMITS, "5 before 12");
+    expect(number_with(1, 2, 1, most + 1, (jb_row){0, 6, 6, JB_HI, 1, 0}) == JB_LOADING, "11 before 12");
+    /* Rows alike of which each has the same figure for the row that it follows: row 1 follows itself, or one below it. */
+    expect(number_of(2, 2, 1, (jb_row){0, 1, 6, JB_LO, 0, 1}) == JB_NOT_LOWER, "a row follows itself");
+    expect(number_of(2, 2, 1, (jb_row){0, 1, 6, JB_LO, 0, 2}) == JB_NOT_LOWER, "a row follows one below it");
+    expect(number_of(2, 2, 1, (jb_row){0, 1, 6, JB_LO, 0, JB_ROWS + 1}) == JB_NOT_LOWER, "a row follows one beyond all");
+    expect(number_of(2, 2, 1, (jb_row){0, 1, 6, JB_LO, 0, UINT32_MAX}) == JB_NOT_LOWER, "a row follows the largest figure");
+    expect(number_of(2, 2, 1, (jb_row){0, 1, 6, JB_HI, 1, 1}) == JB_PROMISED, "12 before 13");
 }
 
 /* The numbers that try_limits does not meet, and verdicts on a list of the most rows whose last is the tightest. */
@@ -942,17 +1050,19 @@ static void try_numbers(void) {
     static const uint8_t sheet[] = "       1       1       1       x\n";
     static const uint8_t before[] = "       1       1       1\n       0       1       1       0\n";
     static const uint8_t without[] = "       1       1       1       0\n       0       1       1       0\n";
+    static const uint8_t unfollowed[] = "       1       1       1       0\n       0       1       1       0       0\n";
     jb_table table;
     expect(jb_read_table(sheet, 32, &table) == JB_LENGTH, "32 bytes");
     expect(jb_read_table(sheet, 33, &table) == JB_MALFORMED, "a letter in a field");
     expect(jb_read_table(before, sizeof before - 1, &table) == JB_MALFORMED, "a sheet from before K");
     expect(jb_read_table(without, sizeof without - 1, &table) == JB_LENGTH, "a sheet from before promised parts");
+    expect(jb_read_table(unfollowed, sizeof unfollowed - 1, &table) == JB_LENGTH, "a sheet from before rows could follow rows");
     jb_row rows[JB_ROWS];
     uint8_t order[JB_ROWS];
     uint32_t yes, row;
     int32_t slack;
     for (uint32_t index = 0; index < JB_ROWS; index++) {
-        rows[index] = (jb_row){0, 1, 2 * JB_ROWS, JB_HI, 0};
+        rows[index] = (jb_row){0, 1, 2 * JB_ROWS, JB_HI, 0, 0};
         order[index] = (uint8_t)(index + 1);
     }
     for (int32_t spare = -2; spare <= 2; spare++) {
@@ -962,6 +1072,14 @@ static void try_numbers(void) {
     }
     order[0] = 0;
     expect(jb_judge_list(rows, JB_ROWS, 1, 1, 0, order, &yes, &row, &slack) == JB_NOT_AN_ORDER, "a row is missing");
+    rows[JB_ROWS - 1].level = JB_HI;
+    rows[JB_ROWS - 1].follows = JB_ROWS - 1;
+    expect(jb_judge_list(rows, JB_ROWS, 1, 1, 0, order, &yes, &row, &slack) == JB_NOT_AN_ORDER, "a row is missing, and the last one follows");
+    rows[JB_ROWS - 2].level = JB_LO;
+    expect(jb_judge_list(rows, JB_ROWS, 1, 1, 0, order, &yes, &row, &slack) == JB_FOLLOWS_LOW, "15 before 6, of the last row");
+    expect(yes == 0 && row == 0 && slack == 0, "all zero on a refusal");
+    rows[JB_ROWS - 2].release = 1;
+    expect(jb_judge_list(rows, JB_ROWS, 1, 1, 0, order, &yes, &row, &slack) == JB_RELEASED_LATER, "14 before 15, of the last row");
     rows[JB_ROWS - 1].promised = 1;
     expect(jb_judge_list(rows, JB_ROWS, 1, 1, 0, order, &yes, &row, &slack) == JB_PROMISED, "12 before 6, of the last row");
     expect(yes == 0 && row == 0 && slack == 0, "all zero on a refusal");
@@ -980,7 +1098,7 @@ static void try_largest_figures(void) {
     static const char last_lines[] = "        64        64   1000016  65001023 -64001023\n"
                                      "  64001024        64\n";
     const size_t two_lines = sizeof last_lines - 1;
-    jb_table table = {JB_ROWS, 1, 1, JB_MOST_LOADING, {0}, {0}, {0}, {0}, {0}};
+    jb_table table = {JB_ROWS, 1, 1, JB_MOST_LOADING, {0}, {0}, {0}, {0}, {0}, {0}};
     uint8_t order[JB_ROWS], report[JB_LONGEST_REPORT];
     uint32_t length;
     for (uint32_t index = 0; index < JB_ROWS; index++) {
@@ -1007,9 +1125,10 @@ static void try_far_room(void) {
     fill_accepted(&table);
     expect(jb_write_table(&table, bytes, room, &length) == JB_OK, "room above 4 GiB");
     expect(length == sheet_length(&table) && bytes[length] == 0, "the sheet and no byte more");
+    memset(bytes, 0, length);
     fill_in_turn(order, table.n);
     expect(jb_report_order(&table, order, bytes, room, &length) == JB_OK, "room above 4 GiB for a report");
-    expect(length == report_length(&table) && bytes[length] == 0, "the report, which is longer, and no byte more");
+    expect(length == report_length(&table) && bytes[length] == 0, "the report and no byte more");
     munmap(bytes, room);
 }
 
@@ -1072,6 +1191,9 @@ int main(int argc, char **argv) {
     expect(dropped_for_need > 0 && dropped_running > 0 && dropped_waiting > 0, "every way to be dropped comes up");
     printf("promised parts: %" PRIu64 " make a slack smaller, %" PRIu64 " an allowance longer\n", tight_promises, longer_allowances);
     expect(tight_promises > 0 && longer_allowances > 0, "promised parts tell");
+    printf("rows that follow rows: %" PRIu64 " wait at a slot, %" PRIu64 " slots run one, %" PRIu64 " orders break a wait\n", waiting_rows,
+           followers, broken_waits);
+    expect(waiting_rows > 0 && followers > 0 && broken_waits > 0, "rows wait, run and stand wrong");
     printf("least speeds: %" PRIu64 " the first of their range, %" PRIu64 " the last\n", range_ends[0], range_ends[1]);
     expect(range_ends[0] > 0 && range_ends[1] > 0, "both ends of the ranges come up");
     printf("%lu rounds, all held\n", rounds);

@@ -1,10 +1,11 @@
 /*
  * Tests of the header's own functions, in what C11 and C++11 have in common:
  * the interface's number, the words for every number, lists of no entries, a
- * sheet written back, least speeds, reports, K and promised parts beyond their limits,
- * where a row of a run stands and how far it has loaded, LO rows at their deadlines,
- * needs, promised parts, and the packed verdict taken apart. It says how many things it
- * looked at; exit status 1 if one is not as it should be.
+ * sheet written back, least speeds, reports, tables that are refused for K, a promised
+ * part or a followed row, where a row of a run stands and how far it has loaded, LO rows
+ * at their deadlines, needs, promised parts, rows that follow rows, and the packed verdict
+ * taken apart. It says how many things it looked at; exit status 1 if one is not as it
+ * should be.
  */
 #include "jasminebrace.h"
 
@@ -24,8 +25,8 @@ static void look(int fine, const char *what, unsigned figure) {
 
 /* The sheet of case P3: N 2, G 1, K 0, a LO row 0 2 2 and a HI row 0 4 4. */
 static const char P3[] = "       2       2       1       0\n"
-                         "       0       2       2       0       0\n"
-                         "       0       4       4       1       0\n";
+                         "       0       2       2       0       0       0\n"
+                         "       0       4       4       1       0       0\n";
 
 static void look_at_words(void) {
     for (uint32_t number = JB_OK; number <= JB_LAST_NUMBER + 1; number++) {
@@ -49,6 +50,14 @@ static int all_are(const uint8_t *bytes, size_t count, uint8_t byte) {
 
 static int all_zero(const void *memory, size_t size) {
     return all_are((const uint8_t *)memory, size, 0);
+}
+
+/* The rows of a table in turn, as an order of it. */
+static void fill_in_turn(uint8_t order[JB_ROWS], uint32_t n) {
+    memset(order, 0, JB_ROWS);
+    for (uint32_t place = 0; place < n && place < JB_ROWS; place++) {
+        order[place] = (uint8_t)(place + 1);
+    }
 }
 
 /* The searches for a least speed, over a table and over a sheet. */
@@ -109,6 +118,24 @@ static void look_at_sheet(void) {
     look(jb_write_table(&table, NULL, 0, &length) == JB_ROW_COUNT && length == 0, "no sheet of rows", table.n);
 }
 
+/* A table without loading of these rows, at most so many, up to the first of no work; both speeds in work units per slot. */
+static jb_table table_of_rows(uint32_t normal, uint32_t degraded, const jb_row *rows, uint32_t most) {
+    jb_table table;
+    memset(&table, 0, sizeof table);
+    table.normal = normal;
+    table.degraded = degraded;
+    for (uint32_t index = 0; index < most && rows[index].work != 0; index++) {
+        table.n = index + 1;
+        table.release[index] = rows[index].release;
+        table.work[index] = rows[index].work;
+        table.deadline[index] = rows[index].deadline;
+        table.level[index] = rows[index].level;
+        table.promised[index] = rows[index].promised;
+        table.follows[index] = rows[index].follows;
+    }
+    return table;
+}
+
 /* A search over a table of one row or two without loading, all speeds in work units per slot, and what it answers. */
 typedef struct {
     unsigned search; /* 0 for G, 1 for N */
@@ -128,39 +155,29 @@ typedef struct {
  * promised that takes all of its slots at G 3.
  */
 static const least_case LEAST_CASES[] = {
-    {0, 1, 20, {{0, 200, 20, JB_HI, 0}, {0, 180, 18, JB_LO, 0}}, 19, {2, 1}},
-    {0, 18, 20, {{0, 200, 20, JB_HI, 0}, {0, 180, 18, JB_LO, 0}}, 19, {2, 1}},
-    {0, 20, 20, {{0, 200, 20, JB_HI, 0}, {0, 180, 18, JB_LO, 0}}, 19, {2, 1}},
-    {0, 20, 20, {{0, 200, 20, JB_HI, 0}, {0, 180, 18, JB_LO, 171}}, 19, {2, 1}},
-    {0, 1, 20, {{0, 200, 20, JB_HI, 0}, {0, 180, 18, JB_LO, 172}}, 20, {2, 1}},
-    {1, 20, 20, {{0, 200, 20, JB_HI, 0}, {0, 180, 18, JB_LO, 0}}, 20, {2, 1}},
-    {1, JB_MOST_SPEED, 20, {{0, 200, 20, JB_HI, 0}, {0, 180, 18, JB_LO, 0}}, 20, {2, 1}},
-    {0, 1, 2, {{0, 2, 2, JB_LO, 0}, {0, 4, 4, JB_HI, 0}}, 2, {1, 2}},
-    {1, 1, 1, {{0, 2, 2, JB_LO, 0}, {0, 4, 4, JB_HI, 0}}, 4, {2, 1}},
-    {1, JB_MOST_SPEED, 1, {{0, 2, 2, JB_LO, 0}, {0, 4, 4, JB_HI, 0}}, 4, {2, 1}},
-    {0, 7, 7, {{0, 7, 1, JB_LO, 0}, {0, 0, 0, 0, 0}}, 1, {1}},
-    {0, 7, 7, {{0, 7, 1, JB_HI, 0}, {0, 0, 0, 0, 0}}, 7, {1}},
-    {0, 7, 7, {{0, 8, 1, JB_HI, 0}, {0, 0, 0, 0, 0}}, 0, {0}},
-    {1, 9, 7, {{0, 7, 1, JB_LO, 0}, {0, 0, 0, 0, 0}}, 7, {1}},
-    {1, 7, 7, {{0, 1000, 1, JB_LO, 0}, {0, 0, 0, 0, 0}}, JB_MOST_SPEED, {1}},
-    {1, 7, 7, {{0, 1001, 1, JB_LO, 0}, {0, 0, 0, 0, 0}}, 0, {0}},
-    {0, 7, 7, {{0, 14, 4, JB_LO, 12}, {0, 0, 0, 0, 0}}, 3, {1}},
+    {0, 1, 20, {{0, 200, 20, JB_HI, 0, 0}, {0, 180, 18, JB_LO, 0, 0}}, 19, {2, 1}},
+    {0, 18, 20, {{0, 200, 20, JB_HI, 0, 0}, {0, 180, 18, JB_LO, 0, 0}}, 19, {2, 1}},
+    {0, 20, 20, {{0, 200, 20, JB_HI, 0, 0}, {0, 180, 18, JB_LO, 0, 0}}, 19, {2, 1}},
+    {0, 20, 20, {{0, 200, 20, JB_HI, 0, 0}, {0, 180, 18, JB_LO, 171, 0}}, 19, {2, 1}},
+    {0, 1, 20, {{0, 200, 20, JB_HI, 0, 0}, {0, 180, 18, JB_LO, 172, 0}}, 20, {2, 1}},
+    {1, 20, 20, {{0, 200, 20, JB_HI, 0, 0}, {0, 180, 18, JB_LO, 0, 0}}, 20, {2, 1}},
+    {1, JB_MOST_SPEED, 20, {{0, 200, 20, JB_HI, 0, 0}, {0, 180, 18, JB_LO, 0, 0}}, 20, {2, 1}},
+    {0, 1, 2, {{0, 2, 2, JB_LO, 0, 0}, {0, 4, 4, JB_HI, 0, 0}}, 2, {1, 2}},
+    {1, 1, 1, {{0, 2, 2, JB_LO, 0, 0}, {0, 4, 4, JB_HI, 0, 0}}, 4, {2, 1}},
+    {1, JB_MOST_SPEED, 1, {{0, 2, 2, JB_LO, 0, 0}, {0, 4, 4, JB_HI, 0, 0}}, 4, {2, 1}},
+    {0, 7, 7, {{0, 7, 1, JB_LO, 0, 0}, {0, 0, 0, 0, 0, 0}}, 1, {1}},
+    {0, 7, 7, {{0, 7, 1, JB_HI, 0, 0}, {0, 0, 0, 0, 0, 0}}, 7, {1}},
+    {0, 7, 7, {{0, 8, 1, JB_HI, 0, 0}, {0, 0, 0, 0, 0, 0}}, 0, {0}},
+    {1, 9, 7, {{0, 7, 1, JB_LO, 0, 0}, {0, 0, 0, 0, 0, 0}}, 7, {1}},
+    {1, 7, 7, {{0, 1000, 1, JB_LO, 0, 0}, {0, 0, 0, 0, 0, 0}}, JB_MOST_SPEED, {1}},
+    {1, 7, 7, {{0, 1001, 1, JB_LO, 0, 0}, {0, 0, 0, 0, 0, 0}}, 0, {0}},
+    {0, 7, 7, {{0, 14, 4, JB_LO, 12, 0}, {0, 0, 0, 0, 0, 0}}, 3, {1}},
 };
 
 static jb_table table_of(const least_case *of) {
-    jb_table table;
-    memset(&table, 0, sizeof table);
-    table.normal = of->search == 0 ? of->kept : of->own;
-    table.degraded = of->search == 0 ? of->own : of->kept;
-    for (uint32_t index = 0; index < 2 && of->rows[index].work != 0; index++) {
-        table.n = index + 1;
-        table.release[index] = of->rows[index].release;
-        table.work[index] = of->rows[index].work;
-        table.deadline[index] = of->rows[index].deadline;
-        table.level[index] = of->rows[index].level;
-        table.promised[index] = of->rows[index].promised;
-    }
-    return table;
+    const uint32_t normal = of->search == 0 ? of->kept : of->own;
+    const uint32_t degraded = of->search == 0 ? of->own : of->kept;
+    return table_of_rows(normal, degraded, of->rows, 2);
 }
 
 /* Each search over its table, and over the sheet of it. */
@@ -274,42 +291,77 @@ static void look_at_fields(void) {
     }
 }
 
-/* K above its limit is 11, after 4 and before 5, 6 and 10, wherever a table goes in; what is lent to be written stays. */
-static void look_at_long_loading(void) {
-    const jb_row rows[] = {{0, 2, 2, JB_LO, 0}, {0, 4, 4, JB_HI, 0}};
-    const uint8_t order[JB_ROWS] = {1, 2};
-    char sheet[] = "       2       2       1      17\n"
-                   "       0       2       2       0       0\n"
-                   "       0       4       4       1       0\n";
-    jb_table table;
-    jb_run run;
+/* A refusal by the judge: this number, and zeros. */
+static void look_at_no_verdict(uint32_t got, uint32_t number, uint32_t yes, uint32_t row, int32_t slack) {
+    look(got == number && yes == 0 && row == 0 && slack == 0, "no verdict, number", number);
+}
+
+/* The judge refuses a table by this number, and a list of its rows. */
+static void look_at_refused_verdicts(const jb_table *table, const uint8_t order[JB_ROWS], uint32_t number) {
+    jb_row rows[JB_ROWS];
+    uint32_t yes = 7;
+    uint32_t row = 7;
+    int32_t slack = 7;
+    for (uint32_t index = 0; index < table->n; index++) {
+        const jb_row one = {table->release[index], table->work[index], table->deadline[index], table->level[index], table->promised[index], table->follows[index]};
+        rows[index] = one;
+    }
+    uint32_t got = jb_judge_order(table, order, &yes, &row, &slack);
+    look_at_no_verdict(got, number, yes, row, slack);
+    yes = row = 7;
+    slack = 7;
+    got = jb_judge_list(rows, table->n, table->normal, table->degraded, table->loading, order, &yes, &row, &slack);
+    look_at_no_verdict(got, number, yes, row, slack);
+}
+
+/*
+ * A table is refused by this number wherever it goes in, before 6 and 10: with an order
+ * that is none and with no room. What is written then is all zero, what is lent to be
+ * written stays, and a record that has the table is unsound.
+ */
+static void look_at_refused_table(const jb_table *table, uint32_t number) {
+    const uint8_t no_order[JB_ROWS] = {1, 1};
     uint8_t planned[JB_ROWS];
     uint32_t finishes[JB_ROWS];
     uint64_t left = 7;
     uint32_t length = 7;
-    uint32_t yes = 7;
     uint32_t row = 7;
-    int32_t slack = 7;
-    look(jb_read_table((const uint8_t *)sheet, sizeof sheet - 1, &table) == JB_LOADING, "a sheet with K", 17);
-    look(all_zero(&table, sizeof table), "a table of zeros with K", 17);
+    jb_run run;
+    look_at_no_speed(table, NULL, 0, number, "no least speed");
+    look(jb_write_table(table, NULL, 0, &length) == number && length == 0, "no sheet, number", number);
+    look(jb_plan_table(table, planned, &left) == number && left == 0 && all_zero(planned, sizeof planned), "no plan, number", number);
+    look_at_refused_verdicts(table, no_order, number);
+    look(jb_worst_finishes(table, no_order, finishes) == number && all_zero(finishes, sizeof finishes), "no finishes, number", number);
+    length = 7;
+    look(jb_report_order(table, no_order, NULL, 0, &length) == number && length == 0, "no report, number", number);
+    look(jb_fresh_run(table, no_order, &run) == number && all_zero(&run, sizeof run), "no record, number", number);
+    run.table = *table;
+    fill_in_turn(run.order, table->n);
+    look(jb_coming_row(&run, &row) == JB_UNSOUND && row == 0, "an unsound record, number", number);
+}
+
+/* The sheet is refused by this number, and leaves a table of zeros. */
+static void look_at_refused_sheet(const char *sheet, size_t length, uint32_t number) {
+    jb_table table;
+    look(jb_read_table((const uint8_t *)sheet, length, &table) == number && all_zero(&table, sizeof table), "a refused sheet, number", number);
+    look_at_no_speed(NULL, sheet, length, number, "no least speed of a sheet");
+}
+
+/* K above its limit is 11, after 4 and before 5. */
+static void look_at_long_loading(void) {
+    char sheet[] = "       2       2       1      17\n"
+                   "       0       2       2       0       0       0\n"
+                   "       0       4       4       1       0       0\n";
+    jb_table table;
+    look_at_refused_sheet(sheet, sizeof sheet - 1, JB_LOADING);
     sheet[31] = '6';
     look(jb_read_table((const uint8_t *)sheet, sizeof sheet - 1, &table) == JB_OK && table.loading == JB_MOST_LOADING, "a sheet with K", 16);
     table.loading = JB_MOST_LOADING + 1;
-    look_at_no_speed(&table, NULL, 0, JB_LOADING, "no least speed with K 17");
-    look(jb_write_table(&table, NULL, 0, &length) == JB_LOADING && length == 0, "no sheet with K", table.loading);
-    look(jb_plan_table(&table, planned, &left) == JB_LOADING && left == 0 && all_zero(planned, sizeof planned), "no plan with K", 17);
-    look(jb_judge_order(&table, order, &yes, &row, &slack) == JB_LOADING && yes == 0 && row == 0 && slack == 0, "no verdict with K", 17);
-    yes = row = 7;
-    slack = 7;
-    look(jb_judge_list(rows, 2, 2, 1, 17, order, &yes, &row, &slack) == JB_LOADING && yes == 0 && row == 0 && slack == 0, "of a list, K", 17);
-    look(jb_worst_finishes(&table, order, finishes) == JB_LOADING && all_zero(finishes, sizeof finishes), "no finishes with K", 17);
-    length = 7;
-    look(jb_report_order(&table, order, NULL, 0, &length) == JB_LOADING && length == 0, "no report with K", 17);
-    look(jb_fresh_run(&table, order, &run) == JB_LOADING && all_zero(&run, sizeof run), "no record with K", 17);
+    look_at_refused_table(&table, JB_LOADING);
     table.deadline[0] = 0;
-    look(jb_plan_table(&table, planned, &left) == JB_LOADING, "11 before 5, K", 17);
+    look_at_refused_table(&table, JB_LOADING);
     table.degraded = 3;
-    look(jb_plan_table(&table, planned, &left) == JB_SPEEDS, "4 before 11, K", 17);
+    look_at_refused_table(&table, JB_SPEEDS);
 }
 
 static void look_at_row(const jb_run *run, uint32_t row, int open, int done, int dropped, int late) {
@@ -326,7 +378,7 @@ static void look_at_no_rows(const jb_run *run) {
         look_at_row(run, none[index], 0, 0, 0, 0);
         look(jb_loaded(run, none[index]) == 0 && !jb_is_loading(run, none[index]), "loading, row", none[index]);
         look(jb_need(&run->table, none[index]) == 0 && jb_allowance(&run->table, none[index]) == 0, "need, row", none[index]);
-        look(!jb_has_promised(run, none[index]), "promised part, row", none[index]);
+        look(!jb_has_promised(run, none[index]) && !jb_is_waiting(run, none[index]), "promised part and wait, row", none[index]);
     }
 }
 
@@ -513,46 +565,81 @@ static void look_at_needs(void) {
     look(jb_need(&table, 1) == 0, "no need with N", table.normal);
 }
 
-/* More promised than the row's work, or a part of a HI row, is 12: after 5 in any row, before 6 and 10, wherever a table goes in. */
+/* More promised than the row's work, or a part of a HI row, is 12, after 5 in any row. */
 static void look_at_wrong_promises(void) {
-    const jb_row rows[] = {{0, 2, 2, JB_LO, 3}, {0, 4, 4, JB_HI, 0}};
-    const uint8_t no_order[JB_ROWS] = {1, 1};
     char sheet[] = "       2       2       1       0\n"
-                   "       0       2       2       0       3\n"
-                   "       0       4       4       1       0\n";
+                   "       0       2       2       0       3       0\n"
+                   "       0       4       4       1       0       0\n";
     jb_table table;
-    jb_run run;
-    uint8_t planned[JB_ROWS];
-    uint32_t finishes[JB_ROWS];
-    uint64_t left = 7;
-    uint32_t length = 7;
-    uint32_t yes = 7;
-    uint32_t row = 7;
-    int32_t slack = 7;
-    look(jb_read_table((const uint8_t *)sheet, sizeof sheet - 1, &table) == JB_PROMISED, "a sheet that promises", 3);
-    look(all_zero(&table, sizeof table), "a table of zeros, promised", 3);
-    sheet[JB_FIRST_LINE + JB_ROW_LINE - 2] = '2';
+    uint32_t length;
+    look_at_refused_sheet(sheet, sizeof sheet - 1, JB_PROMISED);
+    sheet[JB_FIRST_LINE + 5 * JB_FIELD - 1] = '2';
     look(jb_read_table((const uint8_t *)sheet, sizeof sheet - 1, &table) == JB_OK && table.promised[0] == 2, "a sheet that promises", 2);
     table.promised[0] = 3;
-    look(jb_write_table(&table, NULL, 0, &length) == JB_PROMISED && length == 0, "no sheet, promised", 3);
-    look(jb_plan_table(&table, planned, &left) == JB_PROMISED && left == 0 && all_zero(planned, sizeof planned), "no plan, promised", 3);
-    look(jb_judge_order(&table, no_order, &yes, &row, &slack) == JB_PROMISED && yes == 0 && row == 0 && slack == 0, "no verdict", 3);
-    yes = row = 7;
-    slack = 7;
-    look(jb_judge_list(rows, 2, 2, 1, 0, no_order, &yes, &row, &slack) == JB_PROMISED && yes == 0 && row == 0 && slack == 0, "of a list", 3);
-    look(jb_worst_finishes(&table, no_order, finishes) == JB_PROMISED && all_zero(finishes, sizeof finishes), "no finishes, promised", 3);
-    length = 7;
-    look(jb_report_order(&table, no_order, NULL, 0, &length) == JB_PROMISED && length == 0, "no report, promised", 3);
-    look(jb_fresh_run(&table, no_order, &run) == JB_PROMISED && all_zero(&run, sizeof run), "no record, promised", 3);
+    look_at_refused_table(&table, JB_PROMISED);
     table.promised[0] = 0;
     table.promised[1] = 1;
-    look(jb_plan_table(&table, planned, &left) == JB_PROMISED, "12 on a HI row, promised", 1);
+    look_at_refused_table(&table, JB_PROMISED);
     table.release[1] = table.deadline[1];
-    look(jb_plan_table(&table, planned, &left) == JB_ROW_LIMITS, "5 before 12, row", 2);
+    look_at_refused_table(&table, JB_ROW_LIMITS);
     table.release[1] = 0;
     table.promised[1] = 0;
     table.promised[2] = 1;
-    look(jb_plan_table(&table, planned, &left) == JB_ROW_LIMITS, "5 for what is promised after the last row", 3);
+    look(jb_write_table(&table, NULL, 0, &length) == JB_ROW_LIMITS, "5 for what is promised after the last row", 3);
+}
+
+/* A table of up to three rows with N 2 and G 1, and how it is answered: refused, or taken (0). */
+typedef struct {
+    jb_row rows[3];
+    uint32_t number;
+} wait_case;
+
+/*
+ * 13 for a row that follows itself, one below it, one that is not there or one beyond all
+ * rows; 14 for a follower with an earlier release than the row that it follows has, and
+ * not with the same; 15 for a HI follower of a LO row, and no other one. Of several the
+ * first row counts, in it the lowest number, and whatever comes before 13 counts before
+ * them.
+ */
+static const wait_case WAIT_CASES[] = {
+    {{{0, 1, 9, JB_LO, 0, 1}, {0, 0, 0, 0, 0, 0}, {0, 0, 0, 0, 0, 0}}, JB_NOT_LOWER},
+    {{{0, 1, 9, JB_LO, 0, 2}, {0, 1, 9, JB_LO, 0, 0}, {0, 0, 0, 0, 0, 0}}, JB_NOT_LOWER},
+    {{{0, 1, 9, JB_LO, 0, 0}, {0, 1, 9, JB_LO, 0, 3}, {0, 0, 0, 0, 0, 0}}, JB_NOT_LOWER},
+    {{{0, 1, 9, JB_LO, 0, 0}, {0, 1, 9, JB_LO, 0, JB_ROWS + 1}, {0, 0, 0, 0, 0, 0}}, JB_NOT_LOWER},
+    {{{0, 1, 9, JB_LO, 0, 0}, {0, 1, 9, JB_LO, 0, UINT32_MAX}, {0, 0, 0, 0, 0, 0}}, JB_NOT_LOWER},
+    {{{0, 1, 9, JB_LO, 0, 0}, {0, 1, 9, JB_LO, 0, 1}, {0, 0, 0, 0, 0, 0}}, JB_OK},
+    {{{1, 1, 9, JB_LO, 0, 0}, {0, 1, 9, JB_LO, 0, 1}, {0, 0, 0, 0, 0, 0}}, JB_RELEASED_LATER},
+    {{{0, 1, 9, JB_LO, 0, 0}, {1, 1, 9, JB_LO, 0, 1}, {0, 0, 0, 0, 0, 0}}, JB_OK},
+    {{{0, 1, 9, JB_LO, 0, 0}, {0, 1, 9, JB_HI, 0, 1}, {0, 0, 0, 0, 0, 0}}, JB_FOLLOWS_LOW},
+    {{{0, 1, 9, JB_HI, 0, 0}, {0, 1, 9, JB_LO, 0, 1}, {0, 0, 0, 0, 0, 0}}, JB_OK},
+    {{{0, 1, 9, JB_HI, 0, 0}, {0, 1, 9, JB_HI, 0, 1}, {0, 1, 9, JB_LO, 0, 2}}, JB_OK},
+    {{{1, 1, 9, JB_LO, 0, 0}, {0, 1, 9, JB_HI, 0, 1}, {0, 0, 0, 0, 0, 0}}, JB_RELEASED_LATER},
+    {{{0, 1, 9, JB_LO, 0, 0}, {0, 1, 9, JB_HI, 0, 1}, {0, 1, 9, JB_LO, 0, 3}}, JB_FOLLOWS_LOW},
+    {{{1, 1, 9, JB_LO, 0, 0}, {0, 1, 9, JB_LO, 0, 1}, {0, 1, 9, JB_LO, 0, 3}}, JB_RELEASED_LATER},
+    {{{0, 1, 9, JB_LO, 0, 1}, {0, 1, 9, JB_LO, 2, 0}, {0, 0, 0, 0, 0, 0}}, JB_PROMISED},
+    {{{0, 1, 9, JB_LO, 0, 1}, {9, 1, 9, JB_LO, 0, 0}, {0, 0, 0, 0, 0, 0}}, JB_ROW_LIMITS},
+};
+
+static void look_at_wrong_waits(void) {
+    char sheet[] = "       2       2       1       0\n"
+                   "       0       2       2       0       0       0\n"
+                   "       0       4       4       0       0       2\n";
+    jb_table table;
+    uint32_t length;
+    for (unsigned index = 0; index < sizeof WAIT_CASES / sizeof WAIT_CASES[0]; index++) {
+        const wait_case *expected = &WAIT_CASES[index];
+        table = table_of_rows(2, 1, expected->rows, 3);
+        if (expected->number == JB_OK) {
+            look(jb_write_table(&table, NULL, 0, &length) == JB_NO_ROOM, "taken, wait case", index);
+        } else {
+            look_at_refused_table(&table, expected->number);
+        }
+    }
+    look_at_refused_sheet(sheet, sizeof sheet - 1, JB_NOT_LOWER);
+    sheet[sizeof sheet - 3] = '1';
+    look(jb_read_table((const uint8_t *)sheet, sizeof sheet - 1, &table) == JB_OK && table.follows[1] == 1, "a sheet with a follower of row", 1);
+    table.follows[2] = 1;
+    look(jb_write_table(&table, NULL, 0, &length) == JB_ROW_LIMITS, "5 for a followed row after the last row", 3);
 }
 
 /*
@@ -593,9 +680,98 @@ static void look_at_promises(void) {
     look(jb_is_dropped_for_deadline(&run, 1) && !jb_has_promised(&run, 1) && run.got[0] == 3, "dropped without its part at", run.closing[0]);
 }
 
+/* A run of rows of which row 2 follows row 1: the supply of each slot and the row that it runs, up to the slot in which row 2 runs. */
+typedef struct {
+    uint32_t normal;
+    uint32_t degraded;
+    jb_row rows[3]; /* the last of no work where there is none */
+    uint8_t order[JB_ROWS];
+    uint32_t slots;
+    uint32_t supplies[6];
+    uint32_t ran[6];
+    uint32_t closed; /* the clock at which row 1 closes, in slots */
+    int dropped;     /* row 1 is dropped, and not done */
+} follower_case;
+
+/*
+ * Row 1 is preempted by row 3 and done at 5; it is dropped at 2 when its allowance is used
+ * up; it is dropped at 2 by the clock while row 3 runs. Row 2 runs in the slot after that.
+ */
+static const follower_case FOLLOWER_CASES[] = {
+    {1, 1, {{0, 3, 9, JB_LO, 0, 0}, {0, 1, 9, JB_LO, 0, 1}, {1, 2, 4, JB_HI, 0, 0}}, {3, 1, 2}, 6, {1, 1, 1, 1, 1, 1}, {1, 3, 3, 1, 1, 2}, 5, 0},
+    {2, 1, {{0, 4, 9, JB_LO, 0, 0}, {0, 2, 9, JB_LO, 0, 1}, {0, 0, 0, 0, 0, 0}}, {1, 2}, 3, {1, 1, 2}, {1, 1, 2}, 2, 1},
+    {1, 1, {{0, 2, 2, JB_LO, 0, 0}, {0, 1, 5, JB_LO, 0, 1}, {0, 2, 2, JB_HI, 0, 0}}, {3, 1, 2}, 3, {1, 1, 1}, {3, 3, 2}, 2, 1},
+};
+
+/* Row 2 waits until row 1 is closed, and no longer; without its wait every slot would have gone the same way. */
+static void look_at_followers(void) {
+    for (unsigned index = 0; index < sizeof FOLLOWER_CASES / sizeof FOLLOWER_CASES[0]; index++) {
+        const follower_case *expected = &FOLLOWER_CASES[index];
+        const jb_table table = table_of_rows(expected->normal, expected->degraded, expected->rows, 3);
+        jb_table free_of_waits = table;
+        jb_run run;
+        jb_run other;
+        uint32_t row;
+        memset(free_of_waits.follows, 0, sizeof free_of_waits.follows);
+        look(jb_fresh_run(&table, expected->order, &run) == JB_OK, "fresh, follower case", index);
+        look(jb_fresh_run(&free_of_waits, expected->order, &other) == JB_OK, "fresh without waits, follower case", index);
+        for (uint32_t slot = 0; slot < expected->slots; slot++) {
+            look(jb_is_waiting(&run, 2) == (run.clock < expected->closed) && !jb_is_waiting(&run, 1), "waiting, follower case", index);
+            look(jb_coming_row(&run, &row) == JB_OK && row == expected->ran[slot], "coming, follower case", index);
+            look(jb_work_slot(&run, expected->supplies[slot], &row) == JB_OK && row == expected->ran[slot], "slot, follower case", index);
+            look(jb_work_slot(&other, expected->supplies[slot], &row) == JB_OK && row == expected->ran[slot], "without waits, follower case", index);
+            look(memcmp(&run.clock, &other.clock, sizeof run - offsetof(jb_run, clock)) == 0, "one state, follower case", index);
+        }
+        look(run.closing[0] == expected->closed && jb_is_dropped(&run, 1) == expected->dropped, "row 1, follower case", index);
+        look(jb_is_done(&run, 2) && !jb_is_waiting(&run, 2), "row 2, follower case", index);
+    }
+}
+
+/* Orders that keep the waits of three rows alike, and orders that break one: 6 for these, and a record with one is unsound. */
+static void look_at_orders_of_followers(void) {
+    const jb_row rows[] = {{0, 1, 9, JB_LO, 0, 0}, {0, 1, 9, JB_LO, 0, 1}, {0, 1, 9, JB_LO, 0, 2}};
+    const uint8_t orders[][JB_ROWS] = {{1, 2, 3}, {2, 1, 3}, {1, 3, 2}, {3, 2, 1}};
+    jb_table table = table_of_rows(1, 1, rows, 3);
+    for (unsigned index = 0; index < sizeof orders / sizeof orders[0]; index++) {
+        const uint32_t number = index == 0 ? JB_OK : JB_NOT_AN_ORDER;
+        jb_run run;
+        uint32_t finishes[JB_ROWS];
+        uint32_t length = 7;
+        uint32_t row = 7;
+        look(jb_fresh_run(&table, orders[index], &run) == number && all_zero(&run, sizeof run) == (number != JB_OK), "fresh, order", index);
+        look(jb_worst_finishes(&table, orders[index], finishes) == number, "finishes, order", index);
+        look(jb_report_order(&table, orders[index], NULL, 0, &length) == (number == JB_OK ? (uint32_t)JB_NO_ROOM : number), "report, order", index);
+        run.table = table;
+        memcpy(run.order, orders[index], JB_ROWS);
+        look(jb_coming_row(&run, &row) == (number == JB_OK ? JB_OK : JB_UNSOUND) && row == (number == JB_OK ? 1u : 0u), "coming, order", index);
+    }
+}
+
+/*
+ * The planner keeps waits: a chain of three rows alike stands as it is, and without its
+ * waits the other way round. A row that has to be first and follows another leaves no
+ * order, though there is one without the wait.
+ */
+static void look_at_plans_of_followers(void) {
+    const jb_row chain[] = {{0, 1, 9, JB_LO, 0, 0}, {0, 1, 9, JB_LO, 0, 1}, {0, 1, 9, JB_LO, 0, 2}};
+    const jb_row urgent[] = {{0, 1, 9, JB_LO, 0, 0}, {0, 1, 1, JB_LO, 0, 1}};
+    const uint8_t planned[][JB_ROWS] = {{1, 2, 3}, {3, 2, 1}, {0}, {2, 1}};
+    for (unsigned index = 0; index < 4; index++) {
+        jb_table table = index < 2 ? table_of_rows(1, 1, chain, 3) : table_of_rows(1, 1, urgent, 2);
+        const uint32_t number = index == 2 ? JB_NO_ORDER : JB_OK;
+        uint8_t order[JB_ROWS];
+        uint64_t left = 7;
+        if (index % 2 == 1) {
+            memset(table.follows, 0, sizeof table.follows);
+        }
+        look(jb_plan_table(&table, order, &left) == number && left == (number == JB_OK ? 0u : 3u), "number and rows left, plan", index);
+        look(memcmp(order, planned[index], JB_ROWS) == 0, "order, plan", index);
+    }
+}
+
 /* The list's verdict taken apart is the table's, slacks below zero too. */
 static void look_at_lists(void) {
-    const jb_row rows[] = {{0, 2, 2, JB_LO, 0}, {0, 4, 4, JB_HI, 0}};
+    const jb_row rows[] = {{0, 2, 2, JB_LO, 0, 0}, {0, 4, 4, JB_HI, 0, 0}};
     const uint8_t orders[][JB_ROWS] = {{1, 2}, {2, 1}, {1, 1}};
     jb_table table;
     look(jb_read_table((const uint8_t *)P3, sizeof P3 - 1, &table) == JB_OK, "P3", 0);
@@ -623,6 +799,7 @@ int main(void) {
     look_at_fields();
     look_at_long_loading();
     look_at_wrong_promises();
+    look_at_wrong_waits();
     look_at_run();
     look_at_loading();
     look_at_deadlines();
@@ -630,6 +807,9 @@ int main(void) {
     look_at_soundness();
     look_at_needs();
     look_at_promises();
+    look_at_followers();
+    look_at_orders_of_followers();
+    look_at_plans_of_followers();
     look_at_lists();
     printf("header: %u things looked at, %u not as they should be\n", looked_at, wrong);
     return wrong == 0 ? 0 : 1;

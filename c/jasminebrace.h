@@ -32,6 +32,16 @@
  * larger of the need of its work at N and the need of its promised part at G, K in
  * each.
  *
+ * Rows that follow rows. A row may follow a row above it in the table: follows, its row
+ * number, or 0 for none. Such a row waits: no slot runs it while the row that it follows
+ * is open. Once that one is closed, done or dropped, it may run. A row is ready if it is
+ * released and open and does not wait; a slot runs the ready row with the highest place.
+ * The followed row has a lower row number, is released no later, and is HI if its
+ * follower is. In an order a row stands below the one that it follows, in a later
+ * place; the planner makes such orders alone. The first released and open row of such an
+ * order never waits, so that no slot is lost by waiting, and nothing has to be called
+ * for it.
+ *
  * Memory. Every pointer points to memory of the size that its parameter names,
  * aligned for its type. It is not null, but for one case: the functions of the
  * last part take null for a list, or for bytes to write to, where their length is
@@ -51,28 +61,28 @@
  * Stack, in bytes, without what the caller lends. It is measured, over tables of
  * 1 and 64 rows, and not proved: the most that each call took, and some bytes
  * more (512 stands for less); docs/BENCHMARKS.md says how:
- *     jb_read                  6,912
- *     jb_write                 4,352
+ *     jb_read                  8,192
+ *     jb_write                 5,120
  *     jb_field                   512
- *     jb_plan                  8,960
- *     jb_least_degraded       12,032
- *     jb_least_normal         12,032
- *     jb_read_least_degraded  12,032
- *     jb_read_least_normal    12,032
- *     jb_judge                 8,192
- *     jb_judge_rows           10,496
- *     jb_finishes              6,912
- *     jb_report                7,936
- *     jb_fresh                 4,864
- *     jb_coming               10,496
- *     jb_slot                 13,312
- *     jb_forward              12,288
- *     jb_program              14,336
+ *     jb_plan                 10,240
+ *     jb_least_degraded       13,824
+ *     jb_least_normal         13,824
+ *     jb_read_least_degraded  13,824
+ *     jb_read_least_normal    13,824
+ *     jb_judge                10,240
+ *     jb_judge_rows           12,800
+ *     jb_finishes              7,680
+ *     jb_report                8,960
+ *     jb_fresh                 9,216
+ *     jb_coming               14,848
+ *     jb_slot                 17,920
+ *     jb_forward              16,896
+ *     jb_program              16,128
  *     jb_version                 512
  * The functions of the last part add the few words of their own frame. But jb_need,
  * jb_allowance and jb_is_dropped_for_deadline call jb_finishes on a table of their
  * own. Measured likewise, by tools/firmware_test.c as gcc compiles it with -O2:
- * count on 8,448 bytes.
+ * count on 9,728 bytes.
  *
  * Bare boards. The archive's code uses xmm registers by SSE and SSE2
  * instructions, and no x87, MMX or AVX. Of later instructions it has tzcnt,
@@ -113,10 +123,13 @@
  * linked is of the same number.
  * 3: LO rows are dropped at their deadlines, so that other records are sound and
  *    9 means something else than in 2. Sizes and layouts are those of 2.
- * 4: rows have a promised part, last in jb_row and last in jb_table. A table, and so a
- *    record, is 256 bytes longer, the line of a row in a sheet 8 bytes; 12 is new.
+ * 4: rows have a promised part, after the level in jb_row and in jb_table. A table, and
+ *    so a record, is 256 bytes longer, the line of a row in a sheet 8 bytes; 12 is new.
+ * 5: rows may follow rows: follows, last in jb_row and last in jb_table. A table, and so
+ *    a record, is again 256 bytes longer, the line of a row in a sheet 8 bytes; 13, 14
+ *    and 15 are new, and 6 is given for a row that stands above the one it follows too.
  */
-#define JB_VERSION 4u
+#define JB_VERSION 5u
 
 #ifdef __cplusplus
 #define JB_STATIC_ASSERT(condition, words) static_assert(condition, words)
@@ -136,20 +149,20 @@ enum jb_limit {
     JB_MOST_WORK = 1000000,    /* largest work of a row, in work units */
     JB_LAST_DEADLINE = 1000000, /* latest deadline, in slots */
     JB_LAST_CLOCK = 2000000,   /* the clock at which no slot is worked any more, in slots */
-    JB_TABLE_WORDS = 324,      /* 32-bit words in a table */
+    JB_TABLE_WORDS = 388,      /* 32-bit words in a table */
     JB_STATE_WORDS = 193,      /* 32-bit words in the state of a run */
     JB_FIELD = 8,              /* bytes in a field of a sheet */
     JB_FIRST_LINE = 33,        /* bytes in a sheet's first line: n, N, G, K and byte 10 */
-    JB_ROW_LINE = 41,          /* bytes in the line of a row: release, work, deadline, level,
-                                  promised part and byte 10 */
-    JB_LONGEST_SHEET = 2657,   /* bytes in a sheet of 64 rows: 33 + 41 for each row */
+    JB_ROW_LINE = 49,          /* bytes in the line of a row: release, work, deadline, level,
+                                  promised part, followed row and byte 10 */
+    JB_LONGEST_SHEET = 3169,   /* bytes in a sheet of 64 rows: 33 + 49 for each row */
     JB_FIGURE = 10,            /* bytes in a figure of a report */
     JB_PLACE_LINE = 51,        /* bytes in a report's line of a place: five figures and byte 10 */
     JB_TOTALS_LINE = 21,       /* bytes in a report's last line: two figures and byte 10 */
     JB_LONGEST_REPORT = 3285,  /* bytes in a report of 64 rows: 51 for each row + 21 */
-    JB_PROGRAM_INPUT = 2658,   /* bytes of its input that the planning program looks at */
+    JB_PROGRAM_INPUT = 3170,   /* bytes of its input that the planning program looks at */
     JB_PROGRAM_TEXT = 1617,    /* most bytes that the planning program writes */
-    JB_LAST_NUMBER = 12        /* largest number that a call returns */
+    JB_LAST_NUMBER = 15        /* largest number that a call returns */
 };
 
 /* Levels of a row. */
@@ -160,8 +173,11 @@ enum jb_level {
 
 /*
  * The number that a call returns. jb_words and jb_remedy say what each means and
- * what to do about it. jb_field, jb_program, jb_program_text and jb_version return
- * no such number, and jb_judge_rows returns a word in which it is packed.
+ * what to do about it. A table is checked for 3, 4 and 11, for 5 in every row, for 12 in
+ * every row, then for 13, 14 and 15 row by row, and the first that is found is returned;
+ * 6 comes after these, 10 last. A record whose table or order is refused by one of them
+ * is unsound (9). jb_field, jb_program, jb_program_text and jb_version return no such
+ * number, and jb_judge_rows returns a word in which it is packed.
  */
 enum jb_number {
     JB_OK = 0,           /* success */
@@ -170,8 +186,10 @@ enum jb_number {
     JB_ROW_COUNT = 3,    /* the row count is beyond its limits */
     JB_SPEEDS = 4,       /* a speed is beyond its limits */
     JB_ROW_LIMITS = 5,   /* a row is beyond its limits, or figures stand after the last */
-    JB_NOT_AN_ORDER = 6, /* the order is no order of the table */
-    JB_NO_ORDER = 7,     /* no correct order exists; from a search, at no speed of its range. It
+    JB_NOT_AN_ORDER = 6, /* the order is no order of the table: not each row once, or a row above
+                            the one that it follows */
+    JB_NO_ORDER = 7,     /* no correct order exists, none in which every row stands below the
+                            one that it follows; from a search, at no speed of its range. It
                             tells nothing of orders that would serve only because runs drop
                             late LO rows */
     JB_CLOCK_OVER = 8,   /* the clock is at its end, and no further slot is worked */
@@ -179,27 +197,34 @@ enum jb_number {
                             clock that has reached its deadline is one reason */
     JB_NO_ROOM = 10,     /* the memory lent is shorter than what has to be written */
     JB_LOADING = 11,     /* K is beyond its limit */
-    JB_PROMISED = 12     /* a promised part is above its row's work, or stands on a HI row */
+    JB_PROMISED = 12,    /* a promised part is above its row's work, or stands on a HI row */
+    JB_NOT_LOWER = 13,   /* a row follows what is not a row above it in the table */
+    JB_RELEASED_LATER = 14, /* a row follows one that is released later than itself */
+    JB_FOLLOWS_LOW = 15     /* a row is HI and the row that it follows LO */
 };
 
 /* What a number means, in words. The text lasts as long as the program. */
 static inline const char *jb_words(uint32_t number) {
     switch (number) {
     case JB_OK: return "success";
-    case JB_LENGTH: return "the sheet has under 33 bytes, or not 33 + 41 for each row";
+    case JB_LENGTH: return "the sheet has under 33 bytes, or not 33 + 49 for each row";
     case JB_MALFORMED: return "a field or a line end of the sheet is malformed";
     case JB_ROW_COUNT: return "the row count is not 1 to 64";
     case JB_SPEEDS: return "N is not 1 to 1,000, or G is not 1 to N (work units per slot)";
     case JB_ROW_LIMITS:
         return "a row has work not 1 to 1,000,000 work units, a deadline over 1,000,000 slots, a release not below its "
                "deadline or a level not 0 or 1, or a row after the last is not zero";
-    case JB_NOT_AN_ORDER: return "the order does not name every row once and then only zeros";
+    case JB_NOT_AN_ORDER:
+        return "the order does not name every row once and then only zeros, or has a row above the one that it follows";
     case JB_NO_ORDER: return "no correct order exists";
     case JB_CLOCK_OVER: return "the clock is 2,000,000 slots, and no further slot is worked";
     case JB_UNSOUND: return "the run record cannot come from a run";
     case JB_NO_ROOM: return "the memory lent has fewer bytes than have to be written";
     case JB_LOADING: return "K is above 16 slots";
     case JB_PROMISED: return "a promised part is above its row's work, or above 0 work units on a HI row";
+    case JB_NOT_LOWER: return "a row follows what is not a row above it in the table";
+    case JB_RELEASED_LATER: return "a row follows one that is released later than itself";
+    case JB_FOLLOWS_LOW: return "a row is HI and the row that it follows LO";
     default: return "this number is never returned";
     }
 }
@@ -215,18 +240,24 @@ static inline const char *jb_remedy(uint32_t number) {
     case JB_ROW_COUNT: return "split the table, or give it a row";
     case JB_SPEEDS: return "correct the speeds";
     case JB_ROW_LIMITS: return "correct the row";
-    case JB_NOT_AN_ORDER: return "give each row of the table once, highest place first";
+    case JB_NOT_AN_ORDER:
+        return "give each row of the table once, highest place first, each below the row that it follows";
     case JB_NO_ORDER:
-        return "give the rows left later deadlines, less work or smaller promised parts, the processor more speed, or the "
-               "table a smaller K";
+        return "give the rows left later deadlines, less work, smaller promised parts or fewer waits, the processor more "
+               "speed, or the table a smaller K";
     case JB_CLOCK_OVER: return "begin a new run with a fresh record";
     case JB_UNSOUND:
         return "the record's memory was damaged, or it was stored by an earlier interface: bring up a record of interface 3 "
-               "as docs/FIRMWARE.md says, else begin a new run with a fresh record";
-    case JB_NO_ROOM: return "lend more memory: 2,657 bytes hold every sheet, 3,285 bytes every report";
+               "or 4 as docs/FIRMWARE.md says, else begin a new run with a fresh record";
+    case JB_NO_ROOM: return "lend more memory: 3,169 bytes hold every sheet, 3,285 bytes every report";
     case JB_LOADING: return "correct K; where a job really takes longer to load, split it or make the slots longer";
     case JB_PROMISED:
         return "promise at most the row's work, and 0 work units on a HI row, all of whose work is promised at G";
+    case JB_NOT_LOWER: return "let the row follow one of a lower row number, or none (0)";
+    case JB_RELEASED_LATER: return "release the row no earlier than the one that it follows, or let it follow none (0)";
+    case JB_FOLLOWS_LOW:
+        return "make the followed row HI or its follower LO, or let the row follow none (0): a HI job must not wait for one "
+               "that may be dropped";
     default: return "compare the header with the archive by jb_fits()";
     }
 }
@@ -239,6 +270,7 @@ typedef struct {
     uint32_t level;    /* JB_LO or JB_HI */
     uint32_t promised; /* work units that a LO row is to have at its deadline if every slot supplies at least G: 0 to
                           its work; 0 on a HI row */
+    uint32_t follows;  /* the row that has to be closed before this one runs: a lower row number; 0 for none */
 } jb_row;
 
 /* A table of n rows. Row i is at index i - 1 of every column; the entries after row n are 0. */
@@ -253,12 +285,15 @@ typedef struct {
     uint32_t level[JB_ROWS];    /* JB_LO or JB_HI */
     uint32_t promised[JB_ROWS]; /* work units that a LO row is to have at its deadline if every slot supplies at least
                                    G: 0 to its work; 0 on a HI row */
+    uint32_t follows[JB_ROWS];  /* the row that has to be closed before this one runs: a lower row number, released no
+                                   later, and HI if this row is; 0 for none */
 } jb_table;
 
 /* A run record: a table, an order of it, and how far its run has come. */
 typedef struct {
     jb_table table;
-    uint8_t order[JB_ROWS];    /* row numbers from the highest place down, then zeros */
+    uint8_t order[JB_ROWS];    /* row numbers from the highest place down, each row below the
+                                  one that it follows, then zeros */
     uint32_t clock;            /* slots worked, 0 to 2,000,000 slots: the coming slot */
     uint32_t got[JB_ROWS];     /* work got by each row, in work units */
     uint32_t used[JB_ROWS];    /* slots used by each row, loading slots too */
@@ -266,9 +301,9 @@ typedef struct {
                                   dropped, for a LO row at most its deadline; 0 while it is open */
 } jb_run;
 
-JB_STATIC_ASSERT(sizeof(jb_row) == 20, "a row is five words without gaps");
-JB_STATIC_ASSERT(sizeof(jb_table) == 1296, "a table is 324 words without gaps");
-JB_STATIC_ASSERT(sizeof(jb_table) == 4 * JB_TABLE_WORDS, "a table is 324 words without gaps");
+JB_STATIC_ASSERT(sizeof(jb_row) == 24, "a row is six words without gaps");
+JB_STATIC_ASSERT(sizeof(jb_table) == 1552, "a table is 388 words without gaps");
+JB_STATIC_ASSERT(sizeof(jb_table) == 4 * JB_TABLE_WORDS, "a table is 388 words without gaps");
 JB_STATIC_ASSERT(offsetof(jb_table, n) == 0, "the row count is word 0 of a table");
 JB_STATIC_ASSERT(offsetof(jb_table, normal) == 4, "N is word 1 of a table");
 JB_STATIC_ASSERT(offsetof(jb_table, degraded) == 8, "G is word 2 of a table");
@@ -278,16 +313,17 @@ JB_STATIC_ASSERT(offsetof(jb_table, work) == 272, "the works begin at word 68 of
 JB_STATIC_ASSERT(offsetof(jb_table, deadline) == 528, "the deadlines begin at word 132 of a table");
 JB_STATIC_ASSERT(offsetof(jb_table, level) == 784, "the levels begin at word 196 of a table");
 JB_STATIC_ASSERT(offsetof(jb_table, promised) == 1040, "the promised parts begin at word 260 of a table");
-JB_STATIC_ASSERT(sizeof(jb_run) == 2132, "a run record is 2,132 bytes without gaps");
+JB_STATIC_ASSERT(offsetof(jb_table, follows) == 1296, "the followed rows begin at word 324 of a table");
+JB_STATIC_ASSERT(sizeof(jb_run) == 2388, "a run record is 2,388 bytes without gaps");
 JB_STATIC_ASSERT(offsetof(jb_run, table) == 0, "a run record begins with its table");
-JB_STATIC_ASSERT(offsetof(jb_run, order) == 1296, "the order follows the table");
-JB_STATIC_ASSERT(offsetof(jb_run, clock) == 1360, "the state follows the order");
-JB_STATIC_ASSERT(offsetof(jb_run, got) == 1364, "the works got begin at word 1 of the state");
-JB_STATIC_ASSERT(offsetof(jb_run, used) == 1620, "the slots used begin at word 65 of the state");
-JB_STATIC_ASSERT(offsetof(jb_run, closing) == 1876, "the closing slots begin at word 129 of the state");
+JB_STATIC_ASSERT(offsetof(jb_run, order) == 1552, "the order follows the table");
+JB_STATIC_ASSERT(offsetof(jb_run, clock) == 1616, "the state follows the order");
+JB_STATIC_ASSERT(offsetof(jb_run, got) == 1620, "the works got begin at word 1 of the state");
+JB_STATIC_ASSERT(offsetof(jb_run, used) == 1876, "the slots used begin at word 65 of the state");
+JB_STATIC_ASSERT(offsetof(jb_run, closing) == 2132, "the closing slots begin at word 129 of the state");
 JB_STATIC_ASSERT(sizeof(jb_run) - offsetof(jb_run, clock) == 4 * JB_STATE_WORDS, "a state is 193 words without gaps");
 JB_STATIC_ASSERT(JB_FIRST_LINE == 4 * JB_FIELD + 1, "the first line of a sheet has four fields");
-JB_STATIC_ASSERT(JB_ROW_LINE == 5 * JB_FIELD + 1, "the line of a row has five fields");
+JB_STATIC_ASSERT(JB_ROW_LINE == 6 * JB_FIELD + 1, "the line of a row has six fields");
 JB_STATIC_ASSERT(JB_LONGEST_SHEET == JB_FIRST_LINE + JB_ROWS * JB_ROW_LINE, "the longest sheet has 64 rows");
 JB_STATIC_ASSERT(JB_PLACE_LINE == 5 * JB_FIGURE + 1, "the line of a place has five figures");
 JB_STATIC_ASSERT(JB_TOTALS_LINE == 2 * JB_FIGURE + 1, "the last line of a report has two figures");
@@ -298,13 +334,13 @@ JB_STATIC_ASSERT(JB_PROGRAM_TEXT == 17 + 25 * JB_ROWS, "a text is a first line o
 #undef JB_STATIC_ASSERT
 
 /*
- * The functions of the archive, on bare arrays. table is the 324 words of a
+ * The functions of the archive, on bare arrays. table is the 388 words of a
  * jb_table, state the 193 words of a jb_run from its clock on. What each does
  * stands at the function over jb_table and jb_run that calls it. No pointer is
  * null here, not even where a length is 0.
  */
-uint32_t jb_read(const uint8_t *sheet, size_t length, uint32_t table[324]);
-uint32_t jb_write(const uint32_t table[324], uint8_t *sheet, size_t room, uint32_t *length);
+uint32_t jb_read(const uint8_t *sheet, size_t length, uint32_t table[388]);
+uint32_t jb_write(const uint32_t table[388], uint8_t *sheet, size_t room, uint32_t *length);
 
 /* Writes a number as a field of a sheet: right-justified in 8 bytes with spaces
    before it. Gives 1 if the field holds the number, which is so below
@@ -312,12 +348,12 @@ uint32_t jb_write(const uint32_t table[324], uint8_t *sheet, size_t room, uint32
    gives 0. */
 uint32_t jb_field(uint32_t figure, uint8_t field[8]);
 
-uint32_t jb_plan(const uint32_t table[324], uint8_t order[64], uint64_t *left);
-uint32_t jb_least_degraded(const uint32_t table[324], uint32_t *speed, uint8_t order[64]);
-uint32_t jb_least_normal(const uint32_t table[324], uint32_t *speed, uint8_t order[64]);
+uint32_t jb_plan(const uint32_t table[388], uint8_t order[64], uint64_t *left);
+uint32_t jb_least_degraded(const uint32_t table[388], uint32_t *speed, uint8_t order[64]);
+uint32_t jb_least_normal(const uint32_t table[388], uint32_t *speed, uint8_t order[64]);
 uint32_t jb_read_least_degraded(const uint8_t *sheet, size_t length, uint32_t *speed, uint8_t order[64]);
 uint32_t jb_read_least_normal(const uint8_t *sheet, size_t length, uint32_t *speed, uint8_t order[64]);
-uint32_t jb_judge(const uint32_t table[324], const uint8_t order[64], uint32_t *yes, uint32_t *row, int32_t *slack);
+uint32_t jb_judge(const uint32_t table[388], const uint8_t order[64], uint32_t *yes, uint32_t *row, int32_t *slack);
 
 /* Returns no number but a packed word: the number in bits 0 to 3, yes in bit 4,
    the row in bits 5 to 15 and the slack's 32 bits, two's complement, from bit 16
@@ -325,13 +361,13 @@ uint32_t jb_judge(const uint32_t table[324], const uint8_t order[64], uint32_t *
 uint64_t jb_judge_rows(const jb_row *rows, size_t count, uint32_t normal, uint32_t degraded, uint32_t loading,
                        const uint8_t order[64]);
 
-uint32_t jb_finishes(const uint32_t table[324], const uint8_t order[64], uint32_t finishes[64]);
-uint32_t jb_report(const uint32_t table[324], const uint8_t order[64], uint8_t *report, size_t room, uint32_t *length);
-uint32_t jb_fresh(const uint32_t table[324], const uint8_t order[64], uint32_t run_table[324], uint8_t run_order[64],
+uint32_t jb_finishes(const uint32_t table[388], const uint8_t order[64], uint32_t finishes[64]);
+uint32_t jb_report(const uint32_t table[388], const uint8_t order[64], uint8_t *report, size_t room, uint32_t *length);
+uint32_t jb_fresh(const uint32_t table[388], const uint8_t order[64], uint32_t run_table[388], uint8_t run_order[64],
                   uint32_t run_state[193]);
-uint32_t jb_coming(const uint32_t table[324], const uint8_t order[64], const uint32_t state[193], uint32_t *row);
-uint32_t jb_slot(const uint32_t table[324], const uint8_t order[64], uint32_t state[193], uint32_t supply, uint32_t *row);
-uint32_t jb_forward(const uint32_t table[324], const uint8_t order[64], uint32_t state[193], const uint32_t *supplies,
+uint32_t jb_coming(const uint32_t table[388], const uint8_t order[64], const uint32_t state[193], uint32_t *row);
+uint32_t jb_slot(const uint32_t table[388], const uint8_t order[64], uint32_t state[193], uint32_t supply, uint32_t *row);
+uint32_t jb_forward(const uint32_t table[388], const uint8_t order[64], uint32_t state[193], const uint32_t *supplies,
                     size_t count, uint32_t *worked);
 uint32_t jb_program(const uint8_t *input, size_t length, uint8_t text[1617]);
 
@@ -361,7 +397,7 @@ static inline uint32_t *jb_state_words(jb_run *run) {
  * Reads a sheet into a table.
  * In:      sheet, length bytes; any bytes, any length; null is allowed with 0.
  * Out:     0, and table holds the sheet's table.
- * Refused: 1, 2, 3, 4, 11, 5 or 12; table is then all zero.
+ * Refused: 1, 2, 3, 4, 11, 5 or 12 to 15; table is then all zero.
  */
 static inline uint32_t jb_read_table(const uint8_t *sheet, size_t length, jb_table *table) {
     const uint8_t none = 0;
@@ -373,10 +409,10 @@ static inline uint32_t jb_read_table(const uint8_t *sheet, size_t length, jb_tab
  * table. A sheet that was read comes out again byte for byte.
  * In:      table, any values; sheet, memory of room bytes, any length (JB_LONGEST_SHEET
  *          is enough for every table) and any values; null is allowed with 0.
- * Out:     0; length is the sheet's length in bytes, 33 + 41 for each row, and
+ * Out:     0; length is the sheet's length in bytes, 33 + 49 for each row, and
  *          the first length bytes of sheet are the sheet. The bytes after
  *          them are as they were.
- * Refused: 3, 4, 11, 5 or 12 for the table, else 10 if room is below the sheet's
+ * Refused: 3, 4, 11, 5 or 12 to 15 for the table, else 10 if room is below the sheet's
  *          length; length is then 0 and no byte of sheet is written.
  */
 static inline uint32_t jb_write_table(const jb_table *table, uint8_t *sheet, size_t room, uint32_t *length) {
@@ -388,7 +424,7 @@ static inline uint32_t jb_write_table(const jb_table *table, uint8_t *sheet, siz
  * The planning program as a function: reads a sheet, plans it and writes what
  * the program writes, in 8-byte fields with byte 10 at each line's end.
  * In:      input, length bytes; any bytes, any length; null is allowed with 0. Only
- *          the first 2,658 bytes are looked at.
+ *          the first 3,170 bytes are looked at.
  * Out:     the length of the text in bytes, 17 to 1,617. text holds the text
  *          and zeros after it. Its first line is 0 and the row count, or a
  *          refusal's number and the count of rows left, which is 0 but for 7.
@@ -405,16 +441,17 @@ static inline uint32_t jb_program_text(const uint8_t *input, size_t length, uint
  * every row keeps its deadline whenever every slot supplies at least N work
  * units; and whenever every slot supplies at least G, every HI row does, and every
  * LO row has got its promised part at its deadline. An order is correct if that
- * holds even where late LO rows go on.
+ * holds even where late LO rows go on. Every row stands in it below the one that it
+ * follows, so that runs under it keep all waits by themselves.
  * In:      table, any values.
  * Out:     0, and order holds row numbers from the highest place down, then
  *          zeros; left is 0.
- * Refused: 7 if no correct order exists: order is all zero, and left holds the
- *          rows left to place, row 1 in the lowest bit. Some tables without a
- *          correct order have one that would serve all the same, only because
- *          runs drop late LO rows: such orders are not looked for, and a 7 tells
- *          nothing of them.
- *          3, 4, 11, 5 or 12 for the table: order is all zero and left is 0.
+ * Refused: 7 if no correct order exists, none in which every row stands below the one
+ *          that it follows: order is all zero, and left holds the rows left to place,
+ *          row 1 in the lowest bit. Some tables without a correct order have one that would
+ *          serve all the same, only because runs drop late LO rows: such orders are
+ *          not looked for, and a 7 tells nothing of them.
+ *          3, 4, 11, 5 or 12 to 15 for the table: order is all zero and left is 0.
  */
 static inline uint32_t jb_plan_table(const jb_table *table, uint8_t order[JB_ROWS], uint64_t *left) {
     return jb_plan(jb_table_words(table), order, left);
@@ -430,8 +467,8 @@ static inline uint32_t jb_plan_table(const jb_table *table, uint8_t order[JB_ROW
  * In:      table, any values.
  * Out:     0; speed is that G in work units per slot; order is what jb_plan_table
  *          makes of the table with that G.
- * Refused: 7 if no G from 1 to N has a correct order; 3, 4, 11, 5 or 12 for the table.
- *          With either, speed is 0 and order is all zero. (After a 7,
+ * Refused: 7 if no G from 1 to N has a correct order; 3, 4, 11, 5 or 12 to 15 for the
+ *          table. With either, speed is 0 and order is all zero. (After a 7,
  *          jb_plan_table tells the rows left at any G that it is handed.)
  */
 static inline uint32_t jb_least_degraded_speed(const jb_table *table, uint32_t *speed, uint8_t order[JB_ROWS]) {
@@ -447,7 +484,7 @@ static inline uint32_t jb_least_degraded_speed(const jb_table *table, uint32_t *
  * Out:     0; speed is that N in work units per slot; order is what jb_plan_table
  *          makes of the table with that N. It is correct at every larger N up to
  *          1,000 too.
- * Refused: 7 if no N from G to 1,000 has a correct order; 3, 4, 11, 5 or 12 for the
+ * Refused: 7 if no N from G to 1,000 has a correct order; 3, 4, 11, 5 or 12 to 15 for the
  *          table. With either, speed is 0 and order is all zero.
  */
 static inline uint32_t jb_least_normal_speed(const jb_table *table, uint32_t *speed, uint8_t order[JB_ROWS]) {
@@ -458,7 +495,7 @@ static inline uint32_t jb_least_normal_speed(const jb_table *table, uint32_t *sp
  * The least degraded speed of a sheet.
  * In:      sheet, length bytes; any bytes, any length; null is allowed with 0.
  * Out:     as jb_least_degraded_speed of the table that the sheet states.
- * Refused: 1, 2, 3, 4, 11, 5 or 12 as jb_read_table refuses the sheet; 7 as
+ * Refused: 1, 2, 3, 4, 11, 5 or 12 to 15 as jb_read_table refuses the sheet; 7 as
  *          jb_least_degraded_speed. Speed is then 0 and order all zero.
  */
 static inline uint32_t jb_read_least_degraded_speed(const uint8_t *sheet, size_t length, uint32_t *speed,
@@ -483,8 +520,8 @@ static inline uint32_t jb_read_least_normal_speed(const uint8_t *sheet, size_t l
  *          if that is less; below zero when it can be late, or its promised part can
  *          be. That moment is the first clock at which a LO row has got its promised
  *          part when every slot supplies exactly G work units and late LO rows go on.
- * Refused: 3, 4, 11, 5 or 12 for the table, 6 for the order; yes, row and slack are
- *          then 0.
+ * Refused: 3, 4, 11, 5 or 12 to 15 for the table, 6 for the order; yes, row and slack
+ *          are then 0.
  */
 static inline uint32_t jb_judge_order(const jb_table *table, const uint8_t order[JB_ROWS], uint32_t *yes, uint32_t *row,
                                       int32_t *slack) {
@@ -500,7 +537,7 @@ static inline uint32_t jb_judge_order(const jb_table *table, const uint8_t order
  */
 static inline uint32_t jb_judge_list(const jb_row *rows, size_t count, uint32_t normal, uint32_t degraded, uint32_t loading,
                                      const uint8_t order[JB_ROWS], uint32_t *yes, uint32_t *row, int32_t *slack) {
-    const jb_row none = {0, 0, 0, 0, 0};
+    const jb_row none = {0, 0, 0, 0, 0, 0};
     const uint64_t packed = jb_judge_rows(count == 0 ? &none : rows, count, normal, degraded, loading, order);
     const uint32_t bits = (uint32_t)(packed >> 16);
     *yes = (uint32_t)(packed >> 4 & 1);
@@ -516,7 +553,8 @@ static inline uint32_t jb_judge_list(const jb_row *rows, size_t count, uint32_t 
  *          slots: its finish when every slot supplies exactly N (LO row) or
  *          exactly G (HI row) work units and late LO rows go on. Zeros after
  *          row n.
- * Refused: 3, 4, 11, 5 or 12 for the table, 6 for the order; finishes is then all zero.
+ * Refused: 3, 4, 11, 5 or 12 to 15 for the table, 6 for the order; finishes is then all
+ *          zero.
  */
 static inline uint32_t jb_worst_finishes(const jb_table *table, const uint8_t order[JB_ROWS], uint32_t finishes[JB_ROWS]) {
     return jb_finishes(jb_table_words(table), order, finishes);
@@ -537,7 +575,7 @@ static inline uint32_t jb_worst_finishes(const jb_table *table, const uint8_t or
  * Out:     0; length is the report's length in bytes, 51 for each row + 21, and
  *          the first length bytes of report are the report. The bytes after
  *          them are as they were.
- * Refused: 3, 4, 11, 5 or 12 for the table, 6 for the order, else 10 if room is below
+ * Refused: 3, 4, 11, 5 or 12 to 15 for the table, 6 for the order, else 10 if room is below
  *          the report's length; length is then 0 and no byte of report is written.
  */
 static inline uint32_t jb_report_order(const jb_table *table, const uint8_t order[JB_ROWS], uint8_t *report, size_t room,
@@ -551,7 +589,7 @@ static inline uint32_t jb_report_order(const jb_table *table, const uint8_t orde
  * In:      table and order, any values. Neither is run's own, since run is
  *          written: to begin a run again, hand in copies of its table and order.
  * Out:     0, and run holds the fresh record of table and order.
- * Refused: 3, 4, 11, 5 or 12 for the table, 6 for the order; run is then all zero,
+ * Refused: 3, 4, 11, 5 or 12 to 15 for the table, 6 for the order; run is then all zero,
  *          and what stood in it is lost.
  */
 static inline uint32_t jb_fresh_run(const jb_table *table, const uint8_t order[JB_ROWS], jb_run *run) {
@@ -610,7 +648,7 @@ static inline uint32_t jb_work_forward(jb_run *run, const uint32_t *supplies, si
 /*
  * Where a row of a run stands: 1 for yes, 0 for no. A row that the table has is
  * exactly one of open, done and dropped, and may be late besides; an open one may
- * be loading. All answer 0 for a row that the table does not have: for row 0, for a
+ * be loading or wait. All answer 0 for a row that the table does not have: for row 0, for a
  * row above run->table.n, and for any row above 64.
  */
 static inline int jb_has_row(const jb_run *run, uint32_t row) {
@@ -638,7 +676,7 @@ static inline int jb_is_dropped(const jb_run *run, uint32_t row) {
  * K is beyond its limits.
  */
 static inline uint32_t jb_need_of(uint32_t work, uint32_t speed, uint32_t loading) {
-    const jb_table alone = {1, speed, speed, loading, {0}, {work}, {JB_LAST_DEADLINE}, {JB_LO}, {0}};
+    const jb_table alone = {1, speed, speed, loading, {0}, {work}, {JB_LAST_DEADLINE}, {JB_LO}, {0}, {0}};
     const uint8_t order[JB_ROWS] = {1};
     uint32_t finishes[JB_ROWS];
     jb_finishes(jb_table_words(&alone), order, finishes);
@@ -689,6 +727,14 @@ static inline int jb_has_promised(const jb_run *run, uint32_t row) {
 static inline uint32_t jb_loaded(const jb_run *run, uint32_t row) {
     const uint32_t used = jb_has_row(run, row) ? run->used[row - 1] : 0;
     return used < run->table.loading ? used : run->table.loading;
+}
+
+/*
+ * The row waits: it is open, and so is the row that it follows. No slot runs it before
+ * that one is closed. 0 for a row that follows none.
+ */
+static inline int jb_is_waiting(const jb_run *run, uint32_t row) {
+    return jb_is_open(run, row) && jb_is_open(run, run->table.follows[row - 1]);
 }
 
 /* The row is open, and the next slot that it runs is a loading slot: it has used fewer than K slots. */

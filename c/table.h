@@ -8,7 +8,7 @@
  * are, which alone checks limits; rows after the 64th are read and counted, and
  * the archive gets the count, which it refuses. Which figure made its writer
  * refuse a table is found by asking it about tables of one row that are right but
- * for one figure.
+ * for one figure, and which followed row by asking about the table with no other one.
  *
  * What is said to be allowed is put together here: the largest figures are the
  * header's limits; the smallest ones, the levels, and which figure of a line
@@ -27,52 +27,60 @@ enum {
                                    1,048,576 empty lines below the last row */
     TABLE_COLUMNS = 3,     /* of what counts for all rows: N, G and K */
     LOADING_COLUMN = 3,    /* that of K, from 1 */
-    ROW_COLUMNS = 5,
-    LEVEL_COLUMN = 4,
-    PROMISED_COLUMN = 5,   /* the last: files from before promised parts end with the level */
+    ROW_COLUMNS = 6,
+    LEVEL_COLUMN = 4,      /* the last in files from before promised parts */
+    PROMISED_COLUMN = 5,   /* the last in files from before rows could follow rows */
+    FOLLOWS_COLUMN = 6,
     TABLE_HEADINGS_LINE = 1,
     TABLE_LINE = 2,
     ROW_HEADINGS_LINE = 3, /* row i stands i lines below it: empty lines are taken at the end alone */
     SHOWN = 64,            /* bytes for a cell's text in a message */
-    ALLOWED = 96           /* bytes for the words on what is allowed */
+    ALLOWED = 96,          /* bytes for the words on what is allowed */
+    WHY = 96               /* bytes for the words on why a figure is refused */
 };
 
 /* How another figure of the same line limits those of a column. */
 typedef enum { NOT_LIMITED, BELOW_IT, UP_TO_IT, ABOVE_IT } limited_by;
 
+/* What a column of a rows file holds: figures with a unit, such that HI rows have 0 there, levels, or numbers of rows above. */
+typedef enum { FIGURES, FIGURES_OF_LOW_ROWS, LEVELS, ROWS_ABOVE } column_holds;
+
 /* What stands in a column of a rows file. */
 typedef struct {
     const char *heading;
     const char *name;
-    const char *unit;    /* of its figures, NULL for levels */
+    column_holds holds;
+    const char *unit;    /* of its figures; NULL for levels and row numbers */
     uint32_t least;      /* smallest figure that the archive takes there */
     uint32_t most;       /* largest figure that it takes there */
     limited_by limit;    /* how another figure of the line limits it */
     size_t other;        /* column of that figure, from 1; 0 where there is none */
     const char *limited; /* how it does, in words */
-    bool of_low_rows;    /* a HI row has 0 there */
 } column_kind;
 
 static const column_kind TABLE_KINDS[TABLE_COLUMNS] = {
-    {"normal speed N (work units per slot)", "normal speed N", "work units per slot", 1, JB_MOST_SPEED, NOT_LIMITED, 0, "",
-     false},
-    {"degraded speed G (work units per slot)", "degraded speed G", "work units per slot", 1, JB_MOST_SPEED, UP_TO_IT, 1,
-     ", at most N", false},
-    {"loading K (slots)", "loading K", "slots", 0, JB_MOST_LOADING, NOT_LIMITED, 0, "", false},
+    {"normal speed N (work units per slot)", "normal speed N", FIGURES, "work units per slot", 1, JB_MOST_SPEED, NOT_LIMITED, 0,
+     ""},
+    {"degraded speed G (work units per slot)", "degraded speed G", FIGURES, "work units per slot", 1, JB_MOST_SPEED, UP_TO_IT, 1,
+     ", at most N"},
+    {"loading K (slots)", "loading K", FIGURES, "slots", 0, JB_MOST_LOADING, NOT_LIMITED, 0, ""},
 };
 static const column_kind ROW_KINDS[ROW_COLUMNS] = {
-    {"release (slots)", "release", "slots", 0, JB_LAST_DEADLINE - 1, BELOW_IT, 3, ", below the deadline", false},
-    {"work (work units)", "work", "work units", 1, JB_MOST_WORK, NOT_LIMITED, 0, "", false},
-    {"deadline (slots)", "deadline", "slots", 1, JB_LAST_DEADLINE, ABOVE_IT, 1, ", above the release", false},
-    {"level (HI or LO)", "level", NULL, JB_LO, JB_HI, NOT_LIMITED, 0, "", false},
-    {"promised (work units)", "promised part", "work units", 0, JB_MOST_WORK, UP_TO_IT, 2, ", at most the work", true},
+    {"release (slots)", "release", FIGURES, "slots", 0, JB_LAST_DEADLINE - 1, BELOW_IT, 3, ", below the deadline"},
+    {"work (work units)", "work", FIGURES, "work units", 1, JB_MOST_WORK, NOT_LIMITED, 0, ""},
+    {"deadline (slots)", "deadline", FIGURES, "slots", 1, JB_LAST_DEADLINE, ABOVE_IT, 1, ", above the release"},
+    {"level (HI or LO)", "level", LEVELS, NULL, JB_LO, JB_HI, NOT_LIMITED, 0, ""},
+    {"promised (work units)", "promised part", FIGURES_OF_LOW_ROWS, "work units", 0, JB_MOST_WORK, UP_TO_IT, 2,
+     ", at most the work"},
+    {"follows (row or 0)", "followed row", ROWS_ABOVE, NULL, 0, JB_ROWS - 1, NOT_LIMITED, 0, ""},
 };
 
 /* A table as it was written, whatever its figures are. */
 typedef struct {
     jb_table table;     /* n counts all rows; the columns hold the first 64 of them */
     const char *file;   /* the rows file's name, NULL for words on a command line */
-    size_t row_columns; /* of the rows file: without that of promised parts in a file from before them, where all are 0 */
+    size_t row_columns; /* of the rows file: fewer in one from before promised parts or from before rows could follow rows,
+                           where these are all 0 */
 } written_table;
 
 /* What is wrong with a rows file, and where. */
@@ -103,6 +111,7 @@ static void set_row(jb_table *table, size_t index, const uint32_t figures[ROW_CO
     table->deadline[index] = figures[2];
     table->level[index] = figures[3];
     table->promised[index] = figures[4];
+    table->follows[index] = figures[5];
 }
 
 static void get_row(const jb_table *table, size_t index, uint32_t figures[ROW_COLUMNS]) {
@@ -111,6 +120,7 @@ static void get_row(const jb_table *table, size_t index, uint32_t figures[ROW_CO
     figures[2] = table->deadline[index];
     figures[3] = table->level[index];
     figures[4] = table->promised[index];
+    figures[5] = table->follows[index];
 }
 
 static void append_row(jb_table *table, const uint32_t figures[ROW_COLUMNS]) {
@@ -155,18 +165,40 @@ static void limits_of(const column_kind *kind, const uint32_t *other, uint32_t *
     }
 }
 
-/* What is allowed in a column, in words, in a HI row or not, beside the figure that limits it; NULL where that is not known. */
-static void name_allowed(const column_kind *kind, bool high, const uint32_t *other, char *text, size_t room) {
+/* What is known of the line in which a figure stands. */
+typedef struct {
+    size_t row;            /* the row, from 1; 0 for N, G and K */
+    bool high;             /* it is a HI row */
+    const uint32_t *other; /* the figure that limits this one; NULL where it is not known */
+} figure_line;
+
+/* Which rows a row may follow, in words. */
+static void name_rows_above(const figure_line *line, char *text, size_t room) {
+    const char *kind = line->high ? "is HI and released no later" : "is released no later";
+    if (line->row <= 1) {
+        snprintf(text, room, "only 0 (none): no row stands above row 1");
+    } else if (line->row == 2) {
+        snprintf(text, room, "0 (none), or row 1 if it %s", kind);
+    } else {
+        const size_t above = line->row <= JB_ROWS ? line->row - 1 : JB_ROWS;
+        snprintf(text, room, "0 (none), or one of rows 1 to %zu that %s", above, kind);
+    }
+}
+
+/* What is allowed in a column, in words. */
+static void name_allowed(const column_kind *kind, const figure_line *line, char *text, size_t room) {
     uint32_t least;
     uint32_t most;
     char from[16];
     char to[16];
-    limits_of(kind, other, &least, &most);
+    limits_of(kind, line->other, &least, &most);
     with_commas(least, from);
     with_commas(most, to);
-    if (kind->unit == NULL) {
+    if (kind->holds == LEVELS) {
         snprintf(text, room, "HI or LO (or %d or %d)", JB_HI, JB_LO);
-    } else if (kind->of_low_rows && high) {
+    } else if (kind->holds == ROWS_ABOVE) {
+        name_rows_above(line, text, room);
+    } else if (kind->holds == FIGURES_OF_LOW_ROWS && line->high) {
         snprintf(text, room, "only 0 (%s) on a HI row, all of whose work is promised", kind->unit);
     } else if (least == most) {
         snprintf(text, room, "only %s (%s)%s", to, kind->unit, kind->limited);
@@ -214,22 +246,39 @@ static const char *read_level(text_piece text, uint32_t *level) {
     return is_digits(text) ? read_figure(text, level) : "is not a level";
 }
 
+/* The cells of a line of figures, and what belongs into them. */
+typedef struct {
+    const text_piece *cells;
+    const column_kind *kinds;
+    size_t columns;
+    size_t row; /* from 1; 0 for N, G and K */
+} cell_line;
+
+/* What the other cells of a line say that counts for a column, from 1. */
+static figure_line line_of_cell(const cell_line *line, size_t column, uint32_t *other) {
+    const size_t limiting = line->kinds[column - 1].other;
+    figure_line known = {line->row, false, NULL};
+    uint32_t level;
+    if (limiting != 0 && read_figure(line->cells[limiting - 1], other) == NULL) {
+        known.other = other;
+    }
+    known.high = column > LEVEL_COLUMN && read_level(line->cells[LEVEL_COLUMN - 1], &level) == NULL && level == JB_HI;
+    return known;
+}
+
 /* Reads what stands in a column, from 1, of a line. False with the words for what cannot be taken. */
-static bool read_cell(const text_piece *cells, const column_kind *kinds, size_t column, uint32_t *figure, char *what,
-                      size_t room) {
-    const column_kind *kind = &kinds[column - 1];
-    const text_piece text = cells[column - 1];
-    const char *wrong = kind->unit == NULL ? read_level(text, figure) : read_figure(text, figure);
+static bool read_cell(const cell_line *line, size_t column, uint32_t *figure, char *what, size_t room) {
+    const column_kind *kind = &line->kinds[column - 1];
+    const text_piece text = line->cells[column - 1];
+    const char *wrong = kind->holds == LEVELS ? read_level(text, figure) : read_figure(text, figure);
     char shown[SHOWN];
     char allowed[ALLOWED];
     uint32_t other;
     if (wrong == NULL) {
         return true;
     }
-    const bool known = kind->other != 0 && read_figure(cells[kind->other - 1], &other) == NULL;
-    uint32_t level;
-    const bool high = kind->of_low_rows && read_level(cells[LEVEL_COLUMN - 1], &level) == NULL && level == JB_HI;
-    name_allowed(kind, high, known ? &other : NULL, allowed, sizeof allowed);
+    const figure_line known = line_of_cell(line, column, &other);
+    name_allowed(kind, &known, allowed, sizeof allowed);
     show_text(text, shown, sizeof shown);
     if (text.length == 0) {
         snprintf(what, room, "nothing stands here; allowed: %s", allowed);
@@ -240,10 +289,9 @@ static bool read_cell(const text_piece *cells, const column_kind *kinds, size_t 
 }
 
 /* Reads the cells of a line. Gives 0, or the column, from 1, of the first that cannot be taken, with the words for it. */
-static size_t read_cells(const text_piece *cells, const column_kind *kinds, size_t columns, uint32_t *figures, char *what,
-                         size_t room) {
-    for (size_t column = 1; column <= columns; column++) {
-        if (!read_cell(cells, kinds, column, &figures[column - 1], what, room)) {
+static size_t read_cells(const cell_line *line, uint32_t *figures, char *what, size_t room) {
+    for (size_t column = 1; column <= line->columns; column++) {
+        if (!read_cell(line, column, &figures[column - 1], what, room)) {
             return column;
         }
     }
@@ -272,7 +320,7 @@ static void name_place(size_t line, size_t column, char *text, size_t room) {
         snprintf(text, room, "line %zu", line);
     } else if (kind == NULL) {
         snprintf(text, room, "line %zu, column %zu", line, column);
-    } else if (kind->unit == NULL) {
+    } else if (kind->unit == NULL) { /* a level, or a row number */
         snprintf(text, room, "line %zu, column %zu (%s)", line, column, kind->name);
     } else {
         snprintf(text, room, "line %zu, column %zu (%s, in %s)", line, column, kind->name, kind->unit);
@@ -348,10 +396,10 @@ static bool take_nothing_after(const csv_line *line, size_t columns, bool of_fig
     if (beside_loading) {
         snprintf(reason, sizeof reason, "N, G and K use %d of the %d columns, and nothing is allowed after column %d",
                  TABLE_COLUMNS, ROW_COLUMNS, TABLE_COLUMNS);
-    } else if (columns == PROMISED_COLUMN - 1) {
+    } else if (columns >= LEVEL_COLUMN && columns < ROW_COLUMNS) {
         snprintf(reason, sizeof reason,
-                 "line %d has no heading '%s' in column %d, and without it nothing is allowed after column %zu",
-                 ROW_HEADINGS_LINE, ROW_KINDS[PROMISED_COLUMN - 1].heading, PROMISED_COLUMN, columns);
+                 "line %d has no heading '%s' in column %zu, and without it nothing is allowed after column %zu",
+                 ROW_HEADINGS_LINE, ROW_KINDS[columns].heading, columns + 1, columns);
     } else {
         snprintf(reason, sizeof reason, "a rows file has %d columns, and nothing is allowed after column %d", ROW_COLUMNS,
                  ROW_COLUMNS);
@@ -374,11 +422,18 @@ static bool take_headings(const csv_line *line, const column_kind *kinds, size_t
     return take_nothing_after(line, columns, false, found);
 }
 
-/* The columns of the rows, by their headings: in a file from before promised parts that of those is missing. */
+/* The column's heading, from 1, is missing: its cell is empty, and no other one has it. */
+static bool lacks_heading(const csv_line *headings, size_t column) {
+    return headings->cells[column - 1].length == 0 && column_of(headings, ROW_KINDS[column - 1].heading) == 0;
+}
+
+/* The columns of the rows, by their headings: older files lack that of followed rows, or that of promised parts too. */
 static size_t row_columns_of(const csv_line *headings) {
-    const bool is_missing = headings->cells[PROMISED_COLUMN - 1].length == 0 &&
-                            column_of(headings, ROW_KINDS[PROMISED_COLUMN - 1].heading) == 0;
-    return is_missing ? PROMISED_COLUMN - 1 : ROW_COLUMNS;
+    size_t columns = ROW_COLUMNS;
+    while (columns > LEVEL_COLUMN && lacks_heading(headings, columns)) {
+        columns--;
+    }
+    return columns;
 }
 
 /* The cell is filled, and not with digits alone. */
@@ -386,9 +441,9 @@ static bool is_text(text_piece cell) {
     return cell.length > 0 && !is_digits(cell);
 }
 
-/* A level stands where the promised part belongs, as it does after a figure with a comma in it. */
+/* A level stands after its column, as it does after figures with commas in them. */
 static bool is_moved_level(size_t column, text_piece cell) {
-    return column == PROMISED_COLUMN && (piece_is(cell, "HI") || piece_is(cell, "LO"));
+    return column > LEVEL_COLUMN && (piece_is(cell, "HI") || piece_is(cell, "LO"));
 }
 
 /*
@@ -398,7 +453,9 @@ static bool is_moved_level(size_t column, text_piece cell) {
  */
 static bool take_figures(const csv_line *line, const column_kind *kinds, size_t columns, uint32_t *figures,
                          trouble *found) {
-    const size_t wrong = read_cells(line->cells, kinds, columns, figures, found->what, sizeof found->what);
+    const size_t row = line->number > ROW_HEADINGS_LINE ? line->number - ROW_HEADINGS_LINE : 0;
+    const cell_line cells = {line->cells, kinds, columns, row};
+    const size_t wrong = read_cells(&cells, figures, found->what, sizeof found->what);
     found->line = line->number;
     found->column = wrong;
     if (wrong != 0 && is_text(line->cells[wrong - 1]) && !is_moved_level(wrong, line->cells[wrong - 1])) {
@@ -456,9 +513,9 @@ static bool take_end(size_t filled, trouble *found) {
                            "the file ends where the speeds N and G and the loading K belong, as 5,2,0 (work units per slot; "
                            "slots)");
     case TABLE_LINE:
-        return set_trouble(found, ROW_HEADINGS_LINE, 0, "the file ends where the headings of the rows belong: %s,%s,%s,%s,%s",
+        return set_trouble(found, ROW_HEADINGS_LINE, 0, "the file ends where the headings of the rows belong: %s,%s,%s,%s,%s,%s",
                            ROW_KINDS[0].heading, ROW_KINDS[1].heading, ROW_KINDS[2].heading, ROW_KINDS[3].heading,
-                           ROW_KINDS[4].heading);
+                           ROW_KINDS[4].heading, ROW_KINDS[5].heading);
     default: return true;
     }
 }
@@ -510,13 +567,14 @@ static bool begins_as_rows_file(text_piece text) {
 
 /* Writes the rows file of a table that the archive accepts. */
 static void put_rows(FILE *to, const jb_table *table) {
-    fprintf(to, "%s,%s,%s,,\n", TABLE_KINDS[0].heading, TABLE_KINDS[1].heading, TABLE_KINDS[2].heading);
-    fprintf(to, "%" PRIu32 ",%" PRIu32 ",%" PRIu32 ",,\n", table->normal, table->degraded, table->loading);
-    fprintf(to, "%s,%s,%s,%s,%s\n", ROW_KINDS[0].heading, ROW_KINDS[1].heading, ROW_KINDS[2].heading, ROW_KINDS[3].heading,
-            ROW_KINDS[4].heading);
+    fprintf(to, "%s,%s,%s,,,\n", TABLE_KINDS[0].heading, TABLE_KINDS[1].heading, TABLE_KINDS[2].heading);
+    fprintf(to, "%" PRIu32 ",%" PRIu32 ",%" PRIu32 ",,,\n", table->normal, table->degraded, table->loading);
+    fprintf(to, "%s,%s,%s,%s,%s,%s\n", ROW_KINDS[0].heading, ROW_KINDS[1].heading, ROW_KINDS[2].heading, ROW_KINDS[3].heading,
+            ROW_KINDS[4].heading, ROW_KINDS[5].heading);
     for (size_t index = 0; index < table->n; index++) {
-        fprintf(to, "%" PRIu32 ",%" PRIu32 ",%" PRIu32 ",%s,%" PRIu32 "\n", table->release[index], table->work[index],
-                table->deadline[index], table->level[index] == JB_LO ? "LO" : "HI", table->promised[index]);
+        fprintf(to, "%" PRIu32 ",%" PRIu32 ",%" PRIu32 ",%s,%" PRIu32 ",%" PRIu32 "\n", table->release[index],
+                table->work[index], table->deadline[index], table->level[index] == JB_LO ? "LO" : "HI", table->promised[index],
+                table->follows[index]);
     }
 }
 
@@ -536,7 +594,7 @@ static uint32_t ask_one_row(uint32_t normal, uint32_t degraded, const uint32_t f
 }
 
 /* A row that the writer accepts. */
-static const uint32_t RIGHT_ROW[ROW_COLUMNS] = {0, 1, 1, JB_LO, 0};
+static const uint32_t RIGHT_ROW[ROW_COLUMNS] = {0, 1, 1, JB_LO, 0, 0};
 
 /* The writer's answer about this figure in a column, from 0, of a row that is right otherwise. */
 static uint32_t ask_figure(size_t column, uint32_t figure) {
@@ -592,12 +650,42 @@ static void find_refused_promise(const jb_table *table, refused_figure *found) {
     }
 }
 
+/* Whose followed row made the writer answer 13, 14 or 15: that of the first row that is refused where no other one waits. */
+static void find_refused_wait(const jb_table *table, refused_figure *found) {
+    for (size_t index = 0; index < table->n && index < JB_ROWS && found->row == 0; index++) {
+        jb_table alone = *table;
+        uint32_t length;
+        memset(alone.follows, 0, sizeof alone.follows);
+        alone.follows[index] = table->follows[index];
+        if (jb_write_table(&alone, NULL, 0, &length) != JB_NO_ROOM) {
+            get_row(table, index, found->figures);
+            found->row = index + 1;
+            found->column = FOLLOWS_COLUMN;
+        }
+    }
+}
+
 /* Why a promised part is refused, to be said after its figure. */
 static void name_wrong_promise(uint32_t work, uint32_t level, char *text, size_t room) {
     if (level == JB_LO) {
         snprintf(text, room, ", above the row's work of %" PRIu32 " work unit%s", work, work == 1 ? "" : "s");
     } else {
         snprintf(text, room, ", and the row is HI");
+    }
+}
+
+/* Why a followed row is refused by this number, to be said after its figure. */
+static void name_wrong_wait(uint32_t number, const jb_table *table, size_t row, char *text, size_t room) {
+    const uint32_t followed = table->follows[row - 1];
+    if (number == JB_NOT_LOWER && followed == row) {
+        snprintf(text, room, ", which is the row itself");
+    } else if (number == JB_NOT_LOWER) {
+        snprintf(text, room, ", and no row %" PRIu32 " stands above row %zu", followed, row);
+    } else if (number == JB_RELEASED_LATER) {
+        snprintf(text, room, ", and row %" PRIu32 " is released later (in slot %" PRIu32 ", row %zu in slot %" PRIu32 ")",
+                 followed, table->release[followed - 1], row, table->release[row - 1]);
+    } else {
+        snprintf(text, room, ", and row %" PRIu32 " is LO and row %zu HI", followed, row);
     }
 }
 
@@ -609,24 +697,38 @@ static void put_where(FILE *to, const written_table *written) {
     }
 }
 
-/* Says which figure the writer refused and what is allowed in its place. */
-static void put_refused_figure(FILE *to, const written_table *written, const refused_figure *found) {
+/* Why the writer refused a figure by this number, to be said after it; nothing where the words on what is allowed say enough. */
+static void name_why(uint32_t number, const jb_table *table, const refused_figure *found, char *text, size_t room) {
+    text[0] = '\0';
+    if (found->row != 0 && found->column == PROMISED_COLUMN) {
+        name_wrong_promise(found->figures[1], found->figures[LEVEL_COLUMN - 1], text, room);
+    } else if (found->row != 0 && found->column == FOLLOWS_COLUMN) {
+        name_wrong_wait(number, table, found->row, text, room);
+    }
+}
+
+/* Where a figure stands in what was written. */
+static void name_figure(const written_table *written, const refused_figure *found, const char *name, char *text, size_t room) {
+    if (written->file != NULL) {
+        name_place(found->row == 0 ? TABLE_LINE : ROW_HEADINGS_LINE + found->row, found->column, text, room);
+    } else if (found->row == 0) {
+        snprintf(text, room, "%s", name);
+    } else {
+        snprintf(text, room, "row %zu, %s", found->row, name);
+    }
+}
+
+/* Says which figure the writer refused by this number and what is allowed in its place. */
+static void put_refused_figure(FILE *to, uint32_t number, const written_table *written, const refused_figure *found) {
     const column_kind *kind = found->row == 0 ? &TABLE_KINDS[found->column - 1] : &ROW_KINDS[found->column - 1];
+    const bool high = found->row != 0 && found->figures[LEVEL_COLUMN - 1] != JB_LO;
+    const figure_line line = {found->row, high, kind->other == 0 ? NULL : &found->figures[kind->other - 1]};
     char place[96];
     char allowed[ALLOWED];
-    char why[ALLOWED] = "";
-    const bool high = found->row != 0 && found->figures[LEVEL_COLUMN - 1] != JB_LO;
-    name_allowed(kind, high, kind->other == 0 ? NULL : &found->figures[kind->other - 1], allowed, sizeof allowed);
-    if (found->row != 0 && found->column == PROMISED_COLUMN) {
-        name_wrong_promise(found->figures[1], found->figures[LEVEL_COLUMN - 1], why, sizeof why);
-    }
-    if (written->file != NULL) {
-        name_place(found->row == 0 ? TABLE_LINE : ROW_HEADINGS_LINE + found->row, found->column, place, sizeof place);
-    } else if (found->row == 0) {
-        snprintf(place, sizeof place, "%s", kind->name);
-    } else {
-        snprintf(place, sizeof place, "row %zu, %s", found->row, kind->name);
-    }
+    char why[WHY];
+    name_allowed(kind, &line, allowed, sizeof allowed);
+    name_why(number, &written->table, found, why, sizeof why);
+    name_figure(written, found, kind->name, place, sizeof place);
     put_where(to, written);
     fprintf(to, "%s: the figure is %" PRIu32 "%s\nallowed: %s\n", place, found->figures[found->column - 1], why, allowed);
 }
@@ -664,9 +766,11 @@ static void put_refused_place(FILE *to, uint32_t number, const written_table *wr
         find_refused_in_rows(&written->table, &found);
     } else if (number == JB_PROMISED) {
         find_refused_promise(&written->table, &found);
+    } else if (number == JB_NOT_LOWER || number == JB_RELEASED_LATER || number == JB_FOLLOWS_LOW) {
+        find_refused_wait(&written->table, &found);
     }
     if (found.column != 0) {
-        put_refused_figure(to, written, &found);
+        put_refused_figure(to, number, written, &found);
     }
 }
 

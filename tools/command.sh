@@ -61,7 +61,7 @@ refused_at() {
     [ -n "$words" ] || complain "explain $file: not number $number"
     grep -q '^remedy: ' out || complain "explain $file: no remedy"
     # What is allowed is said of a figure, and of nothing else.
-    case $number in 3 | 4 | 5 | 11 | 12) allowed=1 ;; *) allowed=0 ;; esac
+    case $number in 3 | 4 | 5 | 1[1-5]) allowed=1 ;; *) allowed=0 ;; esac
     [ "$(grep -c '^allowed: ' out)" -eq "$allowed" ] || complain "explain $file: not $allowed lines on what is allowed"
     plain=$(printf '%8s%8s%8s%8s%8s' "$number" "$row" "$field" "$byte" "$line_number")
     case_is "$status" "$plain" '' explain --plain "$file"
@@ -90,7 +90,7 @@ also_out 'place 4: row 4 (LO), slack 0 slots'
 case_is 0 'place 1: row 3 (HI), slack 0 slots' '' plan p2.sheet
 case_is 1 '' 'number 7: no correct order exists' plan p3.sheet
 also_err 'rows left: 1 2'
-also_err 'remedy: give the rows left later deadlines, less work or smaller promised parts, the processor more speed, or the table a smaller K'
+also_err 'remedy: give the rows left later deadlines, less work, smaller promised parts or fewer waits, the processor more speed, or the table a smaller K'
 # What a 7 does not say is said beside it, by everything that plans.
 not_said='not looked for: orders that would serve only because runs drop LO rows at their deadlines'
 also_err "$not_said"
@@ -136,21 +136,24 @@ case_is 0 'row 1 (LO): worst finish 1 slot, deadline 2 slots, slack 1 slot' '' f
 case_is 0 '       2       5       4       0       1       0' '' finishes --plain p3.sheet 1 2
 
 # ---- an order that is none: 6 ----
+no_order='number 6: the order does not name every row once and then only zeros, or has a row above the one that it follows'
+each_once='remedy: give each row of the table once, highest place first, each below the row that it follows'
 for order in '1 1 3 4' '1 2 3' '1 2 3 4 4' '1 2 3 5' '0 1 2 3 4' '1 2 3 4 0 1' '1 2 3 255' '1 2 3 256' '1 2 3 260' '1 2 3 4294967295'; do
     # shellcheck disable=SC2086 # the order is several words
-    case_is 2 '' 'number 6: the order does not name every row once and then only zeros' judge p1.sheet $order
-    also_err 'remedy: give each row of the table once, highest place first'
+    case_is 2 '' "$no_order" judge p1.sheet $order
+    also_err "$each_once"
+    [ "$(wc -l <err)" -eq 2 ] || complain "judge p1.sheet $order: not two lines"
     # shellcheck disable=SC2086
     case_is 2 '       6       0' '*' finishes --plain p1.sheet $order
     # shellcheck disable=SC2086
-    case_is 2 '' 'number 6: the order does not name every row once and then only zeros' report p1.sheet $order
-    also_err 'remedy: give each row of the table once, highest place first'
+    case_is 2 '' "$no_order" report p1.sheet $order
+    also_err "$each_once"
     # shellcheck disable=SC2086
     case_is 2 '       6       0' '*' report --plain p1.sheet $order
     # shellcheck disable=SC2086
-    case_is 2 '       6       0' 'number 6: the order does not name every row once and then only zeros' speeds --slacks --plain p1.sheet $order
+    case_is 2 '       6       0' "$no_order" speeds --slacks --plain p1.sheet $order
     [ "$(wc -l <out)" -eq 1 ] || complain "speeds --slacks --plain p1.sheet $order: more than a refusal"
-    case_is 2 '' 'number 6: the order does not name every row once and then only zeros' run p1.sheet 5 --order "${order// /,}"
+    case_is 2 '' "$no_order" run p1.sheet 5 --order "${order// /,}"
 done
 case_is 0 'yes: the order is correct' '' judge p1.sheet 1 2 3 4 0 0
 
@@ -192,7 +195,7 @@ lines '1 2 3 5 2' '2 3 3 10 1' '3 1 5 11 2' '11 0' | report_is loading.sheet
 lines '1 1 5 5 8' '2 2 3 9 -2' '3 3 3 13 -2' '11 2' | report_is loading.sheet 1 2 3
 # Of the planned order of each sheet: places, rows and slacks are those of plan, worst finishes those of finishes, no row is late, and the
 # needs are added up from the sheet: K slots for each row, and its work at N rounded up.
-for sheet in p1.sheet p2.sheet rows64.sheet loading.sheet promise.sheet; do
+for sheet in p1.sheet p2.sheet rows64.sheet loading.sheet promise.sheet lifting.sheet; do
     case_is 0 '*' '' report --plain "$sheet"
     cp out report
     [ "$(wc -c <report)" -eq $((51 * $(head -c 8 "$sheet") + 21)) ] || complain "report $sheet: $(wc -c <report) bytes"
@@ -321,7 +324,7 @@ case_is 1 'rows left at G = 10 work units per slot: 1' '' speeds left.sheet
 also_out 'rows left at N = 1000 work units per slot: 1 2'
 # Of each sample: the orders are those of plan at that speed, and one below it there is none.
 at_speeds() { sed "1s/^\(.\{8\}\).\{16\}/\1$(printf '%8s%8s' "$2" "$3")/" "$1"; } # SHEET N G: the sheet with these speeds
-for sheet in p1.sheet p2.sheet p3.sheet rows64.sheet loading.sheet cooler.sheet warm.sheet promise.sheet; do
+for sheet in p1.sheet p2.sheet p3.sheet rows64.sheet loading.sheet cooler.sheet warm.sheet promise.sheet lifting.sheet; do
     read -r rows normal degraded _ <"$sheet"
     case_is 0 '*' '' speeds --plain "$sheet"
     cp out found
@@ -337,7 +340,8 @@ for sheet in p1.sheet p2.sheet p3.sheet rows64.sheet loading.sheet cooler.sheet 
     [ "$least_normal" -eq "$degraded" ] || { at_speeds "$sheet" $((least_normal - 1)) "$degraded" >less.sheet && case_is 1 '' '*' plan less.sheet; }
     # Under the order at the least G: the judge's verdict at each G, yes from the least on.
     order=$(awk '{ printf "%s%s", comma, $2; comma = "," }' degraded.places)
-    for given in '' "$order" "$(seq -s , "$rows" -1 1)"; do
+    other=$([ "$sheet" = lifting.sheet ] && echo 1,2,4,3 || seq -s , "$rows" -1 1) # it keeps the waits of that one
+    for given in '' "$order" "$other"; do
         taken=${given:-$order}
         case_is 0 "$(line 0 "$rows")" '' speeds --slacks --plain "$sheet" ${given:+"$given"}
         cp out plain
@@ -535,7 +539,7 @@ case_is 0 'slot 0: row 1, loading slot 1 of 2, supply 4294967295 work units, got
 
 # The lines of slots, and of rows dropped while another one runs, are those of the run on paper, but for what is said of loading, of a late row
 # and of why a row was dropped; the loading slots are the first K that each row runs; stretches are these lines put together.
-for sheet in p1.sheet p2.sheet rows64.sheet loading.sheet late-preview.sheet promise.sheet; do
+for sheet in p1.sheet p2.sheet rows64.sheet loading.sheet late-preview.sheet promise.sheet lifting.sheet; do
     for supplies in '5 5 2 2 2' '3' '0 1 2 3 4 5 6 7 8 9' '7 0 0 0 2 4294967295'; do
         # shellcheck disable=SC2086 # several supplies
         "$paper" "$sheet" $supplies >paper.out || true
@@ -587,7 +591,7 @@ case_is 1 'least slack: row 2 (LO), -1 slot' '' judge promise.sheet 1,4,2,3
 case_is 0 'row 2 (LO): worst finish 9 slots, promised part at 13 slots, deadline 12 slots, slack -1 slot' '' finishes promise.sheet 1,4,2,3
 lines '1 1 2 6 2' '2 4 2 9 7' '3 2 5 9 -1' '4 3 1 10 7' '10 1' | report_is promise.sheet 1 4 2 3
 lines '1 1 2 6 2' '2 2 5 7 2' '3 4 2 13 3' '4 3 1 10 7' '10 0' | report_is promise.sheet
-sed '3s/12$/ 0/' promise.sheet >no-promise.sheet
+sed '3s/12       0$/ 0       0/' promise.sheet >no-promise.sheet
 case_is 0 'place 2: row 4 (HI), slack 7 slots' '' plan no-promise.sheet
 # Row 2 has 5 slots for its work at N and 6 for its promised part at G, and uses 6.
 works '' promise.sheet '2x4 14x2' <<'SLOTS'
@@ -652,15 +656,127 @@ done
 "$command" sheet 5 5 1 0,10,2,LO,1 >remedy.sheet
 case_is 1 'remedy: give the rows left later deadlines, less work or smaller promised parts, the processor a larger N, or the table a smaller K' '' speeds remedy.sheet
 
+# ---- rows that follow rows ----
+# The move waits for the lift, and the preview for the move: each stands below the row that it follows, and is named with it. Of two rows with the
+# same deadline the first is tried first, so that without its wait the move would stand above the lift.
+case_is 0 'place 2: row 1 (HI), slack 6 slots' '' plan lifting.sheet
+also_out 'place 3: row 2 (HI, follows row 1), slack 2 slots'
+also_out 'place 4: row 3 (LO, follows row 2), slack 7 slots'
+case_is 0 '       3       2       2' '' plan --plain lifting.sheet
+case_is 0 'row 2 (HI, follows row 1): worst finish 10 slots, deadline 12 slots, slack 2 slots' '' finishes lifting.sheet
+also_out 'row 1 (HI): worst finish 6 slots, deadline 12 slots, slack 6 slots'
+case_is 0 '       2      10      12       2       0       0' '' finishes --plain lifting.sheet
+without_waits() { sed '2,$s/.$/0/' "$1"; }
+without_waits lifting.sheet >no-waits.sheet
+case_is 0 'place 2: row 2 (HI), slack 6 slots' '' plan no-waits.sheet
+also_out 'place 3: row 1 (HI), slack 2 slots'
+case_is 0 'place 3: row 2 (HI, follows row 1), slack 2 slots' '' speeds lifting.sheet
+# An order that has a row above the one that it follows is refused like one that is none, and the first such row is named with both places.
+while IFS='|' read -r order where; do
+    case_is 2 '' "$no_order" judge lifting.sheet "$order"
+    also_err "where: $where"
+    also_err "$each_once"
+    [ "$(wc -l <err)" -eq 3 ] || complain "judge lifting.sheet $order: not three lines"
+    case_is 2 '       6       0' "where: $where" judge --plain lifting.sheet "$order"
+    case_is 2 '       6       0' "where: $where" finishes --plain lifting.sheet "$order"
+    case_is 2 '       6       0' "where: $where" report --plain lifting.sheet "$order"
+    case_is 2 '       6       0' "where: $where" speeds --slacks --plain lifting.sheet "$order"
+    case_is 2 '' "where: $where" run lifting.sheet 5 --order "$order"
+    case_is 0 '*' '' finishes no-waits.sheet "$order"
+done <<'ORDERS'
+4,2,1,3|place 2, row 2: it follows row 1, which stands below it, in place 3
+3,2,1,4|place 2, row 2: it follows row 1, which stands below it, in place 3
+1,3,4,2|place 2, row 3: it follows row 2, which stands below it, in place 4
+3,4,1,2|place 1, row 3: it follows row 2, which stands below it, in place 4
+ORDERS
+for order in 2,1,3 2,2,1,3 4,2,1,3,3; do
+    case_is 2 '' "$no_order" judge lifting.sheet "$order"
+    ! grep -q '^where: ' err || complain "judge lifting.sheet $order: a place"
+done
+case_is 0 'yes: the order is correct' '' judge lifting.sheet 4,1,2,3
+case_is 0 'yes: the order is correct' '' judge no-waits.sheet 4,2,1,3
+# A follower does not run before the row that it follows is closed, however it is; of an open one it is said for which row it waits.
+works --stretches lifting.sheet '2x4 2x3 6x4' <<'STRETCHES'
+order: 4 1 2 3
+from slot 0, 1 slot: row 1
+from slot 1, 1 slot: row 4, done at clock 2
+from slot 2, 2 slots: row 1, done at clock 4
+from slot 4, 2 slots: row 2, done at clock 6
+from slot 6, 1 slot: idle
+from slot 7, 2 slots: row 3, done at clock 9
+from slot 9, 1 slot: idle
+after 10 slots: no row is open
+STRETCHES
+case_is 0 'after 2 slots: rows still open: 1, 2 (waits for row 1), 3 (waits for row 2)' '' run lifting.sheet 2x4
+case_is 0 'after 4 slots: rows still open: 2, 3 (waits for row 2)' '' run lifting.sheet 2x4 2x3
+case_is 0 'after 12 slots: rows still open: 1 (late), 2 (late, waits for row 1), 3 (waits for row 2), 4 (late)' '' run lifting.sheet 12x0
+case_is 0 'after 2 slots: rows still open: 1, 2, 3' '' run no-waits.sheet 2x4
+"$command" sheet 2 1 0 0,4,9,LO 0,2,9,LO,0,1 >dropped.sheet
+works '' dropped.sheet '1 1 2' <<'SLOTS'
+order: 1 2
+slot 0: row 1, supply 1 work units, got 1 of 4 work units
+slot 1: row 1, supply 1 work units, got 2 of 4 work units, dropped at clock 2, its slots used up
+slot 2: row 2, supply 2 work units, got 2 of 2 work units, done at clock 3
+after 3 slots: no row is open
+SLOTS
+"$command" sheet 1 1 0 0,2,2,LO 0,1,5,LO,0,1 0,2,2,HI >overdue.sheet
+works '--order 3,1,2' overdue.sheet 3x1 <<'SLOTS'
+order: 3 1 2
+slot 0: row 3, supply 1 work units, got 1 of 2 work units
+slot 1: row 3, supply 1 work units, got 2 of 2 work units, done at clock 2
+at clock 2: row 1, got 0 of 2 work units, dropped at its deadline
+slot 2: row 2, supply 1 work units, got 1 of 1 work units, done at clock 3
+after 3 slots: no row is open
+SLOTS
+# Under an order that keeps the waits, every slot is the one that it is without them.
+"$command" sheet 4 2 1 0,9,30,LO,4 0,5,40,LO,0,1 3,7,50,HI 5,6,60,HI,0,3 5,6,60,LO,2,2 6,1,30,LO,0,4 >many-waits.sheet
+for sheet in lifting.sheet dropped.sheet many-waits.sheet; do
+    without_waits "$sheet" >no-waits.sheet
+    order=$("$command" plan --plain "$sheet" | awk 'NR > 1 { printf "%s%s", comma, $2; comma = "," }')
+    for supplies in 40x4 40x2 40x1 '3x1 0 4x9 30x2'; do
+        # shellcheck disable=SC2086 # several supplies
+        "$command" run --plain "$sheet" --order "$order" $supplies >waiting
+        # shellcheck disable=SC2086
+        case_is 0 '*' '' run --plain no-waits.sheet --order "$order" $supplies
+        cmp -s out waiting || complain "run $sheet $supplies: waits change a slot"
+        awk 'NR == FNR { follows[FNR - 1] = $6; next } FNR > 1 { if ($5 != 5 && $2 > 0 && follows[$2] > 0 && !closed[follows[$2]]) exit 1; if ($5 > 0) closed[$2] = 1 }' \
+            "$sheet" waiting || complain "run $sheet $supplies: a row runs before the one that it follows is closed"
+    done
+done
+# No correct order, and whether there is one without waits; nothing of that where no row follows another.
+"$command" sheet 1 1 0 0,1,9,LO 0,1,1,LO,0,1 >urgent.sheet
+case_is 1 '' 'waits: without them a correct order exists' plan urgent.sheet
+also_err 'number 7: no correct order exists'
+also_err 'rows left: 1 2'
+also_err "$not_said"
+[ "$(wc -l <err)" -eq 5 ] || complain "plan urgent.sheet: not five lines"
+case_is 1 'waits: without them a correct order exists' '' explain urgent.sheet
+case_is 1 '       7       2' 'waits: without them a correct order exists' plan --plain urgent.sheet
+case_is 1 '       7       2' 'waits: without them a correct order exists' finishes --plain urgent.sheet
+without_waits urgent.sheet >no-waits.sheet
+case_is 0 'place 1: row 2 (LO), slack 0 slots' '' plan no-waits.sheet
+"$command" sheet 2 1 0 0,2,2,LO 0,4,4,HI 0,1,9,LO,0,1 >hopeless.sheet
+case_is 1 '' 'waits: without them no correct order exists either' plan hopeless.sheet
+# The remedy for a range of speeds names fewer waits where they can help.
+"$command" sheet 1 1 0 0,1000,9,LO 0,1,2,LO,0,1 0,1,9,HI >slow-wait.sheet
+case_is 1 'remedy: give the rows left later deadlines or less work, or the processor a larger N' '' speeds slow-wait.sheet
+"$command" sheet 5 5 0 0,5,9,LO 0,5,1,LO,0,1 >wait-speeds.sheet
+case_is 1 'remedy: give the rows left later deadlines, less work or fewer waits' '' speeds wait-speeds.sheet
+"$command" sheet 5 5 0 0,5,9,LO,5 0,5,1,LO,0,1 >wait-speeds.sheet
+case_is 1 'remedy: give the rows left later deadlines, less work, smaller promised parts or fewer waits' '' speeds wait-speeds.sheet
+# The clock of a promised part under waits, of a LO row that follows a LO row.
+"$command" sheet 4 2 0 0,8,20,LO 0,18,30,LO,12,1 >wait-promise.sheet
+case_is 0 'row 2 (LO, follows row 1): worst finish 7 slots, promised part at 8 slots, deadline 30 slots, slack 22 slots' '' finishes wait-promise.sheet
+
 # ---- a million slots by stretches, over 64 rows and over one ----
 rows=()
 for ((row = 0; row < 64; row++)); do rows+=("0,15625,1000000,1"); done
 "$command" sheet 1 1 0 "${rows[@]}" >million.sheet
 case_is 0 'from slot 984375, 15625 slots: row 1, done at clock 1000000' '' run --stretches million.sheet 1000000x1
 [ "$(grep -c '^from' out)" -eq 64 ] || complain "a stretch for each row"
-line 1 1 1 0 >one.sheet && line 0 1000000 1000000 1 0 >>one.sheet
+line 1 1 1 0 >one.sheet && line 0 1000000 1000000 1 0 0 >>one.sheet
 case_is 0 'from slot 0, 1000000 slots: row 1, done at clock 1000000' '' run --stretches one.sheet 1000000x1
-line 1 1 1 16 >one.sheet && line 0 1000000 1000000 1 0 >>one.sheet
+line 1 1 1 16 >one.sheet && line 0 1000000 1000000 1 0 0 >>one.sheet
 case_is 0 'from slot 0, 1000016 slots (16 loading): row 1, done at clock 1000016, late by 16 slots' '' run --stretches one.sheet --order 1 1000016x1
 
 # The largest figures of a plain form: 64 rows of 1,000,016 slots each, 16 of them loading, all released in slot 999,999, the last of them
@@ -683,33 +799,33 @@ refused_at part.sheet 1 '0 0 17 1' 'where: byte 17 (line 1, byte 17 of it): the 
 printf '4\t5\t2\n' >tabs.sheet
 refused_at tabs.sheet 1 '0 1 2 1' 'where: first line, row count n, byte 2 (line 1, byte 2 of it): a tab (byte 9) where a space or a digit belongs'
 p1 | head -c -1 >no-last-end.sheet
-refused_at no-last-end.sheet 1 '4 6 197 5' 'where: row 4, line end, byte 197 (line 5, byte 41 of it): the last line end (byte 10) is missing'
-also_err 'length: the sheet has 196 bytes; the rows that its first line announces make it 197'
+refused_at no-last-end.sheet 1 '4 7 229 5' 'where: row 4, line end, byte 229 (line 5, byte 49 of it): the last line end (byte 10) is missing'
+also_err 'length: the sheet has 228 bytes; the rows that its first line announces make it 229'
 p1 | head -n 3 >two-rows.sheet
-refused_at two-rows.sheet 1 '3 0 116 4' 'where: row 3, byte 116 (line 4, byte 1 of it): the sheet ends before this byte'
+refused_at two-rows.sheet 1 '3 0 132 4' 'where: row 3, byte 132 (line 4, byte 1 of it): the sheet ends before this byte'
 { p1 && echo; } >line-after.sheet
-refused_at line-after.sheet 1 '0 0 198 6' 'where: byte 198 (line 6, byte 1 of it): a line end (byte 10) follows the last row, row 4'
-{ p1 && line 0 5 5 0 0; } >row-after.sheet
-refused_at row-after.sheet 1 '0 0 198 6' 'where: byte 198 (line 6, byte 1 of it): a space (byte 32) follows the last row, row 4'
+refused_at line-after.sheet 1 '0 0 230 6' 'where: byte 230 (line 6, byte 1 of it): a line end (byte 10) follows the last row, row 4'
+{ p1 && line 0 5 5 0 0 0; } >row-after.sheet
+refused_at row-after.sheet 1 '0 0 230 6' 'where: byte 230 (line 6, byte 1 of it): a space (byte 32) follows the last row, row 4'
 { cat rows64.sheet && cat p1.sheet; } >long.sheet
-refused_at long.sheet 1 '0 0 2658 66' 'where: byte 2658 (line 66, byte 1 of it): a space (byte 32) follows the last row, row 64'
-also_err 'length: the sheet has 2658 bytes or more; the rows that its first line announces make it 2657'
+refused_at long.sheet 1 '0 0 3170 66' 'where: byte 3170 (line 66, byte 1 of it): a space (byte 32) follows the last row, row 64'
+also_err 'length: the sheet has 3170 bytes or more; the rows that its first line announces make it 3169'
 p1 | sed '2,$s/$/\r/' >cr-in-rows.sheet
-refused_at cr-in-rows.sheet 1 '1 6 74 2' 'where: row 1, line end, byte 74 (line 2, byte 41 of it): a carriage return (byte 13) where the line end (byte 10) belongs'
+refused_at cr-in-rows.sheet 1 '1 7 82 2' 'where: row 1, line end, byte 82 (line 2, byte 49 of it): a carriage return (byte 13) where the line end (byte 10) belongs'
 p1 | sed 's/$/\r/' >cr.sheet
 refused_at cr.sheet 2 '0 5 33 1' 'where: first line, line end, byte 33 (line 1, byte 33 of it): a carriage return (byte 13) where the line end (byte 10) belongs'
 { printf '\357\273\277' && p1; } >mark.sheet
 refused_at mark.sheet 2 '0 1 1 1' 'where: first line, row count n, byte 1 (line 1, byte 1 of it): a UTF-8 byte order mark (bytes 239, 187, 191) where a space or a digit belongs'
 p1 | sed '3s/      15/\t15     /' >tab.sheet
-refused_at tab.sheet 2 '2 2 83 3' 'where: row 2, work, byte 83 (line 3, byte 9 of it): a tab (byte 9) where a space or a digit belongs'
+refused_at tab.sheet 2 '2 2 91 3' 'where: row 2, work, byte 91 (line 3, byte 9 of it): a tab (byte 9) where a space or a digit belongs'
 p1 | sed '1s/^       4/00000004/' >zeros.sheet
 refused_at zeros.sheet 2 '0 1 1 1' "where: first line, row count n, byte 1 (line 1, byte 1 of it): '0' (byte 48) where a space or a digit 1 to 9 belongs"
 p1 | sed '5s/^       0/0       /' >left-zero.sheet
-refused_at left-zero.sheet 2 '4 1 157 5' "where: row 4, release, byte 157 (line 5, byte 1 of it): '0' (byte 48) where a space or a digit 1 to 9 belongs"
+refused_at left-zero.sheet 2 '4 1 181 5' "where: row 4, release, byte 181 (line 5, byte 1 of it): '0' (byte 48) where a space or a digit 1 to 9 belongs"
 p1 | sed '4s/19/1x/' >letter.sheet
-refused_at letter.sheet 2 '3 3 139 4' "where: row 3, deadline, byte 139 (line 4, byte 24 of it): 'x' (byte 120) where a space or a digit belongs"
+refused_at letter.sheet 2 '3 3 155 4' "where: row 3, deadline, byte 155 (line 4, byte 24 of it): 'x' (byte 120) where a space or a digit belongs"
 p1 | sed '5s/^       0/        /' >blank.sheet
-refused_at blank.sheet 2 '4 1 164 5' 'where: row 4, release, byte 164 (line 5, byte 8 of it): a space (byte 32) where a digit belongs'
+refused_at blank.sheet 2 '4 1 188 5' 'where: row 4, release, byte 188 (line 5, byte 8 of it): a space (byte 32) where a digit belongs'
 p1 | sed '2s/      20/20      /' >left.sheet
 refused_at left.sheet 2 '1 2 44 2' 'where: row 1, work, byte 44 (line 2, byte 11 of it): a space (byte 32) where a digit belongs'
 p1 | sed '2s/      20/     -20/' >minus.sheet
@@ -725,7 +841,7 @@ for count in 0 65 99999999; do
 done
 for speeds in '2 0 1 9 1,000' '2 1001 1 9 1,000' '3 5 6 17 5' '3 5 0 17 5' '3 1000 1001 17 1,000' '2 1001 1001 9 1,000'; do
     read -r field normal degraded byte most <<<"$speeds"
-    { line 1 "$normal" "$degraded" 17 && line 4 1 1 0 9; } >speeds.sheet
+    { line 1 "$normal" "$degraded" 17 && line 4 1 1 0 9 9; } >speeds.sheet
     name=$([ "$field" -eq 2 ] && echo "normal speed N" || echo "degraded speed G")
     figure=$([ "$field" -eq 2 ] && echo "$normal" || echo "$degraded")
     refused_at speeds.sheet 4 "0 $field $byte 1" "where: first line, $name, byte $byte (line 1, byte $byte of it): the figure is $figure"
@@ -734,17 +850,17 @@ for speeds in '2 0 1 9 1,000' '2 1001 1 9 1,000' '3 5 6 17 5' '3 5 0 17 5' '3 10
 done
 # K above its limit, whatever the row; up to it, it is taken.
 for loading in 17 100 99999999; do
-    { line 1 5 2 "$loading" && line 4 20 4 1 9; } >loading-above.sheet
+    { line 1 5 2 "$loading" && line 4 20 4 1 9 9; } >loading-above.sheet
     refused_at loading-above.sheet 11 '0 4 25 1' "where: first line, loading K, byte 25 (line 1, byte 25 of it): the figure is $loading"
     also_err 'number 11: K is above 16 slots'
     also_err 'allowed: 0 to 16 slots'
     also_err 'remedy: correct K; where a job really takes longer to load, split it or make the slots longer'
 done
 for loading in 0 1 16; do
-    { line 1 5 2 "$loading" && line 0 20 26 1 0; } >loading-taken.sheet
+    { line 1 5 2 "$loading" && line 0 20 26 1 0 0; } >loading-taken.sheet
     case_is 0 "place 1: row 1 (HI), slack $((16 - loading)) slots" '' plan loading-taken.sheet
 done
-{ line 1 5 2 17 && line 0 x 10 1 0; } >loading-later.sheet
+{ line 1 5 2 17 && line 0 x 10 1 0 0; } >loading-later.sheet
 refused_at loading-later.sheet 2 '1 2 49 2' "where: row 1, work, byte 49 (line 2, byte 16 of it): 'x' (byte 120) where a space or a digit belongs"
 # K's field malformed.
 p1 | sed '1s/       0$/      -1/' >loading-minus.sheet
@@ -782,11 +898,11 @@ for file in end-in-loading.sheet before-cr.sheet before-x.sheet loading-above.sh
     case_is 2 '*' '' explain "$file"
     ! grep -q '^hint: ' out || complain "explain $file: a hint"
 done
-# A promised part above the row's work, or on a HI row; all rows pass 5 first.
+# A promised part above the row's work, or on a HI row; all rows pass 5 first, and 13 comes later.
 while IFS='|' read -r row why allowed; do
     # shellcheck disable=SC2086 # the figures of a row
-    { line 3 5 2 16 && line 0 20 10 0 20 && line $row && line 0 20 10 1 9; } >promised.sheet
-    refused_at promised.sheet 12 '2 5 107 3' "where: row 2, promised part, byte 107 (line 3, byte 33 of it): the figure is $why"
+    { line 3 5 2 16 && line 0 20 10 0 20 1 && line $row 9 && line 0 20 10 1 9 0; } >promised.sheet
+    refused_at promised.sheet 12 '2 5 115 3' "where: row 2, promised part, byte 115 (line 3, byte 33 of it): the figure is $why"
     also_err 'number 12: a promised part is above its row'"'"'s work, or above 0 work units on a HI row'
     also_err "allowed: $allowed"
     also_err "remedy: promise at most the row's work, and 0 work units on a HI row, all of whose work is promised at G"
@@ -798,14 +914,53 @@ done <<'ROWS'
 0 20 10 1 20|20, and the row is HI|only 0 (work units) on a HI row, all of whose work is promised
 ROWS
 for promised in 0 1 20; do
-    { line 1 5 5 0 && line 0 20 10 0 "$promised"; } >promised.sheet
+    { line 1 5 5 0 && line 0 20 10 0 "$promised" 0; } >promised.sheet
     case_is 0 'place 1: row 1 (LO), slack 6 slots' '' plan promised.sheet
 done
-p1 | sed '3s/       0$/      -1/' >promised-minus.sheet
-refused_at promised-minus.sheet 2 '2 5 113 3' "where: row 2, promised part, byte 113 (line 3, byte 39 of it): '-' (byte 45) where a space or a digit belongs"
-# A sheet from before promised parts: 1, the field that is missing and how the sheet is brought up, which gives the sheet that promises nothing.
-missing_promised="hint: the field of the promised part (in work units) is missing; a sheet from before promised parts is brought up by a field '       0' before the line end of each row: sed '2,\$s/\$/       0/' SHEET"
-missing_both="hint: the fields of K (loading, in slots) and of promised parts (in work units) are missing; a sheet from before both is brought up by a field '       0' before each line end: sed 's/\$/       0/' SHEET"
+p1 | sed '3s/       0       0$/      -1       0/' >promised-minus.sheet
+refused_at promised-minus.sheet 2 '2 5 121 3' "where: row 2, promised part, byte 121 (line 3, byte 39 of it): '-' (byte 45) where a space or a digit belongs"
+# What a row follows: the row itself, one below it, one that is not there; one that is released later; of a HI row a LO one. In the first row at fault the
+# lowest number counts, and all rows pass 12 first.
+while IFS='|' read -r number row next figure why allowed; do
+    # shellcheck disable=SC2086 # the figures of a row
+    { line 4 5 2 0 && line 3 20 10 0 0 0 && line 0 20 10 1 0 0 && line $row && line $next; } >follows.sheet
+    refused_at follows.sheet "$number" '3 6 172 4' "where: row 3, followed row, byte 172 (line 4, byte 41 of it): the figure is $figure, $why"
+    also_err "allowed: $allowed"
+done <<'ROWS'
+13|0 20 10 0 0 3|0 20 10 0 0 0|3|which is the row itself|0 (none), or one of rows 1 to 2 that is released no later
+13|0 20 10 1 0 4|0 20 10 0 0 0|4|and no row 4 stands above row 3|0 (none), or one of rows 1 to 2 that is HI and released no later
+13|0 20 10 0 0 5|0 20 10 0 0 0|5|and no row 5 stands above row 3|0 (none), or one of rows 1 to 2 that is released no later
+13|0 20 10 0 0 65|0 20 10 0 0 0|65|and no row 65 stands above row 3|0 (none), or one of rows 1 to 2 that is released no later
+13|0 20 10 0 0 99999999|0 20 10 1 0 1|99999999|and no row 99999999 stands above row 3|0 (none), or one of rows 1 to 2 that is released no later
+14|2 20 10 0 0 1|0 20 10 0 0 4|1|and row 1 is released later (in slot 3, row 3 in slot 2)|0 (none), or one of rows 1 to 2 that is released no later
+14|2 20 10 1 0 1|0 20 10 0 0 4|1|and row 1 is released later (in slot 3, row 3 in slot 2)|0 (none), or one of rows 1 to 2 that is HI and released no later
+15|3 20 10 1 0 1|0 20 10 0 0 1|1|and row 1 is LO and row 3 HI|0 (none), or one of rows 1 to 2 that is HI and released no later
+15|9 20 10 1 0 1|0 20 10 0 0 4|1|and row 1 is LO and row 3 HI|0 (none), or one of rows 1 to 2 that is HI and released no later
+ROWS
+for taken in '3 20 10 0 0 1' '0 20 10 0 0 2' '0 20 10 1 0 2' '3 20 10 0 0 0'; do
+    # shellcheck disable=SC2086
+    { line 3 5 5 0 && line 3 20 90 0 0 0 && line 0 20 90 1 0 0 && line ${taken/10/90}; } >follows.sheet
+    case_is 0 'number 0: nothing is wrong; the sheet has 3 rows and a correct order' '' explain follows.sheet
+done
+{ line 2 5 2 0 && line 0 20 10 0 0 1 && line 0 20 10 1 1 0; } >follows.sheet
+refused_at follows.sheet 12 '2 5 115 3' 'where: row 2, promised part, byte 115 (line 3, byte 33 of it): the figure is 1, and the row is HI'
+{ line 1 5 2 0 && line 0 20 10 1 0 1; } >follows.sheet
+refused_at follows.sheet 13 '1 6 74 2' 'where: row 1, followed row, byte 74 (line 2, byte 41 of it): the figure is 1, which is the row itself'
+also_err 'number 13: a row follows what is not a row above it in the table'
+also_err 'allowed: only 0 (none): no row stands above row 1'
+also_err 'remedy: let the row follow one of a lower row number, or none (0)'
+p1 | sed '3s/       0$/      -1/' >follows-minus.sheet
+refused_at follows-minus.sheet 2 '2 6 129 3' "where: row 2, followed row, byte 129 (line 3, byte 47 of it): '-' (byte 45) where a space or a digit belongs"
+# The last of 64 rows.
+sed '65s/       0$/      64/' rows64.sheet >follows.sheet
+refused_at follows.sheet 13 '64 6 3161 65' 'where: row 64, followed row, byte 3161 (line 65, byte 41 of it): the figure is 64, which is the row itself'
+also_err 'allowed: 0 (none), or one of rows 1 to 63 that is released no later'
+# Older sheets: 1 or 2, the fields that are missing and how the sheet is brought up, which gives the sheet that has 0 in them. Each row lacks one
+# field in a sheet from before rows could follow rows, two in one from before promised parts; one from before K lacks these and K.
+missing_follows="hint: the field of the followed row (a row number) is missing; a sheet from before rows could follow rows is brought up by a field '       0' before the line end of each row: sed '2,\$s/\$/       0/' SHEET"
+missing_promised="hint: the fields of the promised part (in work units) and of the followed row (a row number) are missing; a sheet from before both is brought up by two fields '       0' before the line end of each row: sed '2,\$s/\$/       0       0/' SHEET"
+missing_all="hint: the fields of K (loading, in slots), of the promised part (in work units) and of the followed row (a row number) are missing; a sheet from before all three is brought up by a field '       0' before each line end, and another one before that of each row: sed 's/\$/       0/; 2,\$s/\$/       0/' SHEET"
+missing_ends="hint: the fields of K (loading, in slots) and of the followed row (a row number) are missing; they are brought in by a field '       0' before each line end: sed 's/\$/       0/' SHEET"
 brought_up() { # SHEET PLACE NUMBER HINT: older.sheet is refused with this number and hint, and is brought up to the sheet
     case_is 2 "$4" '' explain older.sheet
     also_out "$2"
@@ -819,19 +974,29 @@ brought_up() { # SHEET PLACE NUMBER HINT: older.sheet is refused with this numbe
     told=$(sed -n "s/.*: \(sed .*\) SHEET$/\1/p" err)
     bash -c "$told older.sheet" | cmp -s - "$1" || complain "$1 is not brought up by: $told"
 }
-for sheet in p1.sheet p2.sheet p3.sheet loading.sheet rows64.sheet; do
+at_follows='where: row 1, followed row, byte 74 (line 2, byte 41 of it): a line end (byte 10) where a space or a digit belongs'
+at_promised='where: row 1, promised part, byte 66 (line 2, byte 33 of it): a line end (byte 10) where a space or a digit belongs'
+for sheet in p1.sheet p2.sheet p3.sheet loading.sheet promise.sheet rows64.sheet; do
     sed '2,$s/       0$//' "$sheet" >older.sheet
-    brought_up "$sheet" 'where: row 1, promised part, byte 66 (line 2, byte 33 of it): a line end (byte 10) where a space or a digit belongs' 1 "$missing_promised"
+    brought_up "$sheet" "$at_follows" 1 "$missing_follows"
+done
+for sheet in p1.sheet p2.sheet p3.sheet loading.sheet rows64.sheet; do
+    sed '2,$s/       0       0$//' "$sheet" >older.sheet
+    brought_up "$sheet" "$at_promised" 1 "$missing_promised"
 done
 for sheet in p1.sheet p2.sheet p3.sheet rows64.sheet; do
+    sed '1s/       0$//; 2,$s/       0       0$//' "$sheet" >older.sheet
+    brought_up "$sheet" "$at_loading" 2 "$missing_all"
     sed 's/       0$//' "$sheet" >older.sheet
-    brought_up "$sheet" "$at_loading" 2 "$missing_both"
+    brought_up "$sheet" "$at_loading" 2 "$missing_ends"
 done
-# No other sheet is said to be one from before promised parts.
+# No other sheet is said to be an older one.
 p1 | sed '2s/       0$//; 2s/^ /x/' >older-x.sheet
-p1 | sed '2s/.....$//' >end-in-promised.sheet
+p1 | sed '2s/.....$//' >end-in-follows.sheet
+p1 | sed '2s/.\{12\}$//' >end-in-promised.sheet
 p1 | sed '2s/       0$/\r/' >older-cr.sheet
-for file in older-x.sheet end-in-promised.sheet older-cr.sheet promised-minus.sheet two-rows.sheet; do
+p1 | sed '2s/.\{24\}$//' >end-in-level.sheet
+for file in older-x.sheet end-in-follows.sheet end-in-promised.sheet older-cr.sheet end-in-level.sheet promised-minus.sheet two-rows.sheet; do
     case_is 2 '*' '' explain "$file"
     ! grep -q '^hint: ' out || complain "explain $file: a hint"
 done
@@ -839,8 +1004,8 @@ done
 while read -r field name byte a c d level allowed; do
     figures=("$a" "$c" "$d" "$level")
     figure=${figures[$((field - 1))]}
-    { line 3 5 2 16 && line 0 20 10 1 9 && line "$a" "$c" "$d" "$level" 2000000 && line 9 9 9 9 9; } >row.sheet
-    refused_at row.sheet 5 "2 $field $((74 + byte)) 3" "where: row 2, $name, byte $((74 + byte)) (line 3, byte $byte of it): the figure is $figure"
+    { line 3 5 2 16 && line 0 20 10 1 9 1 && line "$a" "$c" "$d" "$level" 2000000 9 && line 9 9 9 9 9 9; } >row.sheet
+    refused_at row.sheet 5 "2 $field $((82 + byte)) 3" "where: row 2, $name, byte $((82 + byte)) (line 3, byte $byte of it): the figure is $figure"
     also_err "allowed: $allowed"
 done <<'ROWS'
 1 release 1 4 20 4 1 0 to 3 slots, below the deadline
@@ -851,7 +1016,7 @@ done <<'ROWS'
 3 deadline 17 7 20 0 1 8 to 1,000,000 slots, above the release
 4 level 25 0 20 10 2 HI or LO (or 1 or 0)
 ROWS
-{ line 1 1 1 0 && line 0 1000000 1000000 0 1000000; } >limits.sheet
+{ line 1 1 1 0 && line 0 1000000 1000000 0 1000000 0; } >limits.sheet
 case_is 0 'place 1: row 1 (LO), slack 0 slots' '' plan limits.sheet
 
 # ---- writing a sheet ----
@@ -921,14 +1086,14 @@ case_is 3 '' "jasminebrace: normal speed N: 'p1.csv' $alone" sheet p1.csv 5 2 0,
 case_is 3 '' "jasminebrace: normal speed N: '-' $alone" sheet - p1.csv
 case_is 3 '' "jasminebrace: normal speed N: '05' has a zero before its other digits; write it without; allowed: 1 to 1,000 work units per slot" sheet 05 2 0 0,20,10,1
 case_is 3 '' 'jasminebrace: normal speed N: nothing stands here; allowed: 1 to 1,000 work units per slot' sheet '' p1.csv
-a_row='a row is release,work,deadline,level or release,work,deadline,level,promised'
+a_row='a row is release,work,deadline,level or these and promised, or these and follows'
 case_is 3 '' "jasminebrace: $a_row: '0,20,10'" sheet 5 2 0 0,20,10
-case_is 3 '' "jasminebrace: $a_row: '0,20,10,1,0,'" sheet 5 2 0 0,20,10,1,0,
+case_is 3 '' "jasminebrace: $a_row: '0,20,10,1,0,0,'" sheet 5 2 0 0,20,10,1,0,0,
 case_is 3 '' "jasminebrace: $a_row: ''" sheet 5 2 0 ''
 # A promised part after the level; without it, or with 0, nothing is promised.
 case_is 0 '*' '' sheet 4 2 0 2,8,8,HI 0,18,12,LO,12 3,4,17,LO 5,6,16,HI,0
 cmp -s out promise.sheet || complain "the sheet written is the sample with a promised part"
-case_is 0 '       0      20      10       0      20' '' sheet 5 2 0 0,20,10,LO,20
+case_is 0 '       0      20      10       0      20       0' '' sheet 5 2 0 0,20,10,LO,20
 case_is 3 '' 'jasminebrace: row 1, promised part: nothing stands here; allowed: 0 to 20 work units, at most the work' sheet 5 2 0 0,20,10,0,
 case_is 3 '' 'jasminebrace: row 1, promised part: nothing stands here; allowed: only 0 (work units) on a HI row, all of whose work is promised' sheet 5 2 0 0,20,10,HI,
 case_is 3 '' "jasminebrace: row 1, promised part: '1.5' $no_figure; allowed: 0 to 1,000,000 work units, at most the work" sheet 5 2 0 0,1000000,10,LO,1.5
@@ -946,13 +1111,34 @@ done <<'ROWS'
 ROWS
 # Every row passes 5 before one is refused by 12.
 case_is 2 '' 'where: row 2, work: the figure is 0' sheet 5 2 0 0,20,10,LO,21 0,0,10,LO
+# A followed row after the promised part; without it, or with 0, the row follows none.
+case_is 0 '*' '' sheet 4 2 0 0,8,12,HI 0,8,12,HI,0,1 7,6,16,LO,0,2 1,4,4,HI
+cmp -s out lifting.sheet || complain "the sheet written is the sample with rows that follow rows"
+case_is 0 '*' '' sheet 4 2 0 0,8,12,HI,0,0 ' 0,8,12,HI,0, 1' 7,6,16,LO,0,2 1,4,4,HI,0
+cmp -s out lifting.sheet || complain "the sheet written is the sample with rows that follow rows"
+case_is 3 '' 'jasminebrace: row 1, followed row: nothing stands here; allowed: only 0 (none): no row stands above row 1' sheet 5 2 0 0,20,10,0,0,
+case_is 3 '' "jasminebrace: row 2, followed row: 'x' $no_figure; allowed: 0 (none), or row 1 if it is HI and released no later" sheet 5 2 0 0,20,10,0 0,20,10,1,0,x
+case_is 3 '' "jasminebrace: row 2, followed row: '01' has a zero before its other digits; write it without; allowed: 0 (none), or row 1 if it is released no later" sheet 5 2 0 0,20,10,0 0,20,10,LO,0,01
+while IFS='|' read -r number row figure why allowed remedy; do
+    case_is 2 '' "where: row 3, followed row: the figure is $figure, $why" sheet 5 2 0 3,20,10,LO 0,20,10,HI "$row" 0,20,10,LO,0,4
+    grep -q "^number $number: " err || complain "sheet, $row: not number $number"
+    also_err "allowed: $allowed"
+    also_err "remedy: $remedy"
+done <<'ROWS'
+13|0,20,10,LO,0,3|3|which is the row itself|0 (none), or one of rows 1 to 2 that is released no later|let the row follow one of a lower row number, or none (0)
+13|0,20,10,HI,0,4294967295|4294967295|and no row 4294967295 stands above row 3|0 (none), or one of rows 1 to 2 that is HI and released no later|let the row follow one of a lower row number, or none (0)
+14|2,20,10,LO,0,1|1|and row 1 is released later (in slot 3, row 3 in slot 2)|0 (none), or one of rows 1 to 2 that is released no later|release the row no earlier than the one that it follows, or let it follow none (0)
+15|3,20,10,HI,0,1|1|and row 1 is LO and row 3 HI|0 (none), or one of rows 1 to 2 that is HI and released no later|make the followed row HI or its follower LO, or let the row follow none (0): a HI job must not wait for one that may be dropped
+ROWS
+# Every row passes 12 before one is refused by 13.
+case_is 2 '' 'where: row 2, promised part: the figure is 21, above the row'"'"'s work of 20 work units' sheet 5 2 0 0,20,10,LO,0,1 0,20,10,LO,21
 
 # ---- rows files ----
-table_headings='normal speed N (work units per slot),degraded speed G (work units per slot),loading K (slots),,'
-row_headings='release (slots),work (work units),deadline (slots),level (HI or LO),promised (work units)'
-# A rows file with the speeds and the loading of P1 and these rows, of which nothing is promised; or these rows as they are.
-rows_file() { given_rows "${@/%/,0}"; }
-given_rows() { lines "$table_headings" 5,2,0,, "$row_headings" "$@"; }
+table_headings='normal speed N (work units per slot),degraded speed G (work units per slot),loading K (slots),,,'
+row_headings='release (slots),work (work units),deadline (slots),level (HI or LO),promised (work units),follows (row or 0)'
+# A rows file with the speeds and the loading of P1 and these rows, of which nothing is promised and none follows another; or these rows as they are.
+rows_file() { given_rows "${@/%/,0,0}"; }
+given_rows() { lines "$table_headings" 5,2,0,,, "$row_headings" "$@"; }
 rows_file 0,20,10,HI 5,15,10,LO 5,11,19,HI 0,5,5,LO >expected
 for words in 'rows p1.sheet' 'rows --plain p1.sheet' 'rows - --plain'; do
     case_in=p1.sheet
@@ -963,7 +1149,7 @@ done
 case_in=/dev/null
 cmp -s p1.csv expected || complain "samples/p1.csv is not what rows writes of P1"
 # From a sheet to rows and back, and from these rows to a sheet and back, nothing changes.
-for sheet in p1.sheet p2.sheet p3.sheet rows64.sheet loading.sheet promise.sheet million.sheet slow.sheet limits.sheet; do
+for sheet in p1.sheet p2.sheet p3.sheet rows64.sheet loading.sheet promise.sheet lifting.sheet million.sheet slow.sheet limits.sheet; do
     case_is 0 '*' '' rows "$sheet"
     cp out there.csv
     case_is 0 '*' '' sheet there.csv
@@ -1071,7 +1257,7 @@ for bad in high H L lO1 'HI LO' -1 1.0 yes; do
 done
 rows_file 0,20,10,01 | untaken ", line 4, column 4 (level): '01' has a zero before its other digits; write it without; $levels"
 given_rows 0,20,10 | untaken ", line 4, column 4 (level): nothing stands here; $levels"
-given_rows 0,20,10,HI,0 7 | untaken ", line 5, column 2 (work, in work units): nothing stands here; $most_work"
+given_rows 0,20,10,HI,0,0 7 | untaken ", line 5, column 2 (work, in work units): nothing stands here; $most_work"
 lines "$table_headings" 5.5,2,0, "$row_headings" 0,20,10,HI | untaken ", line 2, column 1 (normal speed N, in work units per slot): '5.5' $no_figure; allowed: 1 to 1,000 work units per slot"
 while IFS='|' read -r normal allowed; do
     lines "$table_headings" "$normal" "$row_headings" 0,20,10,HI |
@@ -1093,55 +1279,85 @@ lines "$table_headings" 5,2,00, "$row_headings" 0,20,10,HI |
 no_loading="nothing stands where the heading 'loading K (slots)' belongs; a rows file from before K has no such column: write this heading here and 0 (slots, no loading) in line 2, column 3"
 before() { sed '1s/loading K (slots)//; 2s/,0,/,,/' "$@"; }
 before p1.csv | untaken ", line 1, column 3: $no_loading"
-before p1.csv | sed '1,2s/,,$//' | untaken ", line 1, column 3: $no_loading"
+before p1.csv | sed '1,2s/,,,$//' | untaken ", line 1, column 3: $no_loading"
 sed 's/"loading K (slots)"//; 2s/,0,/,,/' p1-saved.csv | untaken ", line 1, column 3: $no_loading"
-before p1.csv | sed '1s/,,,$/,loading K (slots),,/; 2s/,,,$/,0,,/' | same_sheet 'from before K, brought up'
-# A rows file from before promised parts has no column for them, and promises none; nothing may stand in that column without its heading.
-older() { sed 's/,[^,]*$//' "$@"; }
-older p1.csv | same_sheet 'from before promised parts'
-older p1.csv | sed '1,2s/,$//' | same_sheet 'from before promised parts, N, G and K without an empty cell'
-older p1-saved.csv | sed 's/$/\r/' | same_sheet 'from before promised parts, as a spreadsheet program saves it'
-older p1.csv | sed 's/$/,/' | same_sheet 'from before promised parts, with an empty column'
-no_heading="line 3 has no heading 'promised (work units)' in column 5, and without it nothing is allowed after column 4"
+before p1.csv | sed '1s/,,,,$/,loading K (slots),,,/; 2s/,,,,$/,0,,,/' | same_sheet 'from before K, brought up'
+# A rows file from before rows could follow rows has no column for that, and in it none does; one from before promised parts has no column for them
+# either, and promises none. Nothing may stand in such a column without its heading.
+unfollowed() { sed 's/,[^,]*$//' "$@"; }
+older() { sed 's/,[^,]*,[^,]*$//' "$@"; }
+for before_it in unfollowed older; do
+    $before_it p1.csv | same_sheet "$before_it"
+    $before_it p1.csv | sed '1,2s/,*$//' | same_sheet "$before_it, N, G and K without an empty cell"
+    $before_it p1-saved.csv | sed 's/$/\r/' | same_sheet "$before_it, as a spreadsheet program saves it"
+    $before_it p1.csv | sed 's/$/,/' | same_sheet "$before_it, with an empty column"
+    $before_it p1.csv | sed 's/$/,,/' | same_sheet "$before_it, with two empty columns"
+done
+no_heading() { echo "line 3 has no heading '$1' in column $2, and without it nothing is allowed after column $(($2 - 1))"; }
+no_promised=$(no_heading 'promised (work units)' 5)
+no_follows=$(no_heading 'follows (row or 0)' 6)
 one_too_many='delete the cell that is one too many; if a figure was written with a comma, as 1,000, write 1000'
-older p1.csv | sed '5s/$/,4/' | untaken ", line 5, column 5 (promised part, in work units): '4' stands here; $no_heading: $one_too_many"
-older p1.csv | sed '5s/15/1,500/' | untaken ", line 5, column 5 (promised part, in work units): 'LO' stands here; $no_heading: $one_too_many"
-older p1.csv | sed '3s/$/,,note/' | untaken ", line 3, column 6: 'note' stands here; $no_heading: delete this column"
-older p1.csv | sed '3s/$/,,promised (work units)/' |
-    untaken ", line 3, column 5: nothing stands where the heading 'promised (work units)' belongs; that heading stands in column 6: move its column here, or delete what stands before it"
+older p1.csv | sed '5s/$/,4/' | untaken ", line 5, column 5 (promised part, in work units): '4' stands here; $no_promised: $one_too_many"
+older p1.csv | sed '5s/$/,,1/' | untaken ", line 5, column 6 (followed row): '1' stands here; $no_promised: $one_too_many"
+older p1.csv | sed '5s/15/1,500/' | untaken ", line 5, column 5 (promised part, in work units): 'LO' stands here; $no_promised: $one_too_many"
+older p1.csv | sed '3s/$/,,,note/' | untaken ", line 3, column 7: 'note' stands here; $no_promised: delete this column"
+unfollowed p1.csv | sed '5s/$/,1/' | untaken ", line 5, column 6 (followed row): '1' stands here; $no_follows: $one_too_many"
+unfollowed p1.csv | sed '5s/15/1,500/' | untaken ", line 5, column 6 (followed row): '0' stands here; $no_follows: $one_too_many"
+unfollowed p1.csv | sed '3s/$/,,note/' | untaken ", line 3, column 7: 'note' stands here; $no_follows: delete this column"
+is_elsewhere() { echo "nothing stands where the heading '$1' belongs; that heading stands in column $2: move its column here, or delete what stands before it"; }
+older p1.csv | sed '3s/$/,,promised (work units)/' | untaken ", line 3, column 5: $(is_elsewhere 'promised (work units)' 6)"
+unfollowed p1.csv | sed '3s/$/,,follows (row or 0)/' | untaken ", line 3, column 6: $(is_elsewhere 'follows (row or 0)' 7)"
+older p1.csv | sed '3s/$/,,follows (row or 0)/' | untaken ", line 3, column 5: nothing stands where the heading 'promised (work units)' belongs"
+older p1.csv | sed '3s/$/,follows (row or 0)/' | untaken ", line 3, column 5: 'follows (row or 0)' stands where the heading 'promised (work units)' belongs"
 older p1.csv | sed '3s/$/,comment/' | untaken ", line 3, column 5: 'comment' stands where the heading 'promised (work units)' belongs"
+unfollowed p1.csv | sed '3s/$/,comment/' | untaken ", line 3, column 6: 'comment' stands where the heading 'follows (row or 0)' belongs"
 sed '3s/promised (work units)/promised/' p1.csv | untaken ", line 3, column 5: 'promised' stands where the heading 'promised (work units)' belongs"
-# With its heading the column is filled, in HI rows too.
-given_rows 0,20,10,HI,0 5,15,10,LO, | untaken ', line 5, column 5 (promised part, in work units): nothing stands here; allowed: 0 to 15 work units, at most the work'
-given_rows 0,20,10,HI, | untaken ', line 4, column 5 (promised part, in work units): nothing stands here; allowed: only 0 (work units) on a HI row, all of whose work is promised'
-given_rows 0,20,10,LO,-1 | untaken ", line 4, column 5 (promised part, in work units): '-1' $no_figure; allowed: 0 to 20 work units, at most the work"
-given_rows 0,x,10,LO,y | untaken ", line 4, column 2 (work, in work units): 'x' $no_figure; $most_work"
+sed '3s/follows (row or 0)/follows/' p1.csv | untaken ", line 3, column 6: 'follows' stands where the heading 'follows (row or 0)' belongs"
+# With its heading the column is filled: with 0 in HI rows, and with 0 where a row follows none.
+given_rows 0,20,10,HI,0,0 5,15,10,LO,,0 | untaken ', line 5, column 5 (promised part, in work units): nothing stands here; allowed: 0 to 15 work units, at most the work'
+given_rows 0,20,10,HI,,0 | untaken ', line 4, column 5 (promised part, in work units): nothing stands here; allowed: only 0 (work units) on a HI row, all of whose work is promised'
+given_rows 0,20,10,LO,-1,0 | untaken ", line 4, column 5 (promised part, in work units): '-1' $no_figure; allowed: 0 to 20 work units, at most the work"
+given_rows 0,x,10,LO,y,z | untaken ", line 4, column 2 (work, in work units): 'x' $no_figure; $most_work"
+given_rows 0,20,10,LO,0,z | untaken ", line 4, column 6 (followed row): 'z' $no_figure; allowed: only 0 (none): no row stands above row 1"
+given_rows 0,20,10,HI,0,0 5,15,10,LO,0, | untaken ', line 5, column 6 (followed row): nothing stands here; allowed: 0 (none), or row 1 if it is released no later'
+given_rows 0,20,10,HI,0,0 5,15,10,HI,0,01 | untaken ", line 5, column 6 (followed row): '01' has a zero before its other digits; write it without; allowed: 0 (none), or row 1 if it is HI and released no later"
+given_rows 0,20,10,HI,0,0 5,15,10,LO,0,1 5,15,10,LO,0,-1 | untaken ", line 6, column 6 (followed row): '-1' $no_figure; allowed: 0 (none), or one of rows 1 to 2 that is released no later"
+given_rows 0,20,10,HI,0,0 5,15,10,LO,0,1 5,15,10,1,0,lift | untaken ", line 6, column 6 (followed row): 'lift' $no_figure; allowed: 0 (none), or one of rows 1 to 2 that is HI and released no later"
+given_rows 0,20,10,HI,0,0 5,15,10,HI,0,1 0,5,5,LO,0,1 >follows.csv
+case_is 0 '       5      15      10       1       0       1' '' sheet follows.csv
+also_out '       0       5       5       0       0       1'
 # Cells after the last column; a figure with a comma in it moves others there.
-three='stands here; N, G and K use 3 of the 5 columns, and nothing is allowed after column 3'
-five='stands here; a rows file has 5 columns, and nothing is allowed after column 5'
+three='stands here; N, G and K use 3 of the 6 columns, and nothing is allowed after column 3'
+six='stands here; a rows file has 6 columns, and nothing is allowed after column 6'
 many='delete the cell that is one too many; if a figure was written with a comma, as 1,000, write 1000'
 for row in 0,1,000,10,HI 1,000,20,10,HI 0,20,1,000,HI 0,1,500,10,HI ,1,000,10,HI; do
-    rows_file "$row" | untaken ", line 4, column 6: '0' $five: $many"
+    rows_file "$row" | untaken ", line 4, column 7: '0' $six: $many"
 done
-rows_file 0,1,000,000,10,HI | untaken ", line 4, column 6: 'HI' $five: $many"
-given_rows 0,20,10,HI,0 5,15,10,LO,1,000 | untaken ", line 5, column 6: '000' $five: $many"
-given_rows 0,20,10,HI,0 5,15,10,LO,0,,,a,b | untaken ", line 5, column 8: 'a' $five: $many"
+rows_file 0,1,000,000,10,HI | untaken ", line 4, column 7: '0' $six: $many"
+rows_file 0,1,500,1,500,HI | untaken ", line 4, column 7: '0' $six: $many"
+rows_file 0,1,500,1,500,7,HI | untaken ", line 4, column 7: 'HI' $six: $many"
+given_rows 0,20,10,HI,0,0 5,15,10,LO,0,1,000 | untaken ", line 5, column 7: '000' $six: $many"
+given_rows 0,20,10,HI,0,0 5,15,10,LO,1,000,0 | untaken ", line 5, column 7: '0' $six: $many"
+given_rows 0,20,10,HI,0,0 5,15,10,LO,0,0,,,a,b | untaken ", line 5, column 9: 'a' $six: $many"
+given_rows 0,1,500,1,500,HI | untaken ", line 4, column 6 (followed row): 'HI' $no_figure; allowed: only 0 (none): no row stands above row 1"
 given_rows 0,1,500,10,HI | untaken ", line 4, column 5 (promised part, in work units): 'HI' $no_figure; allowed: 0 to 1 work units, at most the work"
 lines "$table_headings" 5,2,3,4 | untaken ", line 2, column 4: '4' $three: $many"
 lines "$table_headings" 1,000,2,0, | untaken ", line 2, column 4: '0' $three: $many"
 lines "$table_headings" '5,2,0,measured in May' | untaken ", line 2, column 4: 'measured in May' $three: $many"
 lines "$table_headings" '5,2,,measured in May' | untaken ", line 2, column 4: 'measured in May' $three: $many"
 lines "$table_headings" 5,2,0,,x | untaken ", line 2, column 5: 'x' $three: $many"
-lines "$table_headings" 5,2,0,,,x | untaken ", line 2, column 6: 'x' $five: $many"
-lines "${table_headings%,}n" 5,2,0 | untaken ", line 1, column 4: 'n' $three: delete this cell"
-lines "${table_headings}n" 5,2,0 | untaken ", line 1, column 5: 'n' $three: delete this cell"
-lines "$table_headings,notes" 5,2,0 | untaken ", line 1, column 6: 'notes' $five: delete this column"
-sed 's/$/,note/' p1.csv | untaken ", line 1, column 6: 'note' $five: delete this column"
-lines "$table_headings" 5,2,0 "$row_headings,comment" | untaken ", line 3, column 6: 'comment' $five: delete this column"
+lines "$table_headings" 5,2,0,,,x | untaken ", line 2, column 6: 'x' $three: $many"
+lines "$table_headings" 5,2,0,,,,x | untaken ", line 2, column 7: 'x' $six: $many"
+lines "${table_headings%,,}n" 5,2,0 | untaken ", line 1, column 4: 'n' $three: delete this cell"
+lines "${table_headings%,}n" 5,2,0 | untaken ", line 1, column 5: 'n' $three: delete this cell"
+lines "${table_headings}n" 5,2,0 | untaken ", line 1, column 6: 'n' $three: delete this cell"
+lines "$table_headings,notes" 5,2,0 | untaken ", line 1, column 7: 'notes' $six: delete this column"
+sed 's/$/,note/' p1.csv | untaken ", line 1, column 7: 'note' $six: delete this column"
+lines "$table_headings" 5,2,0 "$row_headings,comment" | untaken ", line 3, column 7: 'comment' $six: delete this column"
 # Row numbers and names of jobs beside the rows alone.
-rows_file 1,0,20,10,HI | untaken ", line 4, column 6: '0' $five: $many"
+rows_file 1,0,20,10,HI | untaken ", line 4, column 7: '0' $six: $many"
 rows_file pen,0,20,10,HI | untaken ", line 4, column 1 (release, in slots): 'pen' $no_figure; allowed: 0 to 19 slots, below the deadline"
-given_rows 0,20,10,HI,0,pen | untaken ", line 4, column 6: 'pen' $five: $many"
+given_rows 0,20,10,HI,0,0,pen | untaken ", line 4, column 7: 'pen' $six: $many"
 # Headings: other columns, moved ones, other units, none.
 no_normal="stands where the heading 'normal speed N (work units per slot)' belongs"
 moved() { echo "; that heading stands in column $1: move its column here, or delete what stands before it"; }
@@ -1170,7 +1386,7 @@ lines 'normal speed N (work units per slot)s,x' | untaken ", line 1, column 1: '
 lines "$table_headings" 5,2,0, 0,20,10,HI | untaken ", line 3, column 1: '0' stands where the heading 'release (slots)' belongs"
 sed 2d p1.csv | untaken ", line 2, column 1 (normal speed N, in work units per slot): 'release (slots)' $no_figure; allowed: 1 to 1,000 work units per slot"
 # Empty lines before others, and files that end too early.
-given_rows 0,20,10,HI,0 ' ,"",' '' 5,15,10,LO,0 | untaken ', line 5: this line is empty, and line 7 is not; delete the empty line'
+given_rows 0,20,10,HI,0,0 ' ,"",' '' 5,15,10,LO,0,0 | untaken ', line 5: this line is empty, and line 7 is not; delete the empty line'
 { echo && cat p1.csv; } | untaken ', line 1: this line is empty, and line 2 is not; delete the empty line'
 sed 's/$/\n/' p1.csv | untaken ', line 2: this line is empty, and line 3 is not; delete the empty line'
 sed 's/$/\r\r/' p1.csv | untaken ', line 2: this line is empty, and line 3 is not; delete the empty line'
@@ -1197,7 +1413,7 @@ separated='save the file with commas between the cells'
 tr ',' ';' <p1.csv | untaken ", line 1: the cells are separated by ';'; $separated"
 { mark && quoted p1.csv | sed 's/,/;/g; s/$/\r/'; } | untaken ", line 1: the cells are separated by ';'; $separated"
 tr ',' '\t' <p1.csv | untaken ", line 1: the cells are separated by tabs; $separated"
-given_rows 0,20,10,HI,0 '5;15;10;LO;0' | untaken ", line 5: the cells are separated by ';'; $separated"
+given_rows 0,20,10,HI,0,0 '5;15;10;LO;0;0' | untaken ", line 5: the cells are separated by ';'; $separated"
 { printf '\377\376' && sed 's/./&\x00/g; s/$/\x00/' p1.csv; } | untaken ': this is text in UTF-16; save it as CSV in UTF-8, with commas between the cells'
 { printf '\376\377' && sed 's/./\x00&/g' p1.csv; } | untaken ': this is text in UTF-16; save it as CSV in UTF-8, with commas between the cells'
 wide='this is text in UTF-32; save it as CSV in UTF-8, with commas between the cells'
@@ -1253,15 +1469,24 @@ done <<'ROWS'
 0,20,10,2|column 4 (level): the figure is 2|HI or LO (or 1 or 0)
 ROWS
 while IFS='|' read -r row place allowed; do
-    given_rows 0,20,10,LO,20 "$row" 0,20,10,HI,7 | refused_rows 12 "line 5, column 5 (promised part, in work units): the figure is $place" "$allowed"
+    given_rows 0,20,10,LO,20,0 "$row,7" 0,20,10,HI,7,0 | refused_rows 12 "line 5, column 5 (promised part, in work units): the figure is $place" "$allowed"
 done <<'ROWS'
 0,20,10,LO,21|21, above the row's work of 20 work units|0 to 20 work units, at most the work
 0,20,10,LO,4294967295|4294967295, above the row's work of 20 work units|0 to 20 work units, at most the work
 0,20,10,HI,1|1, and the row is HI|only 0 (work units) on a HI row, all of whose work is promised
 ROWS
-given_rows 0,20,10,LO,21 0,0,10,LO,0 | refused_rows 5 'line 5, column 2 (work, in work units): the figure is 0' '1 to 1,000,000 work units'
+while IFS='|' read -r number row place allowed; do
+    given_rows 3,20,10,LO,0,0 "$row" 0,20,10,HI,0,1 | refused_rows "$number" "line 5, column 6 (followed row): the figure is $place" "$allowed"
+done <<'ROWS'
+13|0,20,10,LO,0,2|2, which is the row itself|0 (none), or row 1 if it is released no later
+13|0,20,10,HI,0,4294967295|4294967295, and no row 4294967295 stands above row 2|0 (none), or row 1 if it is HI and released no later
+14|1,20,10,HI,0,1|1, and row 1 is released later (in slot 3, row 2 in slot 1)|0 (none), or row 1 if it is HI and released no later
+15|3,20,10,HI,0,1|1, and row 1 is LO and row 2 HI|0 (none), or row 1 if it is HI and released no later
+ROWS
+given_rows 0,20,10,LO,0,1 0,20,10,HI,1,0 | refused_rows 12 'line 5, column 5 (promised part, in work units): the figure is 1, and the row is HI' 'only 0 (work units) on a HI row, all of whose work is promised'
+given_rows 0,20,10,LO,21,1 0,0,10,LO,0,2 | refused_rows 5 'line 5, column 2 (work, in work units): the figure is 0' '1 to 1,000,000 work units'
 while IFS='|' read -r speeds place allowed; do
-    lines "$table_headings" "$speeds,17" "$row_headings" 9,9,9,9,9 | refused_rows 4 "line 2, $place" "$allowed"
+    lines "$table_headings" "$speeds,17" "$row_headings" 9,9,9,9,9,9 | refused_rows 4 "line 2, $place" "$allowed"
 done <<'SPEEDS'
 0,1|column 1 (normal speed N, in work units per slot): the figure is 0|1 to 1,000 work units per slot
 1001,1|column 1 (normal speed N, in work units per slot): the figure is 1001|1 to 1,000 work units per slot
@@ -1272,10 +1497,10 @@ done <<'SPEEDS'
 1,2|column 2 (degraded speed G, in work units per slot): the figure is 2|only 1 (work units per slot), at most N
 SPEEDS
 for loading in 17 18 4294967295; do
-    lines "$table_headings" "5,2,$loading" "$row_headings" 9,9,9,9,9 |
+    lines "$table_headings" "5,2,$loading" "$row_headings" 9,9,9,9,9,9 |
         refused_rows 11 "line 2, column 3 (loading K, in slots): the figure is $loading" '0 to 16 slots'
 done
-lines "$table_headings" 5,2,16 "$row_headings" 0,20,10,HI,0 >loading.csv
+lines "$table_headings" 5,2,16 "$row_headings" 0,20,10,HI,0,0 >loading.csv
 case_is 0 '       1       5       2      16' '' sheet loading.csv
 lines "$table_headings" 0,0,17 "$row_headings" | refused_rows 3 'line 4: there is no row' '1 to 64 rows'
 lines "$table_headings" 5,2,0 "$row_headings" ,,, '' | refused_rows 3 'line 4: there is no row' '1 to 64 rows'
@@ -1288,8 +1513,8 @@ cmp -s out many.csv || complain "64 rows to a sheet and back"
 rows_file "${many[@]}" 0,20,10,HI | refused_rows 3 'line 68: this is row 65, and there are 65 rows' '1 to 64 rows'
 rows_file "${many[@]}" "${many[@]}" 9,9,9,9 | refused_rows 3 'line 68: this is row 65, and there are 129 rows' '1 to 64 rows'
 rows_file "${many[@]}" "${many[@]}" 9,9,9,x | untaken ", line 132, column 4 (level): 'x' is not a level; $levels"
-lines "$table_headings" 1000,1000,16 "$row_headings" 999999,1000000,1000000,LO,1000000 0,1,1,HI,0 >limits.csv
-case_is 0 '  999999 1000000 1000000       0 1000000' '' sheet limits.csv
+lines "$table_headings" 1000,1000,16 "$row_headings" 999999,1000000,1000000,LO,1000000,0 0,1,1,HI,0,0 >limits.csv
+case_is 0 '  999999 1000000 1000000       0 1000000       0' '' sheet limits.csv
 
 # A rows file where a sheet belongs: the refusal is that of other bytes, and a line beside it says what to do.
 hint="hint: this is a rows file; 'jasminebrace sheet ROWS.csv' makes a sheet of it"
@@ -1376,7 +1601,7 @@ done
 case_is 3 '' 'jasminebrace: judge takes at least 2 arguments; 1 given' judge p1.sheet
 case_is 3 '' 'jasminebrace: run takes at least 2 arguments; 1 given' run p1.sheet
 case_is 3 '' 'jasminebrace: sheet takes at least 1 argument; 0 given' sheet
-also_err 'usage: jasminebrace sheet {ROWS.csv | N G K RELEASE,WORK,DEADLINE,LEVEL[,PROMISED]..}'
+also_err 'usage: jasminebrace sheet {ROWS.csv | N G K RELEASE,WORK,DEADLINE,LEVEL[,PROMISED[,FOLLOWS]]..}'
 case_is 3 '' 'jasminebrace: finishes takes at least 1 argument; 0 given' finishes
 case_is 3 '' 'jasminebrace: report takes at least 1 argument; 0 given' report
 also_err 'usage: jasminebrace report SHEET [ROW..]'

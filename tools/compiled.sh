@@ -55,16 +55,22 @@ same_text() {
     [ "$ours" -le 1 ] || { echo "example $sheet $*: not usable"; return 1; }
 }
 printf '' >"$built/empty.sheet"
-printf '       1       5       2       0\n       0      20      10       x       0\n' >"$built/malformed.sheet"
-printf '       1       2       3       0\n       0      20      10       1       0\n' >"$built/speeds.sheet"
-printf '       1       5       2      17\n       4      20       4       1       9\n' >"$built/loading-above.sheet"
-printf '       1       5       2      16\n       4      20       4       1       9\n' >"$built/row.sheet"
-printf '       1       5       2      16\n       0      20      26       1       9\n' >"$built/promised-high.sheet"
-printf '       1       5       2      16\n       0      20      26       0      21\n' >"$built/promised-above.sheet"
-printf '       1       5       2      16\n       0      20      26       0      20\n' >"$built/promised-most.sheet"
-printf '       1       5       2      16\n       0      20      26       1       0\n' >"$built/loading-most.sheet"
-printf '       1       5       2\n       0      20      26       1       0\n' >"$built/before-loading.sheet"
+printf '       1       5       2       0\n       0      20      10       x       0       0\n' >"$built/malformed.sheet"
+printf '       1       2       3       0\n       0      20      10       1       0       0\n' >"$built/speeds.sheet"
+printf '       1       5       2      17\n       4      20       4       1       9       9\n' >"$built/loading-above.sheet"
+printf '       1       5       2      16\n       4      20       4       1       9       9\n' >"$built/row.sheet"
+printf '       1       5       2      16\n       0      20      26       1       9       9\n' >"$built/promised-high.sheet"
+printf '       1       5       2      16\n       0      20      26       0      21       0\n' >"$built/promised-above.sheet"
+printf '       1       5       2      16\n       0      20      26       0      20       0\n' >"$built/promised-most.sheet"
+printf '       1       5       2      16\n       0      20      26       1       0       1\n' >"$built/follows-itself.sheet"
+printf '       2       5       2       0\n       1      20      26       1       0       0\n       0      20      26       1       0       1\n' >"$built/follows-later.sheet"
+printf '       2       5       2       0\n       0      20      26       0       0       0\n       0      20      26       1       0       1\n' >"$built/follows-low.sheet"
+printf '       2       5       2       0\n       0      20      26       0       0       0\n       0      20      26       0       0       1\n' >"$built/follows-dropped.sheet"
+printf '       2       1       1       0\n       0       1       9       0       0       0\n       0       1       1       0       0       1\n' >"$built/follows-urgent.sheet"
+printf '       1       5       2      16\n       0      20      26       1       0       0\n' >"$built/loading-most.sheet"
+printf '       1       5       2\n       0      20      26       1       0       0\n' >"$built/before-loading.sheet"
 printf '       1       5       2       0\n       0      20      26       1\n' >"$built/before-promised.sheet"
+printf '       1       5       2       0\n       0      20      26       1       0\n' >"$built/before-follows.sheet"
 printf '      65       5       2       0\n' >"$built/count.sheet"
 cat samples/rows64.sheet samples/p1.sheet >"$built/long.sheet"
 for sheet in samples/*.sheet "$built"/*.sheet; do
@@ -78,6 +84,10 @@ same_text samples/late-preview.sheet 4 4 4 4 1 # row 3 is dropped at its deadlin
 grep -qx 'clock 7: row 3 dropped at its deadline' "$built/ours" || { echo "no row is dropped while another one runs"; exit 1; }
 same_text samples/promise.sheet 2 # row 2 is dropped for its slots, and has its promised part
 grep -qx 'row 2: dropped at clock 10, deadline 12 slots, not kept, promised 12 work units got' "$built/ours" || { echo "no promised part is told"; exit 1; }
+same_text samples/lifting.sheet 4 4 3 3 4 # the lift is preempted, and the move begins when it is done
+grep -qx 'slot 4: row 2, supply 4 work units, got 4 of 8 work units' "$built/ours" || { echo "a follower does not run when its row is done"; exit 1; }
+same_text "$built/follows-dropped.sheet" 2 # row 1 is dropped at 4, and row 2 runs all the same
+grep -qx 'slot 4: row 2, supply 2 work units, got 2 of 20 work units' "$built/ours" || { echo "a follower waits for a row that was dropped"; exit 1; }
 same_text samples/p1.sheet 0 # runs to the last clock and ends with 8
 echo "example: same text and status as on paper"
 
@@ -94,7 +104,7 @@ sed 's/^#define JB_VERSION .*/#define JB_VERSION 99u/' c/jasminebrace.h >"$built
 gcc -std=c11 "${warned[@]}" -O2 -o "$built/other/command" "$built/other/command.c" "$archive"
 status=0
 "$built/other/command" plan samples/p1.sheet >"$built/out" 2>"$built/err" || status=$?
-if [ "$status" -ne 3 ] || [ -s "$built/out" ] || ! grep -q 'interface 4 and this program was compiled for 99$' "$built/err"; then
+if [ "$status" -ne 3 ] || [ -s "$built/out" ] || ! grep -q 'interface 5 and this program was compiled for 99$' "$built/err"; then
     echo "another interface is not noticed: status $status"
     exit 1
 fi

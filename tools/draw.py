@@ -19,7 +19,9 @@
 --order R,R,..  the order to draw, highest place first. Without it the sheet is
                 planned.
 
-Without --row, --promise and --supplies every slot supplies exactly N.
+Without --row, --promise and --supplies every slot supplies exactly N. In every
+run an arrow goes from the closing of a row to the first slot of one that
+follows it.
 
 --speeds        instead of a run: the slack of the tightest row against the
                 degraded speed G, from 1 to N work units per slot, under one

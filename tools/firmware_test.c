@@ -182,7 +182,14 @@ static void promise(jb_table *table, uint32_t promised) {
     table->promised[table->n - 1] = table->level[table->n - 1] == JB_LO ? promised : 0;
 }
 
-/* A table that has a correct order, with loading or without, with promised parts or without, and that order. */
+/* Lets the last row follow a row above it, if that is released no later, and HI if the last one is. */
+static void follow(jb_table *table, uint32_t row) {
+    const uint32_t last = table->n - 1;
+    const int released = row != 0 && table->release[row - 1] <= table->release[last];
+    table->follows[last] = released && table->level[row - 1] >= table->level[last] ? row : 0;
+}
+
+/* A table that has a correct order, with or without loading, promised parts and rows that follow rows, and that order. */
 static jb_table planned_table(uint8_t order[JB_ROWS]) {
     for (;;) {
         uint64_t left;
@@ -193,6 +200,7 @@ static jb_table planned_table(uint8_t order[JB_ROWS]) {
             uint32_t release = 3 + below(20);
             add_row(&table, release, 1 + below(5 * normal), release + 1 + below(8 + (8 + loading) * rows), below(2));
             promise(&table, below(3) ? 0 : below(table.work[table.n - 1] + 1));
+            follow(&table, below(2) ? 0 : below(table.n));
         }
         uint32_t number = jb_plan_table(&table, order, &left);
         must(number == JB_OK || number == JB_NO_ORDER, "a table within the limits is answered %u", number);
@@ -572,7 +580,7 @@ static void late_previews(void) {
  */
 static void promised_parts(void) {
     uint32_t kept = 0, dropped = 0, at_last = 0;
-    for (int trial = 0; trial < TABLES; trial++) {
+    for (int trial = 0; trial < 5 * TABLES; trial++) { /* few parts are got by the very last slot */
         uint8_t order[JB_ROWS];
         jb_table table = planned_table(order);
         const uint32_t row = 1 + below(table.n), deadline = table.deadline[row - 1];
@@ -591,8 +599,60 @@ static void promised_parts(void) {
         dropped += jb_is_dropped(&at, row);
         at_last += !jb_has_promised(&before, row);
     }
-    must(kept > TABLES / 20 && dropped > TABLES / 50 && at_last > 0, "%u promised parts, %u dropped, %u at the last slot", kept, dropped, at_last);
+    must(kept > TABLES / 4 && dropped > TABLES / 10 && at_last > 0, "%u promised parts, %u dropped, %u at the last slot", kept, dropped, at_last);
     puts("promised parts: got at the deadline with G from each slot of the window, whatever all others supply; no more slots than the allowance");
+}
+
+/* The job of a row that follows another runs in no slot in which that one is open; without waits the order would give the same slots. */
+static void rows_that_follow(void) {
+    uint32_t waited = 0, after_done = 0, after_dropped = 0;
+    for (int trial = 0; trial < TABLES; trial++) {
+        uint8_t order[JB_ROWS];
+        jb_table table = planned_table(order), free_of_waits = table;
+        memset(free_of_waits.follows, 0, sizeof free_of_waits.follows);
+        jb_run run = fresh_run(&table, order), other = fresh_run(&free_of_waits, order);
+        new_board(&table, trial % 2, trial % 4 == 0 ? 1 : table.normal, 0);
+        board_start();
+        for (uint32_t slot = 0; slot < 200; slot++) {
+            jb_run before = run;
+            uint32_t row;
+            must(one_slot(&run) == JB_OK, "a slot is refused");
+            const uint32_t ran = board.rows[slot], followed = ran == 0 ? 0 : table.follows[ran - 1];
+            must(!jb_is_waiting(&before, ran), "row %u runs, and waits for row %u", ran, followed);
+            must(followed == 0 || board.jobs[followed].calls == 1, "row %u runs before row %u is told closed", ran, followed);
+            must(jb_work_slot(&other, ran == 0 ? 0 : run.got[ran - 1] - before.got[ran - 1], &row) == JB_OK && row == ran, "another row runs without waits");
+            must(memcmp(&run.clock, &other.clock, sizeof run - offsetof(jb_run, clock)) == 0, "waits change more than which orders there are");
+            for (row = 1; row <= table.n; row++) {
+                waited += (uint32_t)jb_is_waiting(&before, row);
+            }
+            after_done += followed != 0 && jb_is_done(&before, followed);
+            after_dropped += followed != 0 && jb_is_dropped(&before, followed);
+        }
+    }
+    must(waited > TABLES && after_done > TABLES / 4 && after_dropped > TABLES / 20, "%u waits, %u slots after done, %u after dropped", waited, after_done, after_dropped);
+    puts("rows that follow rows: none gets a slot before the row that it follows is closed; it runs once that is done, or dropped; no slot is lost by waiting");
+}
+
+/* A HI row follows HI rows alone, so that what it waits for is done when it runs; a LO row may run after one that was dropped, and can tell. */
+static void followed_by_high(void) {
+    uint32_t high = 0;
+    for (int trial = 0; trial < TABLES; trial++) {
+        uint8_t order[JB_ROWS];
+        jb_table table = planned_table(order);
+        jb_run run = fresh_run(&table, order);
+        new_board(&table, 0, table.normal, 0);
+        board_start();
+        for (uint32_t slot = 0; slot < 200; slot++) {
+            must(one_slot(&run) == JB_OK, "a slot is refused");
+            const uint32_t ran = board.rows[slot], followed = ran == 0 ? 0 : table.follows[ran - 1];
+            if (followed != 0 && table.level[ran - 1] == JB_HI) {
+                must(jb_is_done(&run, followed) && board_ended(followed), "HI row %u runs, and row %u is not done", ran, followed);
+                high++;
+            }
+        }
+    }
+    must(high > TABLES / 20, "only %u slots of HI rows that follow others", high);
+    puts("what a HI row follows is done when it runs");
 }
 
 /* Loading slots: any figure gives the same record, which counts the slot as used; a preempted row goes on where it was. */
@@ -748,26 +808,33 @@ static void stored_before(void) {
     puts("a record with a LO row open past its deadline is answered 9; with one closed after it, it is taken");
 }
 
-/* A record of interface 3 has no promised parts: with 256 bytes of 0 after its first 1,040 it is one of interface 4, and goes on as before. */
-static void stored_by_3(void) {
-    unsigned char stored[1876];
-    const size_t ahead = offsetof(jb_table, promised), part = sizeof(jb_table) - ahead;
+/* A record of before, which has no figures from one column of the table on: with bytes of 0 in their place it goes on as it would have. */
+static void brought_up(size_t ahead, size_t added, size_t size) {
+    unsigned char stored[sizeof(jb_run)];
     uint8_t order[JB_ROWS];
     uint32_t row;
-    must(ahead == 1040 && part == 256 && sizeof stored == sizeof(jb_run) - part, "the layout of interface 3 is another");
+    must(sizeof(jb_table) == ahead + added && sizeof(jb_run) == size + added, "the layout of a record of %zu bytes is another", size);
     jb_table table = planned_table(order);
-    memset(table.promised, 0, sizeof table.promised);
+    memset((unsigned char *)&table + ahead, 0, added);
     new_board(&table, table.degraded, table.normal, 0);
     jb_run run = true_run(&table, order, 7), restored;
     memcpy(stored, &run, ahead);
-    memcpy(stored + ahead, (unsigned char *)&run + ahead + part, sizeof stored - ahead);
+    memcpy(stored + ahead, (unsigned char *)&run + ahead + added, size - ahead);
     memset(&restored, 0, sizeof restored);
     memcpy(&restored, stored, ahead);
-    memcpy((unsigned char *)&restored + ahead + part, stored + ahead, sizeof stored - ahead);
-    must(same(&run, &restored) && jb_coming_row(&restored, &row) == JB_OK, "a record of interface 3 is not brought up");
+    memcpy((unsigned char *)&restored + ahead + added, stored + ahead, size - ahead);
+    must(same(&run, &restored) && jb_coming_row(&restored, &row) == JB_OK, "a record of %zu bytes is not brought up", size);
     restored.got[0] = table.work[0] + 1;
     must(jb_coming_row(&restored, &row) == JB_UNSOUND, "a record that is brought up and unsound is not 9");
-    puts("a record of interface 3 is brought up by 256 bytes of 0, and 9 tells whether it is sound");
+}
+
+/* Interface 4 has no followed rows: 256 bytes of 0 after the first 1,296. Interface 3 has no promised parts either: 512 after the first 1,040. */
+static void stored_by_3_and_4(void) {
+    brought_up(offsetof(jb_table, follows), 256, 2132);
+    must(offsetof(jb_table, follows) == 1296, "the followed rows do not begin after 1,296 bytes");
+    brought_up(offsetof(jb_table, promised), 512, 1876);
+    must(offsetof(jb_table, promised) == 1040, "the promised parts do not begin after 1,040 bytes");
+    puts("a record of interface 4 is brought up by 256 bytes of 0, one of interface 3 by 512, and 9 tells whether it is sound");
 }
 
 /* ---- stack ---- */
@@ -893,6 +960,7 @@ static void list_of_jobs(void) {
         int32_t slack;
         jb_table table = planned_table(planned);
         list_of_record(&table, planned);
+        memset(table.follows, 0, sizeof table.follows); /* so that every order of its rows is one */
         for (uint32_t place = 0; place < table.n; place++) {
             turned[place] = planned[table.n - 1 - place];
         }
@@ -1126,16 +1194,43 @@ static void refusals(void) {
     table.promised[0] = 0;
     table.promised[1] = 1;
     must(plot(&table, &run) == JB_PROMISED && jb_fresh_run(&table, other, &run) == JB_PROMISED, "a promise on a HI row is not 12");
+    table.promised[1] = 0;
+    table.follows[1] = 2;
+    must(plot(&table, &run) == JB_NOT_LOWER && jb_fresh_run(&table, other, &run) == JB_NOT_LOWER, "a row that follows itself is not 13");
+    table.follows[1] = 1;
+    must(plot(&table, &run) == JB_FOLLOWS_LOW, "a HI follower of a LO row is not 15");
+    table.release[0] = 1;
+    must(plot(&table, &run) == JB_RELEASED_LATER, "a followed row that is released later is not 14");
     table.release[0] = 2;
     must(plot(&table, &run) == JB_ROW_LIMITS, "a release at the deadline is not 5");
     must(board.slots == 0 && !board.started, "a refused table starts the board or runs a slot");
-    puts("tables that cannot be run are answered 3, 4, 11, 5, 12, 6 or 7, and no slot is begun");
+    puts("tables that cannot be run are answered 3, 4, 11, 5, 12, 13, 14, 15, 6 or 7, and no slot is begun");
+}
+
+/* An order that has a row above the one that it follows is 6, and so a record with it is 9; 7 where only such orders would be correct. */
+static void broken_waits(void) {
+    static const uint8_t kept[JB_ROWS] = {1, 2}, broken[JB_ROWS] = {2, 1};
+    uint8_t order[JB_ROWS];
+    uint64_t left;
+    uint32_t row;
+    jb_table table = empty_table(1, 1, 0);
+    add_row(&table, 0, 1, 9, JB_LO);
+    add_row(&table, 0, 1, 1, JB_LO);
+    must(jb_plan_table(&table, order, &left) == JB_OK && memcmp(order, broken, JB_ROWS) == 0, "where no row waits, row 2 is not planned before row 1");
+    table.follows[1] = 1;
+    jb_run run = fresh_run(&table, kept);
+    must(jb_coming_row(&run, &row) == JB_OK && row == 1, "the followed row is not the first to run");
+    memcpy(run.order, broken, JB_ROWS);
+    must(jb_coming_row(&run, &row) == JB_UNSOUND && row == 0, "a record whose order breaks a wait is not 9");
+    must(jb_fresh_run(&table, broken, &run) == JB_NOT_AN_ORDER, "an order with a row above the one that it follows is not 6");
+    must(jb_plan_table(&table, order, &left) == JB_NO_ORDER && left == 3, "a wait that no correct order keeps is not 7");
+    puts("an order with a row above the one that it follows is answered 6, and 9 in a record; 7 where only such orders would be correct");
 }
 
 int main(void) {
     must(jb_fits(), "the header and the archive do not belong together");
-    must(jb_version() == 4, "the interface is not number 4");
-    must(sizeof(jb_table) == 1296 && sizeof(jb_run) == 2132 && sizeof(jb_row) == 20, "table, record and row have other sizes");
+    must(jb_version() == 5, "the interface is not number 5");
+    must(sizeof(jb_table) == 1552 && sizeof(jb_run) == 2388 && sizeof(jb_row) == 24, "table, record and row have other sizes");
     record_of_true_supplies();
     real_deadlines();
     window_only();
@@ -1148,13 +1243,15 @@ int main(void) {
     too_much();
     late_previews();
     promised_parts();
+    rows_that_follow();
+    followed_by_high();
     loading_slots();
     ended_while_loading();
     loads_longer();
     given_up();
     restored();
     stored_before();
-    stored_by_3();
+    stored_by_3_and_4();
     allowance_stack();
     sheet_of_record();
     list_of_jobs();
@@ -1164,5 +1261,6 @@ int main(void) {
     fallen_counter();
     seems_closed();
     refusals();
+    broken_waits();
     return 0;
 }

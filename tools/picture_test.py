@@ -16,10 +16,10 @@ SPEEDS    the lines of `jasminebrace speeds --plain`, as a file: the least G of 
 Says what is wrong and ends with 1, or ends with 0. Every picture is well formed and has a title and a description for screen readers, no two
 words overlap and none leaves the picture. In that of a run every closing of the command is told once and has the one mark of its kind at its
 clock, each row's bars stand in the slots that it ran, as loading ones in its loading slots and nowhere else, a promised part has its flag at the
-clock at which the command says that it is got and dashed edges around the slots up to there, loading, promised parts and rows dropped at their
-deadlines are in the legend exactly if there are any, and the row asked about is marked; in its worst run it closes at its worst finish, or has got
-its promised part when that is due at exactly G. In that
-of speeds the axes have their units and round ticks, the line has the command's slack at each G, or the G is said to be off the
+clock at which the command says that it is got and dashed edges around the slots up to there, an arrow goes from the closing of a followed row to
+the first slot of its follower, if there are both, and the rows followed stand in a column of their own, loading, promised parts, waits and rows
+dropped at their deadlines are in the legend exactly if there are any, and the row asked about is marked; in its worst run it closes at its worst
+finish, or has got its promised part when that is due at exactly G. In that of speeds the axes have their units and round ticks, the line has the command's slack at each G, or the G is said to be off the
 scale, the least workable G is marked with its figure, and so is the least G at which the order is correct if that is another, at which the
 ground of the G that are not enough ends, and the tightest rows stand in their speeds.
 """
@@ -40,6 +40,7 @@ SVG = "{http://www.w3.org/2000/svg}"
 OUTCOMES = {1: "done", 2: "dropped", 3: "late", 4: "dropped at deadline", 5: "dropped at deadline"}
 WRONG = "#b00020"  # what marks of rows that are not done in time are drawn in
 PROMISED = "#5b21b6"  # what flags and edges of promised parts are drawn in
+WAIT = "#0b6e69"  # what arrows to followers are drawn in
 NEAR = 0.3  # pixels by which a place may differ, since coordinates are rounded
 NARROWEST = 0.8  # width in pixels of a bar that would be narrower
 
@@ -90,7 +91,7 @@ def run_faults(root, asked, sheet, ran):
     lanes = [lane for lane in root.iter(SVG + "g") if lane.find(SVG + "title") is not None]
     worst = root.find(SVG + "title").text.startswith("Worst run of row ")
     for_promise = worst and " for its promised part: " in root.find(SVG + "title").text
-    loading, deadlines, parts = figures_of(sheet)
+    loading, deadlines, parts, follows = figures_of(sheet)
     stretches = stretches_of(ran)
     closings = {row_of(lane): closing_of(row_of(lane), stretches, deadlines, worst) for lane in lanes}
     yield from closing_faults(closings, told.text, lanes)
@@ -98,6 +99,8 @@ def run_faults(root, asked, sheet, ran):
     yield from bar_faults(stretches, axis(root), lanes)
     yield from loading_faults(stretches, loading, root, lanes)
     yield from promise_faults(stretches, parts, axis(root), root, lanes)
+    yield from wait_faults(stretches, closings, follows, axis(root), root, lanes)
+    yield from wait_word_faults(closings, follows, root, lanes)
     if for_promise:
         yield from promise_run_faults(asked, lanes)
     elif worst:
@@ -117,10 +120,10 @@ def stretches_of(ran):
 
 
 def figures_of(sheet):
-    """K of a sheet and the deadline of each row, both in slots, and the promised part of each row in work units."""
+    """K of a sheet and the deadline of each row, both in slots, the promised part of each row in work units, and the row that it follows."""
     with open(sheet, encoding="ascii") as file:
         first, *rows = [[int(line[at : at + 8]) for at in range(0, len(line), 8)] for line in file.read().splitlines()]
-    return first[3], {row: line[2] for row, line in enumerate(rows, 1)}, {row: line[4] for row, line in enumerate(rows, 1)}
+    return first[3], *({row: line[figure] for row, line in enumerate(rows, 1)} for figure in (2, 4, 5))
 
 
 def closing_of(row, stretches, deadlines, worst):
@@ -275,6 +278,53 @@ def promise_faults(stretches, parts, x, root, lanes):
     named = [sum(1 for text in root.iter(SVG + "text") if text.text.startswith(entry)) for entry in legend]
     if named != ([1, 1] if any(parts.values()) else [0, 0]):
         yield f"the legend names promised parts {named} times"
+
+
+def height_of(lane):
+    """The middle of a lane, by its words."""
+    return float(lane.find(SVG + "text").get("y")) - 4
+
+
+def arrows_of(root, row):
+    """Where the arrows to a follower begin, where their lines end, and the points of their heads."""
+    paths = [path for group in root.iter(SVG + "g") if group.get("id") == f"wait-{row}" for path in group.iter(SVG + "path")]
+    lines = [corners_of(path) for path in paths if path.get("stroke") == WAIT]
+    heads = [corners_of(path)[0] for path in paths if path.get("fill") == WAIT]
+    return [line[0] for line in lines], [line[-1] for line in lines], heads
+
+
+def wait_faults(stretches, closings, follows, x, root, lanes):
+    """An arrow from the closing of a followed row, in its lane, to the first slot of its follower, in this one's, exactly if there are both."""
+    heights = {row_of(lane): height_of(lane) for lane in lanes}
+    for lane in lanes:
+        row = row_of(lane)
+        ran = [part.first for part in stretches if part.row == row and part.count]
+        clock = closings[follows[row]].clock if follows[row] else 0
+        begins, ends, heads = arrows_of(root, row)
+        if len(begins) != bool(clock and ran) or heads != ends:
+            yield f"row {row} follows row {follows[row]}, closed at {clock}, and has arrows from {begins} to {heads}"
+        elif begins:
+            places = [(x(clock), heights[follows[row]]), (x(ran[0]), heights[row])]
+            if any(abs(one[0] - other[0]) > NEAR or abs(one[1] - other[1]) > 10 for one, other in zip([*begins, *heads], places)):
+                yield f"row {row} follows row {follows[row]}, and its arrow goes from {begins[0]} to {heads[0]} and not from {places[0]} to {places[1]}"
+
+
+def wait_word_faults(closings, follows, root, lanes):
+    """Waits in words: in the lane of each follower and in its column, and an entry of the legend, exactly if there are any."""
+    texts = list(root.iter(SVG + "text"))
+    heading = [text.get("x") for text in texts if text.text == "follows"]
+    for lane in lanes:
+        row, words = row_of(lane), lane.find(SVG + "title").text
+        clock = closings[follows[row]].clock if follows[row] else 0
+        over = f"closed after {clock:,} slot" if clock else "open at the end"
+        if ("; follows row" in words) != bool(follows[row]) or (follows[row] and f"; follows row {follows[row]}, {over}" not in words):
+            yield f"row {row} follows row {follows[row]}, {over}, and its lane says: {words}"
+        cells = [text.text for text in lane.iter(SVG + "text") if text.get("x") in heading]
+        if heading and cells != [str(follows[row]) if follows[row] else "\u2013"]:
+            yield f"row {row} follows row {follows[row]}, and its column says {cells}"
+    named = sum(1 for text in texts if text.text.startswith("from the closing of a row "))
+    if (len(heading), named) != ((1, 1) if any(follows.values()) else (0, 0)):
+        yield f"{len(heading)} columns of followed rows, and the legend names arrows {named} times"
 
 
 def promise_run_faults(asked, lanes):

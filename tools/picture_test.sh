@@ -28,6 +28,10 @@ stored_as loading-run.svg samples/loading.sheet --row 1
 stored_as least-speed.svg samples/warm.sheet --speeds
 stored_as late-preview.svg samples/late-preview.sheet --supplies 4x4 2x3 8x2
 stored_as promised-part.svg samples/promise.sheet --promise 2
+stored_as lifting-first.svg samples/lifting.sheet --supplies 2x4 2x3 5x4
+
+# The sheet with the last deadline there is for each LO row, so that late ones go on.
+going_on() { awk 'NR == 1; NR > 1 { printf "%8d%8d%8d%8d%8d%8d\n", $1, $2, $4 == 0 ? 1000000 : $3, $4, $5, $6 }' "$1"; }
 
 # Other sizes. The shapes of a picture do not grow with its slots.
 looked=0
@@ -39,8 +43,7 @@ looks_right() { # most shapes and words, row asked about (0: none), order, suppl
     cp "$sheet" "$made/worked.sheet"
     case " $* " in
         *' --supplies '*) ;;
-        *' --row '* | *' --promise '*)
-            awk 'NR == 1; NR > 1 { printf "%8d%8d%8d%8d%8d\n", $1, $2, $4 == 0 ? 1000000 : $3, $4, $5 }' "$sheet" >"$made/worked.sheet" ;;
+        *' --row '* | *' --promise '*) going_on "$sheet" >"$made/worked.sheet" ;;
     esac
     # shellcheck disable=SC2086
     "$command" run --plain --stretches --order "$order" "$made/worked.sheet" $supplies >"$made/stretches"
@@ -91,7 +94,7 @@ looks_right 180 0 1 '8x5' "$made/later.sheet" --supplies 8x5
 eight=$(planned "$made/eight.sheet")
 looks_right 400 6 "$eight" 400x25 "$made/eight.sheet" --row 6
 looks_right 400 0 8,7,6,5,4,3,2,1 2000000x24 "$made/eight.sheet" --order 8,7,6,5,4,3,2,1 --supplies 2000000x24
-awk 'NR == 1 { printf "%8d%8d%8d%8d\n", $1, $2, $3, 1 } NR > 1 { printf "%8d%8d%8d%8d%8d\n", $1, $2, $3 + 150, $4, $5 }' samples/rows64.sheet \
+awk 'NR == 1 { printf "%8d%8d%8d%8d\n", $1, $2, $3, 1 } NR > 1 { printf "%8d%8d%8d%8d%8d%8d\n", $1, $2, $3 + 150, $4, $5, $6 }' samples/rows64.sheet \
     >"$made/rows64.sheet"
 rows64=$(planned "$made/rows64.sheet")
 looks_right 2300 30 "$rows64" 500x12 "$made/rows64.sheet" --row 30
@@ -127,13 +130,37 @@ promise=$(planned "$made/promise.sheet")
 looks_right 320 1 "$promise" 40x2 "$made/promise.sheet" --promise 1
 looks_right 320 3 "$promise" 40x2 "$made/promise.sheet" --promise 3
 looks_right 320 0 "$promise" '4x3 9x4' "$made/promise.sheet" --supplies 4x3 9x4
-awk 'NR == 1; NR > 1 { printf "%8d%8d%8d%8d%8d\n", $1, $2, $3 + 150, $4, $4 == 0 ? int($2 / 2) : 0 }' samples/rows64.sheet >"$made/rows64.sheet"
+awk 'NR == 1; NR > 1 { printf "%8d%8d%8d%8d%8d%8d\n", $1, $2, $3 + 150, $4, $4 == 0 ? int($2 / 2) : 0, $6 }' samples/rows64.sheet >"$made/rows64.sheet"
 rows64=$(planned "$made/rows64.sheet")
 low=$(awk 'NR > 1 && $4 == 0 { print NR - 1; exit }' "$made/rows64.sheet")
 looks_right 2600 "$low" "$rows64" 500x12 "$made/rows64.sheet" --promise "$low"
 "$command" sheet 10 7 0 0,1000000,200000,LO,700000 5,70,1000000,HI >"$made/long-promise.sheet"
 looks_right 200 1 2,1 200000x7 "$made/long-promise.sheet" --order 2,1 --promise 1
 looks_right 200 0 1,2 '50000x10 40000x7' "$made/long-promise.sheet" --order 1,2 --supplies 50000x10 40000x7
+
+# Rows that follow rows: a follower in the slot after its row has closed, later than that, beside a row that closes with its row, not at all; a
+# row that is dropped for its slots, or by the clock; followers of one row, chains, with loading, in a worst run, of 64 rows and in a million slots.
+looks_right 320 0 4,1,2,3 '2x4 2x3 5x4' samples/lifting.sheet --supplies 2x4 2x3 5x4
+looks_right 320 2 4,1,2,3 20x2 samples/lifting.sheet --row 2
+looks_right 320 3 4,1,2,3 20x4 samples/lifting.sheet --row 3
+looks_right 320 0 4,1,2,3 5x2 samples/lifting.sheet --supplies 5x2
+looks_right 320 0 4,1,2,3 6x2 samples/lifting.sheet --supplies 6x2
+looks_right 320 0 4,1,2,3 20x0 samples/lifting.sheet --supplies 20x0
+"$command" sheet 2 1 1 0,4,30,LO 0,2,30,LO,0,1 0,6,40,HI 2,3,30,LO,2,1 5,3,50,HI,0,3 9,1,60,LO,0,4 >"$made/waits.sheet"
+waits=$(planned "$made/waits.sheet")
+looks_right 400 0 "$waits" 60x1 "$made/waits.sheet" --supplies 60x1
+looks_right 400 0 "$waits" '3x2 7x1 30x2' "$made/waits.sheet" --supplies 3x2 7x1 30x2
+looks_right 400 6 "$waits" 60x2 "$made/waits.sheet" --row 6
+looks_right 400 4 "$waits" 60x1 "$made/waits.sheet" --promise 4
+"$command" sheet 1 1 0 0,2,2,LO 0,1,5,LO,0,1 0,2,2,HI >"$made/overdue.sheet"
+looks_right 250 0 3,1,2 5x1 "$made/overdue.sheet" --order 3,1,2 --supplies 5x1
+looks_right 250 2 3,1,2 9x1 "$made/overdue.sheet" --order 3,1,2 --row 2
+"$command" sheet 10 7 0 0,700000,200000,HI 0,70,1000000,HI,0,1 900000,7,1000000,LO,0,2 >"$made/long-wait.sheet"
+looks_right 200 3 1,2,3 1000000x10 "$made/long-wait.sheet" --row 3
+awk 'NR == 1; NR > 1 { follows = (NR > 2 && (above == 1 || $4 == 0)) ? NR - 2 : 0; above = $4
+    printf "%8d%8d%8d%8d%8d%8d\n", 0, $2, 1000000, $4, $5, follows }' samples/rows64.sheet >"$made/rows64.sheet"
+rows64=$(planned "$made/rows64.sheet")
+looks_right 2600 0 "$rows64" 300x20 "$made/rows64.sheet" --supplies 300x20
 
 # How slow the processor may be, under the order at the least G or another one.
 speeds_look_right() { # most shapes and words, sheet, order to give, if any
@@ -160,6 +187,7 @@ speeds_look_right 150 samples/cooler.sheet 1,2
 grep -qF 'The order 2 1 is correct from G = 19 work units per slot on.' "$made/picture.svg" || fail "the order that does better is not named"
 speeds_look_right 150 samples/promise.sheet
 speeds_look_right 150 samples/promise.sheet 1,4,2,3
+speeds_look_right 150 samples/lifting.sheet
 speeds_look_right 150 samples/warm.sheet 5,6,1,3,4,2
 speeds_look_right 150 samples/warm.sheet 5,3,6,1,4,2
 speeds_look_right 200 samples/rows64.sheet
@@ -216,7 +244,7 @@ spoilt_is_noticed '<text [^>]*>dropped at its deadline: [^<]*</text>' '' '^.*: t
 # Promised parts: an edge or a flag at another place, too few of them, words, and the legend.
 spoilt_from=docs/promised-part.svg
 spoilt_test=(320 2 samples/promise.sheet "$made/stretches")
-awk 'NR == 1; NR > 1 { printf "%8d%8d%8d%8d%8d\n", $1, $2, $4 == 0 ? 1000000 : $3, $4, $5 }' samples/promise.sheet >"$made/worked.sheet"
+going_on samples/promise.sheet >"$made/worked.sheet"
 "$command" run --plain --stretches --order 1,2,4,3 "$made/worked.sheet" 14x2 >"$made/stretches"
 python3 tools/picture_test.py docs/promised-part.svg "${spoilt_test[@]}" || fail "docs/promised-part.svg"
 spoilt_is_noticed '<path d="[^"]*" fill="none" stroke="#5b21b6"[^>]*/>' '' '^.*: row 2 has the promised edges'
@@ -228,6 +256,23 @@ spoilt_is_noticed '(<g><title>Place 2: .*promised part) 12' '\1 13' '^.*: of row
 spoilt_is_noticed '(<g><title>Place 2: .*)promised part [^;]*; ' '\1' '^.*: of row 2 12 work units are promised'
 spoilt_is_noticed '(<g><title>Place 2: .*at exactly G after) 10' '\1 11' '^.*: row 2 does not get its promised part when it is due'
 spoilt_is_noticed '<text [^>]*>the promised part is got</text>' '' '^.*: the legend names promised parts'
+# Rows that follow rows: an arrow that begins or ends elsewhere, that is missing, or without its head; the column, the words and the legend.
+spoilt_from=docs/lifting-first.svg
+spoilt_test=(320 0 samples/lifting.sheet "$made/stretches")
+"$command" run --plain --stretches --order 4,1,2,3 samples/lifting.sheet 2x4 2x3 5x4 >"$made/stretches"
+python3 tools/picture_test.py docs/lifting-first.svg "${spoilt_test[@]}" || fail "docs/lifting-first.svg"
+spoilt_is_noticed '<path d="M[0-9.]*(,[^"]*" fill="none" stroke="#0b6e69")' '<path d="M9\1' '^.*: row 2 follows row 1, and its arrow goes from'
+spoilt_is_noticed '<path d="M([0-9.]*),[0-9.]*( [^"]*" fill="none" stroke="#0b6e69")' '<path d="M\1,9\2' '^.*: row 2 follows row 1, and its arrow goes from'
+spoilt_is_noticed '<path d="[^"]*" fill="none" stroke="#0b6e69"[^>]*/>' '' '^.*: row 2 follows row 1, closed at 4, and has arrows from'
+spoilt_is_noticed '<path [^>]*fill="#0b6e69"[^>]*/>' '' '^.*: row 2 follows row 1, closed at 4, and has arrows from'
+spoilt_is_noticed '<path d="M[0-9.]*(,[^"]*" fill="#0b6e69")' '<path d="M9\1' '^.*: row 2 follows row 1, closed at 4, and has arrows from'
+spoilt_is_noticed 'd="(M[0-9.,]* [0-9.,]*) [0-9.]*,([0-9.]*" fill="none" stroke="#0b6e69"[^>]*/>\s*<path d="M)[0-9.]*' 'd="\1 700,\g<2>700' '^.*: row 3 follows row 2, and its arrow goes from'
+spoilt_is_noticed '(<g><title>Place 3: .*; follows row) 1' '\1 4' '^.*: row 2 follows row 1, closed after 4 slot, and its lane says'
+spoilt_is_noticed '(<g><title>Place 4: .*; follows row 2, closed after) 6' '\1 7' '^.*: row 3 follows row 2, closed after 6 slot, and its lane says'
+spoilt_is_noticed '(<g><title>Place 2: .*); runs in' '\1; follows row 4, closed after 2 slots; runs in' '^.*: row 1 follows row 0, open at the end, and its lane says'
+spoilt_is_noticed '(<g><title>Place 3: [^/]*/title>\s*<text [^/]*/text>\s*<text [^/]*/text>\s*<text [^>]*>)1<' '\g<1>3<' '^.*: row 2 follows row 1, and its column says'
+spoilt_is_noticed '<text [^>]*>from the closing of a row [^<]*</text>' '' '^.*: 1 columns of followed rows, and the legend names arrows 0 times'
+spoilt_is_noticed '>follows<' '>waits<' '^.*: 0 columns of followed rows'
 spoilt_from=docs/least-speed.svg
 spoilt_test=(150 --speeds samples/warm.sheet "$made/slacks" "$made/speeds")
 "$command" speeds --slacks --plain samples/warm.sheet >"$made/slacks"
@@ -280,9 +325,11 @@ refuses() { # status, what is in the words, arguments of draw.py before the outp
     refused=$((refused + 1))
 }
 said_by() { "$command" "$@" 2>&1 >"$made/out" || true; }
-printf '       1       2       3       0\n       0      20      10       1       0\n' >"$made/speeds.sheet"
-printf '       1       2       1      17\n       0      20      10       1       0\n' >"$made/loading.sheet"
-printf '       1       2       1       0\n       0      20      10       1       1\n' >"$made/promised.sheet"
+printf '       1       2       3       0\n       0      20      10       1       0       0\n' >"$made/speeds.sheet"
+printf '       1       2       1      17\n       0      20      10       1       0       0\n' >"$made/loading.sheet"
+printf '       1       2       1       0\n       0      20      10       1       1       0\n' >"$made/promised.sheet"
+printf '       1       2       1       0\n       0      20      10       1       0       1\n' >"$made/follows.sheet"
+printf '       1       2       1       0\n       0      20      10       1       0\n' >"$made/before-follows.sheet"
 printf '       1       2       1       0\n       0      20      10       1\n' >"$made/before-promised.sheet"
 printf '       1       2       1\n       0      20      10       1\n' >"$made/before.sheet"
 refuses 1 "$(said_by plan --plain samples/p3.sheet)" samples/p3.sheet --row 1
@@ -291,6 +338,9 @@ refuses 2 "$(said_by plan --plain "$made/loading.sheet")" "$made/loading.sheet" 
 refuses 2 "$(said_by plan --plain "$made/before.sheet")" "$made/before.sheet" --row 1
 refuses 2 "$(said_by plan --plain "$made/promised.sheet")" "$made/promised.sheet" --row 1
 refuses 2 "$(said_by plan --plain "$made/before-promised.sheet")" "$made/before-promised.sheet" --row 1
+refuses 2 "$(said_by plan --plain "$made/follows.sheet")" "$made/follows.sheet" --row 1
+refuses 2 "$(said_by plan --plain "$made/before-follows.sheet")" "$made/before-follows.sheet" --row 1
+refuses 2 "$(said_by finishes --plain samples/lifting.sheet 4,2,1,3)" samples/lifting.sheet --order 4,2,1,3
 refuses 2 "$(said_by finishes --plain samples/p1.sheet 1,1,2,3)" samples/p1.sheet --order 1,1,2,3
 refuses 2 "number 8" samples/p1.sheet --supplies 2000001x1
 refuses 3 "$(said_by plan --plain "$made/missing.sheet")" "$made/missing.sheet"

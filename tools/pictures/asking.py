@@ -13,8 +13,8 @@ LAST_DEADLINE = 1_000_000  # slots; no sheet has a later one
 AT_DEADLINE = "dropped at deadline"
 CLOSED = {1: "done", 2: "dropped", 3: "late", 4: AT_DEADLINE, 5: AT_DEADLINE}
 
-# Slots, work units, slots, HI or not, work units.
-Row = namedtuple("Row", "release work deadline high promised")
+# Slots, work units, slots, HI or not, work units, row number (0: none).
+Row = namedtuple("Row", "release work deadline high promised follows")
 # What became of a row: at which clock it closed (0 while it is open), how: "done", "late", "dropped" (its slots used up), AT_DEADLINE or
 # "open"; and the clock at which it got its promised part (0: it did not, or has none).
 Outcome = namedtuple("Outcome", "closing how promised")
@@ -72,7 +72,7 @@ class Command:
         """N, G, K and the rows of a sheet that the command has accepted."""
         first, *rows = self.lines()
         _, normal, degraded, loading = fields(first)
-        rows = {number: Row(a, c, d, level == 1, r) for number, (a, c, d, level, r) in enumerate(map(fields, rows), 1)}
+        rows = {number: Row(a, c, d, level == 1, r, w) for number, (a, c, d, level, r, w) in enumerate(map(fields, rows), 1)}
         return normal, degraded, loading, rows
 
     def planned(self):

@@ -94,6 +94,10 @@ def any_promised(run):
     return any(row.promised for row in run.rows.values())
 
 
+def any_waits(run):
+    return any(row.follows for row in run.rows.values())
+
+
 def highest(run):
     return max(stretch.supply for stretch in run.supplied)
 

@@ -5,8 +5,8 @@ from collections import namedtuple
 from pictures.asking import AT_DEADLINE
 from pictures.drawing import Drawing
 from pictures.measures import GAP, HEADING, MARGIN, TICK, figure, layout, tick_step, width_of
-from pictures.run import any_promised, highest
-from pictures.words import closing, level
+from pictures.run import any_promised, any_waits, highest
+from pictures.words import closing, followed, level
 
 PANEL = 72  # height of the supplies
 
@@ -16,9 +16,11 @@ Column = namedtuple("Column", "heading cell right_aligned bad", defaults=[lambda
 
 def columns_before(run):
     promised = Column(["promised,", "work", "units"], lambda run, place, row: figure(run.rows[row].promised), True)
+    follows = Column(["follows", "row"], lambda run, place, row: followed(run.rows[row]), True)
     return [
         Column(["place"], lambda run, place, row: str(place), True),
         Column(["row"], lambda run, place, row: str(row), True),
+        *([follows] if any_waits(run) else []),
         Column(["level"], lambda run, place, row: level(run.rows[row]), False),
         Column(["work,", "work", "units"], lambda run, place, row: figure(run.rows[row].work), True),
         *([promised] if any_promised(run) else []),

@@ -4,7 +4,7 @@ from html import escape
 
 from pictures.asking import AT_DEADLINE
 from pictures.measures import HEADING, MARGIN, figure, many, short, width_of
-from pictures.run import any_promised, highest, lowest
+from pictures.run import any_promised, any_waits, highest, lowest
 from pictures.run_layout import PANEL, RunLayout
 from pictures.styles import (
     ASKED,
@@ -20,6 +20,7 @@ from pictures.styles import (
     PROMISED,
     SOFT,
     SUPPLY,
+    WAIT,
     WINDOW,
     WRONG,
     loading_patterns,
@@ -28,6 +29,7 @@ from pictures.words import level, sentence, slots_told, supplies_told
 
 STEPS = 1200  # supplies that are still drawn one by one; more are drawn as a band
 PROMISED_EDGE = f'fill="none" stroke="{PROMISED}" stroke-width="1.8" stroke-dasharray="4 2"'
+WAIT_LINE = f'fill="none" stroke="{WAIT}" stroke-width="2"'
 ASKED_LANE = f'fill="{ASKED}" stroke="{ASKED_EDGE}" stroke-width="1.4"'
 
 
@@ -79,6 +81,28 @@ class RunPicture(RunLayout):
     def promised_edge(self, x1, x2, y):
         low, high = y - self.bar / 2 - 2, y + self.bar / 2 + 2
         self.path([(x1, low), (x2, low), (x2, high), (x1, high)], PROMISED_EDGE)
+
+    def wait_arrow(self, points):
+        """A line with a head at its last point, which is level if the line ends so, and upright if not."""
+        size = 4 * self.mark
+        (_, y1), (x, y) = points[-2:]
+        level_head = [(x - 2 * size, y - size), (x - 2 * size, y + size)]
+        upright_head = [(x - size, y - 2 * size), (x + size, y - 2 * size)]
+        self.path(points, WAIT_LINE, closed=False)
+        self.path([(x, y), *(level_head if y1 == y else upright_head)], f'fill="{WAIT}"')
+
+    def wait_points(self, number, first):
+        """From the closing of the row that a row follows down to the lane of this one, and along it to its first slot if that is later."""
+        followed = self.run.rows[number].follows
+        x1, x2 = self.x(self.run.outcome[followed].closing), self.x(first)
+        y1, y2 = self.lane_y(followed) + 5.4 * self.mark, self.lane_y(number)
+        if x2 - x1 > 12 * self.mark:
+            return [(x1, y1), (x1, y2), (x2, y2)]
+        return [(x1, y1), (x2, y2 - self.bar / 2)]
+
+    def lane_y(self, number):
+        """The middle of a row's lane."""
+        return self.top + self.lane * (self.run.order.index(number) + 0.5)
 
     def cross(self, x, y, reach, style):
         self.line(x - reach, y - reach, x + reach, y + reach, style)
@@ -195,7 +219,7 @@ class RunPicture(RunLayout):
 
     def job(self, place, number, stretches):
         run, row, outcome = self.run, self.run.rows[number], self.run.outcome[number]
-        y = self.top + self.lane * (place - 0.5)
+        y = self.lane_y(number)
         style = BOLD if number == self.asked else ""
         if number == self.asked:
             self.path([(MARGIN - 4, y - 6), (MARGIN + 6, y), (MARGIN - 4, y + 6)], f'fill="{INK}"')
@@ -221,6 +245,18 @@ class RunPicture(RunLayout):
             self.text(self.beyond_left, y + 4, figure(row.deadline), style=style)
         if outcome.closing:
             self.closing_mark(self.x(outcome.closing), y, outcome.how)
+
+    def waits(self, by_row):
+        """The arrows to followers that run, over all lanes: each on paper, so that it is seen on bars, and none on the paper of another."""
+        rows = self.run.rows
+        ran = [row for row in self.run.order if rows[row].follows and by_row[row] and self.run.outcome[rows[row].follows].closing]
+        arrows = {row: self.wait_points(row, by_row[row][0].first) for row in ran}
+        for points in arrows.values():
+            self.path(points, f'fill="none" stroke="{PAPER}" stroke-width="5"', closed=False)
+        for row, points in arrows.items():
+            self.add(f'<g id="wait-{row}">')
+            self.wait_arrow(points)
+            self.add("</g>")
 
     def slot_edges(self, stretch, y):
         """Light lines at the ticks inside of a stretch."""
@@ -253,6 +289,8 @@ class RunPicture(RunLayout):
         if any_promised(self.run):
             entries.append((lambda x, y: self.promised_edge(x, x + 24, y), "slots that bring the promised part (work units: its column)"))
             entries.append((lambda x, y: self.promise_mark(x + 12, y), "the promised part is got"))
+        if any_waits(self.run):
+            entries.append((lambda x, y: self.wait_arrow([(x, y - 8), (x, y), (x + 24, y)]), "from the closing of a row to the first slot of its follower"))
         if any(outcome.how == AT_DEADLINE for outcome in self.run.outcome.values()):
             entries.append((lambda x, y: self.closing_mark(x + 12, y, AT_DEADLINE), "dropped at its deadline: LO, not done when the clock reached it"))
         if self.beyond:
@@ -275,6 +313,7 @@ class RunPicture(RunLayout):
             self.add(f"<g><title>{escape(sentence(run, place, row, by_row[row]))}</title>")
             self.job(place, row, by_row[row])
             self.add("</g>")
+        self.waits(by_row)
         self.idle(by_row[0])
         self.legend()
         told = [self.title + ".", *self.lines, supplies_told(run)]

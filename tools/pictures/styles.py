@@ -2,7 +2,7 @@
 
 INK, SOFT, FAINT, PAPER = "#1f2328", "#5a626b", "#d5d9de", "#ffffff"
 HIGH, LOW, LOW_LINES, WINDOW = "#a8481c", "#a9cbe8", "#2f6ea3", "#eceff2"
-ASKED, ASKED_EDGE, SUPPLY, WRONG, PROMISED = "#fff2c2", "#b58900", "#3f6212", "#b00020", "#5b21b6"
+ASKED, ASKED_EDGE, SUPPLY, WRONG, PROMISED, WAIT = "#fff2c2", "#b58900", "#3f6212", "#b00020", "#5b21b6", "#0b6e69"
 
 BOLD = ' font-weight="bold"'
 HALO = f'{BOLD} stroke="{PAPER}" stroke-width="3" paint-order="stroke"'

@@ -13,6 +13,10 @@ def closing(outcome):
     return figure(outcome.closing) if outcome.closing else "\u2013"
 
 
+def followed(row):
+    return str(row.follows) if row.follows else "\u2013"
+
+
 def order_shown(order):
     return " ".join(map(str, order[:24])) + (" \u2026" if len(order) > 24 else "")
 
@@ -91,13 +95,20 @@ def promise_told(run, number):
     return f"{many(row.promised, 'work unit')}, {got}, at exactly G after {many(run.moment[number], 'slot')}"
 
 
+def wait_told(run, number):
+    """The row that a row follows, and when its wait is over in this run."""
+    clock = run.outcome[number].closing
+    return f"row {number}, closed after {many(clock, 'slot')}" if clock else f"row {number}, open at the end"
+
+
 def sentence(run, place, number, stretches):
     row, outcome = run.rows[number], run.outcome[number]
     ran = ", ".join(slots_told(stretch) for stretch in stretches) or "no slot"
     loads = f"loads in {loading_told(stretches)}; " if run.loading else ""
     promise = f"promised part {promise_told(run, number)}; " if row.promised else ""
+    follows = f"follows {wait_told(run, row.follows)}; " if row.follows else ""
     return (
         f"Place {place}: row {number}, {level(row)}, work {many(row.work, 'work unit')}, release {many(row.release, 'slot')}, "
-        f"deadline {many(row.deadline, 'slot')}; runs in {ran}; {loads}{promise}{outcome_told(outcome)}; "
+        f"deadline {many(row.deadline, 'slot')}; {follows}runs in {ran}; {loads}{promise}{outcome_told(outcome)}; "
         f"worst finish {many(run.finish[number], 'slot')}, slack {many(run.slack[number], 'slot')}."
     )
