@@ -392,7 +392,7 @@ static const struct {
 static uint64_t counts[FUNCTIONS][NUMBERS];
 static uint64_t range_ends[2]; /* least speeds that are the first and the last of their range */
 static uint64_t loading_slots, working_slots; /* slots worked one by one that brought no work by K, and other ones of a row */
-static uint64_t dropped_for_need, dropped_running, dropped_waiting; /* LO rows: for their allowance, at their deadlines as they ran, and as they did not */
+static uint64_t dropped_for_need, dropped_running, dropped_resting; /* LO rows: for their allowance, at their deadlines as they ran, and as they did not */
 static uint64_t waiting_rows, followers; /* rows that wait at a slot, and slots of rows that follow others */
 static uint64_t broken_waits; /* orders that are refused for a wait alone */
 static uint64_t tight_promises, longer_allowances; /* slacks that a promised part makes smaller, and allowances that it makes longer */
@@ -864,7 +864,7 @@ static void expect_closing(const jb_run *before, const jb_run *run, uint32_t row
     expect(jb_is_dropped_for_deadline(run, row) == (reached && !done && !used_up), "dropped for its deadline, and not for its need");
     dropped_for_need += ran && used_up && !done;
     dropped_running += ran && jb_is_dropped_for_deadline(run, row);
-    dropped_waiting += !ran && reached;
+    dropped_resting += !ran && reached;
 }
 
 /* What a slot may have changed: nothing with a refusal, the state alone with 0. */
@@ -1187,8 +1187,8 @@ int main(int argc, char **argv) {
     printf("slots worked one by one: %" PRIu64 " loading, %" PRIu64 " other ones of a row\n", loading_slots, working_slots);
     expect(loading_slots > 0 && working_slots > 0, "both kinds of slots come up");
     printf("LO rows dropped: %" PRIu64 " for their allowance, at their deadlines %" PRIu64 " that ran and %" PRIu64 " that did not\n",
-           dropped_for_need, dropped_running, dropped_waiting);
-    expect(dropped_for_need > 0 && dropped_running > 0 && dropped_waiting > 0, "every way to be dropped comes up");
+           dropped_for_need, dropped_running, dropped_resting);
+    expect(dropped_for_need > 0 && dropped_running > 0 && dropped_resting > 0, "every way to be dropped comes up");
     printf("promised parts: %" PRIu64 " make a slack smaller, %" PRIu64 " an allowance longer\n", tight_promises, longer_allowances);
     expect(tight_promises > 0 && longer_allowances > 0, "promised parts tell");
     printf("rows that follow rows: %" PRIu64 " wait at a slot, %" PRIu64 " slots run one, %" PRIu64 " orders break a wait\n", waiting_rows,

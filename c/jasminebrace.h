@@ -270,7 +270,8 @@ typedef struct {
     uint32_t level;    /* JB_LO or JB_HI */
     uint32_t promised; /* work units that a LO row is to have at its deadline if every slot supplies at least G: 0 to
                           its work; 0 on a HI row */
-    uint32_t follows;  /* the row that has to be closed before this one runs: a lower row number; 0 for none */
+    uint32_t follows;  /* the row that has to be closed before this one runs, counted from 1 in the list: a lower row
+                          number, released no later, and HI if this row is; 0 for none */
 } jb_row;
 
 /* A table of n rows. Row i is at index i - 1 of every column; the entries after row n are 0. */

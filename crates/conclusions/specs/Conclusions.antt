@@ -367,7 +367,7 @@ pub record FirmwareWriter (table order state : List ℕ) (supply : ℕ) (said : 
   pub sound-last : isSound (runIn table order state) ≡ true → getD state 0 0 ≡ 2000000 → said .number ≡ 8
   pub early : said .number ≡ 0 → getD state 0 0 < 2000000
   pub clock : said .number ≡ 0 → getD (said .next) 0 0 ≡ getD state 0 0 + 1
-  -- an idle slot: no row is ready, and only the clock moves; a row that it would drop would have been ready (rules 2.3, 2.12, 19.7)
+  -- an idle slot: no row is ready, and only the clock moves; a row that it would drop would have been released and open (rules 2.3, 2.12, 19.7)
   pub idle : said .number ≡ 0 → said .row ≡ 0 → ((i : ℕ) → ReadyIn table state i → ⊥) × ((k : ℕ) → 1 ≤ k → getD (said .next) k 0 ≡ getD state k 0)
   -- nor is any row released and open, whether it waits or not: no slot is idle beside such a row (rule 21.2)
   pub none-open : said .number ≡ 0 → said .row ≡ 0 → (i : ℕ) → PendingIn table state i → ⊥
@@ -431,8 +431,9 @@ pub record KeptWords (table state : List ℕ) (i : ℕ) : Type 0 where
   pub from : 1 ≤ getD state (128 + i) 0
   pub upTo : getD state (128 + i) 0 ≤ getD table (131 + i) 0
 
--- In the words of a state, a row that has used a slot follows none, or one that is closed, and all slots that it has used came after that closing slot; and
--- what a row of a level other than 0 follows has then got all its work (rule 9.19).
+-- In the words of a state, a row that has used a slot follows none, or one that is closed, and that closing slot and the slots used are together no more than
+-- the clock; and what a row of a level other than 0 follows has then got all its work (rule 9.19). That each slot is given to a row that does not wait is in
+-- what a firmware writer is told of it (`ReadyIn`).
 pub record WaitedWords (table state : List ℕ) : Type 0 where
   pub closed : (i : ℕ) → 1 ≤ i → i ≤ getD table 0 0 → (getD table (323 + i) 0 ≡ 0 → ⊥) → 1 ≤ getD state (64 + i) 0
       → 1 ≤ getD state (128 + getD table (323 + i) 0) 0

@@ -164,7 +164,7 @@ module _ (table order : List ℕ) (tables : length table ≡ 388) where
         e .got ∙ got-end i ∙ done ∙ sym (w .work)
 
     -- ---- what any order of the table keeps of waits, whether it serves or not
-    waited : Waited t (makeAll cs (freshRun t order))
+    waited : Waited t order cs (makeAll cs (freshRun t order))
     waited = rw (claim .started order passes) at (concluded demand-3 t accepted cs .waits order passes)
 
     -- a follower that has used a slot, and the row that it follows

@@ -19,7 +19,7 @@ use Rattle.rules.specs.Orders.{isOrder}
 use Rattle.rules.specs.Rows.{at, isRow, isLow, isHigh, workOf, deadlineOf, promisedOf, followsOf}
 use Rattle.rules.specs.Numbers.{plannedNumber, rowsLeft}
 use Rattle.rules.specs.Running.{runAfter}
-use Rattle.rules.specs.Slots.{fresh}
+use Rattle.rules.specs.Slots.{fresh, chosen}
 use Rattle.rules.specs.Tables.{Accepted}
 use Rattle.rules.specs.Worst.{worstSpeed}
 use Rattle.guarantee.specs.Playing.{AllMade, makeAll}
@@ -32,8 +32,8 @@ paper t o cs = tellAll t o cs fresh
 -- and under a correct order each row whose deadline the clock has reached kept it, if each slot of its window supplied at least
 -- N (LO) or G (HI), whatever came before and later (rules 9.12, 19.5), and each LO row whose deadline the clock has reached has got its promised
 -- part, if each slot of its window supplied at least G (rule 9.18): correct is meant by the planning rule, and the run is by the running rule. Under
--- every order, correct or not, a row that has used a slot follows none, or one that is closed, and all slots that it has used came after that; and one
--- that is done if the row is HI (rule 9.19).
+-- every order, correct or not, each slot that went to a follower, and the coming one if it goes to one, is not before the closing slot of the row that it
+-- follows; so of a follower that has used a slot that row is closed, and if the follower is HI, done (rule 9.19).
 pub record RunRight (t : Table) (o : List ℕ) (cs : List Call) (made : AllMade) : Type 0 where
   pub said : made .said ≡ paper t o cs .said
   -- slot u of the run on paper takes the supply `supplyAt cs u` (rule 9.15), and its steps are by the running rule (rules 9.6, 19.2)
@@ -49,6 +49,8 @@ pub record RunRight (t : Table) (o : List ℕ) (cs : List Call) (made : AllMade)
       → Window t (supplyAt cs) i (worstSpeed t i) → KeptIn t (stateOf (made .run)) i
   pub promised : Correct t o → (i : ℕ) → isRow t i ≡ true → isLow t i ≡ true → deadlineOf t i ≤ made .run .clock
       → Window t (supplyAt cs) i (t .degraded) → promisedOf t i ≤ at (made .run .got) i
+  pub held : (i u : ℕ) → isRow t i ≡ true → 1 ≤ followsOf t i → u ≤ made .run .clock → chosen t o (runAfter t o (supplyAt cs) u) ≡ i
+      → (1 ≤ at (made .run .closing) (followsOf t i)) × (at (made .run .closing) (followsOf t i) ≤ u)
   pub waited : (i : ℕ) → isRow t i ≡ true → 1 ≤ followsOf t i → 1 ≤ at (made .run .used) i
       → (1 ≤ at (made .run .closing) (followsOf t i)) × (at (made .run .closing) (followsOf t i) + at (made .run .used) i ≤ made .run .clock)
       × (isHigh t i ≡ true → at (made .run .got) (followsOf t i) ≡ workOf t (followsOf t i))

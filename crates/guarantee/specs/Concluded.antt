@@ -24,7 +24,7 @@ use Rattle.rules.specs.Numbers.{plannedNumber, rowsLeft}
 use Rattle.rules.specs.Orders.{isOrder}
 use Rattle.rules.specs.Rows.{at, rowsOf, releaseOf}
 use Rattle.rules.specs.Running.{runSlot, runAfter}
-use Rattle.rules.specs.Slots.{State, fresh}
+use Rattle.rules.specs.Slots.{State, fresh, chosen}
 use Rattle.rules.specs.Tables.{Accepted}
 use Rattle.rules.specs.Worst.{worstSpeed}
 use Rattle.theory.specs.Counts.{In, in-head, in-tail}
@@ -100,9 +100,12 @@ pub record Deadlines (t : Table) (o : List ℕ) (cs : List Call) (made : AllMade
   pub part : Serves t o → (i : ℕ) → 1 ≤ i → i ≤ t .n → at (t .level) i ≡ 0
       → at (t .deadline) i ≤ made .run .clock → Supplied t cs i (t .degraded) → at (t .promised) i ≤ at (made .run .got) i
 
--- Under any order of the table, a row that has used a slot follows no row, or one that is closed, its closing slot at least 1, and the slots that the row has
--- used all came after that closing slot; of a row whose level is not 0 the row that it follows has got all its work units (rule 9.19).
-pub record Waited (t : Table) (made : AllMade) : Type 0 where
+-- Under any order of the table (rule 9.19): a slot that goes to a row which follows another, up to the coming slot, is not before the closing slot of that
+-- one, which is at least 1. A row that has used a slot follows no row, or one that is closed, and that closing slot and the slots used are together no more
+-- than the clock; of a row whose level is not 0 the row that it follows has then got all its work units.
+pub record Waited (t : Table) (o : List ℕ) (cs : List Call) (made : AllMade) : Type 0 where
+  pub slots : (i u : ℕ) → 1 ≤ i → i ≤ t .n → (at (t .follows) i ≡ 0 → ⊥) → u ≤ made .run .clock → chosen t o (runAfter t o (supplyAt cs) u) ≡ i
+      → (1 ≤ at (made .run .closing) (at (t .follows) i)) × (at (made .run .closing) (at (t .follows) i) ≤ u)
   pub closed : (i : ℕ) → 1 ≤ i → i ≤ t .n → (at (t .follows) i ≡ 0 → ⊥) → 1 ≤ at (made .run .used) i → 1 ≤ at (made .run .closing) (at (t .follows) i)
   pub after : (i : ℕ) → 1 ≤ i → i ≤ t .n → (at (t .follows) i ≡ 0 → ⊥) → 1 ≤ at (made .run .used) i
       → at (made .run .closing) (at (t .follows) i) + at (made .run .used) i ≤ made .run .clock
@@ -123,7 +126,7 @@ pub record Plain (t : Table) (cs : List Call) : Type 0 where
   pub answers : (o : List ℕ) → isOrder t o ≡ true → Answers t o cs (makeAll cs (freshOf t o .run) .said)
   pub entries : (o : List ℕ) → isOrder t o ≡ true → Entries t o cs (makeAll cs (freshOf t o .run))
   pub deadlines : (o : List ℕ) → isOrder t o ≡ true → Deadlines t o cs (makeAll cs (freshOf t o .run))
-  pub waits : (o : List ℕ) → isOrder t o ≡ true → Waited t (makeAll cs (freshOf t o .run))
+  pub waits : (o : List ℕ) → isOrder t o ≡ true → Waited t o cs (makeAll cs (freshOf t o .run))
 
 -- The word of at least one row is at least 1.
 word-some : (x : ℕ) (l : List ℕ) → 1 ≤ word (x ∷ l)
@@ -305,9 +308,10 @@ module _ (t : Table) (o : List ℕ) (cs : List Call) (made : AllMade) (r : RunRi
       }
 
   -- A row that has used a slot was not kept waiting any more.
-  waited : Waited t made
+  waited : Waited t o cs made
   waited =
       record {
+        slots = λ i u l h some. r .held i u (is-row t i (record { from = l; upTo = h })) (omega arith);
         closed = λ i l h some u. r .waited i (is-row t i (record { from = l; upTo = h })) (omega arith) u .0;
         after = λ i l h some u. r .waited i (is-row t i (record { from = l; upTo = h })) (omega arith) u .1;
         done = λ i l h some v u. r .waited i (is-row t i (record { from = l; upTo = h })) (omega arith) u .2 (rw (ne-eqb (at (t .level) i) 0 v));

@@ -18,13 +18,13 @@ use Rattle.rules.specs.Lists.{all}
 use Rattle.rules.specs.Numbers.{plannedNumber, rowsLeft}
 use Rattle.rules.specs.Orders.{isOrder}
 use Rattle.rules.specs.Rows.{at, isRow, isLow, isHigh, workOf, deadlineOf, promisedOf, followsOf}
-use Rattle.rules.specs.Running.{runSlot}
-use Rattle.rules.specs.Slots.{State, fresh}
+use Rattle.rules.specs.Running.{runSlot, runAfter}
+use Rattle.rules.specs.Slots.{State, fresh, chosen}
 use Rattle.rules.specs.Tables.{Accepted}
 use Rattle.rules.specs.Worst.{worstSpeed}
 use Rattle.theory.specs.Counts.{in-head}
 use Rattle.theory.specs.Facts.{both-pass}
-use Rattle.theory.specs.Results.{running-sustainable, running-promise, follower-later, high-follower-later, verdict, choice-order, choice-correct, choice-none}
+use Rattle.theory.specs.Results.{running-sustainable, running-promise, follower-held, follower-later, high-follower-later, verdict, choice-order, choice-correct, choice-none}
 use Rattle.theory.specs.Tests.{by-bool, by-eqb, and-both}
 use Rattle.guarantee.specs.Playing.{makeAll}
 use Rattle.guarantee.specs.Claim.{paper, RunRight, Demand3}
@@ -79,6 +79,14 @@ module _ (t : Table) (accepted : Accepted t) where
         subst (λ (s : State). promisedOf t i ≤ at (s .got) i) (sym (paper-run t o cs))
         (running-promise t accepted o order i r l (verdict t accepted o order .0 correct i r) (supplyAt cs) w (paper t o cs .state .clock) d)
 
+    abbrev HeldTo : ℕ → ℕ → State → Type 0
+    HeldTo i u s = (1 ≤ at (s .closing) (followsOf t i)) × (at (s .closing) (followsOf t i) ≤ u)
+
+    held-paper : (i u : ℕ) → isRow t i ≡ true → 1 ≤ followsOf t i → u ≤ paper t o cs .state .clock → chosen t o (runAfter t o (supplyAt cs) u) ≡ i
+        → HeldTo i u (paper t o cs .state)
+    held-paper i u r some h q =
+        subst (HeldTo i u) (sym (paper-run t o cs)) (follower-held t accepted o order i r some (supplyAt cs) u (paper t o cs .state .clock) h q)
+
     abbrev AfterRow : ℕ → State → ℕ → Type 0
     AfterRow i s k =
         1 ≤ at (s .used) i
@@ -107,6 +115,7 @@ module _ (t : Table) (accepted : Accepted t) where
           no-nine = calls-number t o cs fresh;
           kept = kept-paper;
           promised = promised-paper;
+          held = held-paper;
           waited = waited-paper;
         })
 

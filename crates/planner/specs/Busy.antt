@@ -17,8 +17,8 @@ abbrev pub row : List ℕ → ℕ → ℕ
 row q k = getD q k 0
 
 -- place k of the queue has a row that is left
-abbrev pub Waits : (ℕ → Bool) → List ℕ → ℕ → Type 0
-Waits live q k = (k < length q) × (live (row q k) ≡ true)
+abbrev pub LeftAt : (ℕ → Bool) → List ℕ → ℕ → Type 0
+LeftAt live q k = (k < length q) × (live (row q k) ≡ true)
 
 -- releases rise along the queue
 abbrev pub Rising : (ℕ → ℕ) → List ℕ → Type 0
@@ -45,17 +45,17 @@ module _ (rel cap : ℕ → ℕ) where
     pub from-skip : (a b k : ℕ) → k < length q → live (row q k) ≡ false → from live q a b k ≡ from live q a b (suc k)
     from-skip a b k h e = rw (drop-cons q k 0 h, e)
 
-    pub from-row : (a b k : ℕ) → Waits live q k
+    pub from-row : (a b k : ℕ) → LeftAt live q k
         → from live q a b k
         ≡ cond (ltb a (rel (row q k)) && leb b (rel (row q k))) b (from live q a (max b (rel (row q k)) + cap (row q k)) (suc k))
     from-row a b k w = rw (drop-cons q k 0 (w .0), w .1)
 
     -- a row released by a does not stop the sweep
-    pub from-early : (a b k : ℕ) → Waits live q k → rel (row q k) ≤ a → from live q a b k ≡ from live q a (max b (rel (row q k)) + cap (row q k)) (suc k)
+    pub from-early : (a b k : ℕ) → LeftAt live q k → rel (row q k) ≤ a → from live q a b k ≡ from live q a (max b (rel (row q k)) + cap (row q k)) (suc k)
     from-early a b k w h = from-row a b k w ∙ rw (le-ltb a (rel (row q k)) h)
 
     -- a row that finds the processor busy does not either
-    pub from-busy : (a b k : ℕ) → Waits live q k → rel (row q k) < b → from live q a b k ≡ from live q a (max b (rel (row q k)) + cap (row q k)) (suc k)
+    pub from-busy : (a b k : ℕ) → LeftAt live q k → rel (row q k) < b → from live q a b k ≡ from live q a (max b (rel (row q k)) + cap (row q k)) (suc k)
     from-busy a b k w h =
         from-row a b k w
         ∙ by-bool (ltb a (rel (row q k)))
@@ -63,11 +63,11 @@ module _ (rel cap : ℕ → ℕ) where
         (λ e. rw e)
 
     -- a later row that finds it free does
-    pub from-free : (a b k : ℕ) → Waits live q k → a < rel (row q k) → b ≤ rel (row q k) → from live q a b k ≡ b
+    pub from-free : (a b k : ℕ) → LeftAt live q k → a < rel (row q k) → b ≤ rel (row q k) → from live q a b k ≡ b
     from-free a b k w p h = from-row a b k w ∙ rw (lt-ltb a (rel (row q k)) p, le-leb b (rel (row q k)) h)
 
     -- the sweep stops at once where all rows from here on are later and find the processor free
-    pub stops : (d a b k : ℕ) → length q ≤ d + k → ((i : ℕ) → k ≤ i → Waits live q i → (a < rel (row q i)) × (b ≤ rel (row q i))) → from live q a b k ≡ b
+    pub stops : (d a b k : ℕ) → length q ≤ d + k → ((i : ℕ) → k ≤ i → LeftAt live q i → (a < rel (row q i)) × (b ≤ rel (row q i))) → from live q a b k ≡ b
     stops zero a b k f h = from-end a b k (omega arith)
     stops (suc d) a b k f h =
         by-ltb k (length q)
@@ -114,7 +114,7 @@ module _ (rel cap : ℕ → ℕ) where
       reach k zero h l = refl
       reach k (suc i) h l = reach k i h (omega arith) ∙ ahead (rel (row q k)) i (omega arith) (rising i k (omega arith) h)
 
-      here : (a b c i : ℕ) → Waits live q i → rel (row q i) ≤ a → (Waits live q i → (b ≤ rel (row q i)) × (c ≤ rel (row q i)))
+      here : (a b c i : ℕ) → LeftAt live q i → rel (row q i) ≤ a → (LeftAt live q i → (b ≤ rel (row q i)) × (c ≤ rel (row q i)))
           → from live q a b i ≡ from live q a c i
       here a b c i v g h =
           let s = h v in
@@ -122,8 +122,8 @@ module _ (rel cap : ℕ → ℕ) where
           from-early a b i v g ∙ ap (λ (x : ℕ). from live q a (x + cap (row q i)) (suc i)) m ∙ sym (from-early a c i v g)
 
       -- what the busy time was before does not matter to rows that find it over
-      pub free : (d a b c i k : ℕ) → k ≡ d + i → Waits live q k → rel (row q k) ≤ a
-          → ((j : ℕ) → i ≤ j → j ≤ k → Waits live q j → (b ≤ rel (row q j)) × (c ≤ rel (row q j))) → from live q a b i ≡ from live q a c i
+      pub free : (d a b c i k : ℕ) → k ≡ d + i → LeftAt live q k → rel (row q k) ≤ a
+          → ((j : ℕ) → i ≤ j → j ≤ k → LeftAt live q j → (b ≤ rel (row q j)) × (c ≤ rel (row q j))) → from live q a b i ≡ from live q a c i
       free zero a b c i k e w r h =
           let z : i ≡ k = omega arith in
           here a b c i (rw z w) (rw z r) (λ v. h i (omega arith) (omega arith) v)

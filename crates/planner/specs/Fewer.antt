@@ -8,12 +8,12 @@ use lib.ListN.{length, drop}
 use Rattle.rules.specs.Lists.{keep}
 use Rattle.theory.specs.Tests.{by-bool, by-ltb, by-leb}
 use Rattle.theory.specs.Sweep.{sweep-ge}
-use Rattle.planner.specs.Busy.{row, Waits, Rising, busyTo, from, finish, from-end, from-skip, from-early, from-busy, from-free, stops}
+use Rattle.planner.specs.Busy.{row, LeftAt, Rising, busyTo, from, finish, from-end, from-skip, from-early, from-busy, from-free, stops}
 use Rattle.planner.specs.Busy.{busy-row, busy-skip, busy-past, reach, free}
 
 module _ (rel cap : ℕ → ℕ) where
   -- a row that is left stops the sweep, or is run
-  by-row {ℓ} : {P : Type ℓ} (live : ℕ → Bool) (q : List ℕ) (a b k : ℕ) → Waits live q k
+  by-row {ℓ} : {P : Type ℓ} (live : ℕ → Bool) (q : List ℕ) (a b k : ℕ) → LeftAt live q k
       → (a < rel (row q k) → b ≤ rel (row q k) → from rel cap live q a b k ≡ b → P)
       → (from rel cap live q a b k ≡ from rel cap live q a (max b (rel (row q k)) + cap (row q k)) (suc k) → P) → P
   by-row live q a b k w f g =
@@ -41,7 +41,7 @@ module _ (rel cap : ℕ → ℕ) where
     from-fewer (suc d) a b c k f h =
         by-ltb k (length q)
         (λ _ l. by-bool (less (row q k))
-        (λ e. let v : Waits live q k = (l, within (row q k) e) in
+        (λ e. let v : LeftAt live q k = (l, within (row q k) e) in
         by-row live q a b k v
         (λ p r g. omega (arith, g, from-free rel cap less q a c k (l, e) p (omega arith)))
         (λ g. by-row less q a c k (l, e)
@@ -122,7 +122,7 @@ module _ (rel cap : ℕ → ℕ) where
           from-skip rel cap less q a (busyTo rel cap live q k) k s (x ∙ w) ∙ n ∙ sym (from-skip rel cap live q a (busyTo rel cap live q k) k s w))
 
       -- the row at place k starts after place p, where a busy time that held the gone row is over
-      pub finish-after : (k p : ℕ) → Waits live q k → p ≤ k → m < p → ((i : ℕ) → p ≤ i → i ≤ k → Waits live q i → busyTo rel cap live q p ≤ rel (row q i))
+      pub finish-after : (k p : ℕ) → LeftAt live q k → p ≤ k → m < p → ((i : ℕ) → p ≤ i → i ≤ k → LeftAt live q i → busyTo rel cap live q p ≤ rel (row q i))
           → finish rel cap less q k ≡ finish rel cap live q k
       finish-after k p w h g r =
           reach rel cap less q rising k p (w .0) (omega arith)
@@ -132,8 +132,8 @@ module _ (rel cap : ℕ → ℕ) where
           ∙ sym (reach rel cap live q rising k p (w .0) (omega arith))
 
       -- the row at place k is done by place p, from which on the gone row stood
-      pub finish-before : (k p : ℕ) → Waits live q k → 1 ≤ cap (row q k) → k < p → p ≤ m → m < length q
-          → ((i : ℕ) → p ≤ i → Waits live q i → busyTo rel cap live q p ≤ rel (row q i)) → finish rel cap less q k ≡ finish rel cap live q k
+      pub finish-before : (k p : ℕ) → LeftAt live q k → 1 ≤ cap (row q k) → k < p → p ≤ m → m < length q
+          → ((i : ℕ) → p ≤ i → LeftAt live q i → busyTo rel cap live q p ≤ rel (row q i)) → finish rel cap less q k ≡ finish rel cap live q k
       finish-before k p w c h g l r =
           let a = rel (row q k) in
           let b = busyTo rel cap live q p in

@@ -10,7 +10,7 @@ use Rattle.rules.specs.Rows.{at}
 use Rattle.theory.specs.Tests.{by-eqb, and-both, and-false}
 use Rattle.sweep.specs.Masks.{bit, bit-lt, zero-bit, isLeft, cleared-same, cleared-other}
 use Rattle.sweep.specs.Padded.{Rows, rows-within}
-use Rattle.planner.specs.Busy.{row, Waits}
+use Rattle.planner.specs.Busy.{row, LeftAt}
 use Rattle.planner.specs.Trying.{Speed, Parts, Stands, Open, Found, FirstIn}
 
 module _ (first second : ℕ → Bool) (queue entry : List ℕ) (n left : ℕ) where
@@ -26,7 +26,7 @@ module _ (first second : ℕ → Bool) (queue entry : List ℕ) (n left : ℕ) w
   -- of the entries of a word, those still to be asked are in `asked`, and the rows of all others fail
   pub record Asking (word asked : ℕ) : Type 0 where
     pub among : (x : ℕ) → bit asked x ≡ 1 → bit word x ≡ 1
-    pub failed : (k : ℕ) → Waits (isLeft left) q k → bit word (seat k) ≡ 1 → bit asked (seat k) ≡ 0 → both (row q k) ≡ false
+    pub failed : (k : ℕ) → LeftAt (isLeft left) q k → bit word (seat k) ≡ 1 → bit asked (seat k) ≡ 0 → both (row q k) ≡ false
 
   fails-first : (i : ℕ) → first i ≡ false → both i ≡ false
   fails-first i e = rw e
@@ -94,7 +94,7 @@ module _ (first second : ℕ → Bool) (queue entry : List ℕ) (n left : ℕ) w
                 (λ _ y. absurd (omega (arith, ap (bit (asked - 2 ^ (e - 1))) y, cleared-same (e - 1) asked b)))
                 (λ _ y. a .among x (sym (cleared-other (e - 1) x asked b y) ∙ c));
             failed = λ k w c z. by-eqb (seat k) (e - 1)
-                (λ _ y. let i = single k (s .place) (w .0) (s .waits .0) (y ∙ sym (s .is)) in
+                (λ _ y. let i = single k (s .place) (w .0) (s .left-at .0) (y ∙ sym (s .is)) in
                 fails-second (row q k) (ap (λ (j : ℕ). second (row q j)) i ∙ p))
                 (λ _ y. a .failed k w c (sym (cleared-other (e - 1) (seat k) asked b y) ∙ z));
           }
@@ -111,7 +111,7 @@ row-range queue n rows k h =
 module _ (queue : List ℕ) (n : ℕ) (release cap degraded part sequence entry : List ℕ) (left : ℕ) (s : Speed queue n release cap entry)
     (p : Parts queue n release degraded part sequence entry) (e : ℕ) (st : Stands queue entry n left (e - 1)) where
   pub seat-row : getD sequence (e - 1) 0 ≡ row (take n queue) (st .place)
-  seat-row = ap (λ (x : ℕ). getD sequence x 0) (sym (st .is)) ∙ p .seats (st .place) (st .waits .0)
+  seat-row = ap (λ (x : ℕ). getD sequence x 0) (sym (st .is)) ∙ p .seats (st .place) (st .left-at .0)
 
   pub seat-range : 1 ≤ e → e - 1 < 64
   seat-range h = omega (arith, st .is, s .entries (row (take n queue) (st .place) - 1))

@@ -29,7 +29,7 @@ cleared-set m seat e = rw e
 pub cleared-unset : (m seat : ℕ) → isLeft m seat ≡ false → cleared m (seat - 1) ≡ m
 cleared-unset m seat e = rw e
 
-module _ (follows entry : List ℕ) (left waiting : ℕ) where
+module _ (follows entry : List ℕ) (left unplaced : ℕ) where
   -- the row at index k is left and follows a row
   abbrev follower : ℕ → Bool
   follower k = ltb 0 (getD follows k 0) && isLeft left (k + 1)
@@ -38,9 +38,9 @@ module _ (follows entry : List ℕ) (left waiting : ℕ) where
   abbrev seat : ℕ → ℕ
   seat k = at entry (getD follows k 0)
 
-  -- the waiting entries, without those of rows that one of the first k rows follows
+  -- the unplaced entries, without those of rows that one of the first k rows follows
   abbrev pub openTo : ℕ → ℕ
-  openTo zero = waiting
+  openTo zero = unplaced
   openTo (suc k) = cond (follower k) (cleared (openTo k) (seat k)) (openTo k)
 
   -- one row more
@@ -54,7 +54,7 @@ module _ (follows entry : List ℕ) (left waiting : ℕ) where
   open-placed k e = rw (add-one k) (let z : follower k ≡ false = by-bool (ltb 0 (getD follows k 0)) (λ d. rw (d, e)) (λ d. rw d) in rw z)
 
   -- which entries it holds
-  pub open-inside : (k x : ℕ) → bit (openTo k) x ≡ 1 → bit waiting x ≡ 1
+  pub open-inside : (k x : ℕ) → bit (openTo k) x ≡ 1 → bit unplaced x ≡ 1
   open-inside zero x b = b
   open-inside (suc k) x b =
       by-bool (follower k)
@@ -76,7 +76,7 @@ module _ (follows entry : List ℕ) (left waiting : ℕ) where
       (λ _ p. let z : bit (cleared (openTo k) (seat k)) (seat j) ≡ 1 = rw e at b in open-clear k j (omega arith) w l (sym (clear-other (openTo k) (seat k) (seat j) p) ∙ z)))
       (λ e. open-clear k j (omega arith) w l (rw e at b)))
 
-  pub open-whole : (k x : ℕ) → bit waiting x ≡ 1 → ((j : ℕ) → j < k → 1 ≤ getD follows j 0 → isLeft left (j + 1) ≡ true → seat j ≡ x → ⊥) → bit (openTo k) x ≡ 1
+  pub open-whole : (k x : ℕ) → bit unplaced x ≡ 1 → ((j : ℕ) → j < k → 1 ≤ getD follows j 0 → isLeft left (j + 1) ≡ true → seat j ≡ x → ⊥) → bit (openTo k) x ≡ 1
   open-whole zero x b h = b
   open-whole (suc k) x b h =
       let r = open-whole k x b (λ j l. h j (omega arith)) in

@@ -11,7 +11,7 @@ use Rattle.theory.specs.Tests.{by-ltb, by-eqb}
 use Rattle.sweep.specs.Masks.{bit, bit-lt, zero-bit}
 use Rattle.sweep.specs.Padded.{zeros, zeros-entry}
 use Rattle.planner.specs.Marks.{bit-or, or-neither, one-same, one-other}
-use Rattle.planner.specs.Busy.{row, Waits, Rising, busyTo, finish}
+use Rattle.planner.specs.Busy.{row, LeftAt, Rising, busyTo, finish}
 use Rattle.planner.specs.Fewer.{busy-fewer, finish-fewer, finish-after, finish-before}
 
 -- the queue has different rows of a table, by rising release, each with a cap of a slot at least and an entry of its own
@@ -25,17 +25,17 @@ pub record Queue (rel cap entry : ℕ → ℕ) (q : List ℕ) : Type 0 where
 
 -- for each row left the place of the queue from which its busy period's rows stand together, the processor being free before them
 pub record Groups (rel cap : ℕ → ℕ) (live : ℕ → Bool) (q period : List ℕ) : Type 0 where
-  pub low : (k : ℕ) → Waits live q k → at period (row q k) ≤ k
-  pub one : (k j : ℕ) → Waits live q k → Waits live q j → at period (row q k) ≤ j → j ≤ k → at period (row q j) ≡ at period (row q k)
-  pub free : (k : ℕ) → Waits live q k → busyTo rel cap live q (at period (row q k)) ≤ rel (row q k)
+  pub low : (k : ℕ) → LeftAt live q k → at period (row q k) ≤ k
+  pub one : (k j : ℕ) → LeftAt live q k → LeftAt live q j → at period (row q k) ≤ j → j ≤ k → at period (row q j) ≡ at period (row q k)
+  pub free : (k : ℕ) → LeftAt live q k → busyTo rel cap live q (at period (row q k)) ≤ rel (row q k)
   pub wide : length period ≡ 64
 
 -- the words of busy periods that have changed since they were swept, by the places where they begin, and of entries known to be in time: a row whose
 -- entry is there is in time, and of the busy periods that have not changed every row in time has its entry there
 pub record Known (rel cap due entry : ℕ → ℕ) (live : ℕ → Bool) (q period : List ℕ) (changed passing : ℕ) : Type 0 where
   pub groups : Groups rel cap live q period
-  pub sound : (k : ℕ) → Waits live q k → bit passing (entry (row q k)) ≡ 1 → finish rel cap live q k ≤ due (row q k)
-  pub whole : (k : ℕ) → Waits live q k → bit changed (at period (row q k)) ≡ 0 → finish rel cap live q k ≤ due (row q k) → bit passing (entry (row q k)) ≡ 1
+  pub sound : (k : ℕ) → LeftAt live q k → bit passing (entry (row q k)) ≡ 1 → finish rel cap live q k ≤ due (row q k)
+  pub whole : (k : ℕ) → LeftAt live q k → bit changed (at period (row q k)) ≡ 0 → finish rel cap live q k ≤ due (row q k) → bit passing (entry (row q k)) ≡ 1
   pub places : (x : ℕ) → bit changed x ≡ 1 → x < length q
 
 module _ (rel cap due entry : ℕ → ℕ) (live : ℕ → Bool) (q : List ℕ) (queue : Queue rel cap entry q) where
@@ -58,16 +58,16 @@ module _ (rel cap due entry : ℕ → ℕ) (live : ℕ → Bool) (q : List ℕ) 
   -- the row at place m is placed: its busy period changes
   module _ (less : ℕ → Bool) (m : ℕ) (within : (x : ℕ) → less x ≡ true → live x ≡ true)
       (others : (k : ℕ) → k < length q → (k ≡ m → ⊥) → less (row q k) ≡ live (row q k))
-      (taken : Waits live q m)
+      (taken : LeftAt live q m)
       (period : List ℕ) (changed passing : ℕ) (known : Known rel cap due entry live q period changed passing) where
     abbrev g : Groups rel cap live q period
     g = known .groups
 
-    was : (k : ℕ) → Waits less q k → Waits live q k
+    was : (k : ℕ) → LeftAt less q k → LeftAt live q k
     was k w = (w .0, within (row q k) (w .1))
 
     -- rows of other busy periods finish when they did
-    finish-kept : (k : ℕ) → Waits less q k → (at period (row q k) ≡ at period (row q m) → ⊥) → finish rel cap less q k ≡ finish rel cap live q k
+    finish-kept : (k : ℕ) → LeftAt less q k → (at period (row q k) ≡ at period (row q m) → ⊥) → finish rel cap less q k ≡ finish rel cap live q k
     finish-kept k w n =
         let v = was k w in
         by-ltb k m

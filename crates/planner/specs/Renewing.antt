@@ -13,14 +13,14 @@ use Rattle.theory.specs.Tests.{by-bool, by-ltb, by-eqb, not-both}
 use Rattle.sweep.specs.Masks.{bit, zero-bit}
 use Rattle.planner.specs.Marks.{or-left, or-right, by-or}
 use Rattle.planner.specs.Entries.{timely, timely-sound, timely-whole}
-use Rattle.planner.specs.Busy.{row, Waits, busyTo, from, finish, from-end, from-busy, from-free, from-skip, stops}
+use Rattle.planner.specs.Busy.{row, LeftAt, busyTo, from, finish, from-end, from-busy, from-free, from-skip, stops}
 use Rattle.planner.specs.Busy.{busy-row, busy-skip, busy-over, reach}
 use Rattle.planner.specs.Periods.{Queue, Groups}
 
 module _ (rel cap due entry : ℕ → ℕ) (live : ℕ → Bool) (q : List ℕ) where
   -- rows left of the old busy period, which began at place p, that stand before place k
   abbrev pub Swept : ℕ → ℕ → ℕ → Type 0
-  Swept p k i = Waits live q i × (p ≤ i) × (i < k)
+  Swept p k i = LeftAt live q i × (p ≤ i) × (i < k)
 
   -- the row at place i is in time
   abbrev pub Meets : ℕ → Type 0
@@ -31,19 +31,19 @@ module _ (rel cap due entry : ℕ → ℕ) (live : ℕ → Bool) (q : List ℕ) 
     pub after : p ≤ k
     pub range : (p ≤ first) × (first ≤ k)
     pub theirs : (i : ℕ) → Swept p k i → at old (row q i) ≡ p
-    pub kept-after : (i : ℕ) → Waits live q i → k ≤ i → at period (row q i) ≡ at old (row q i)
-    pub kept-before : (i : ℕ) → Waits live q i → i < p → at period (row q i) ≡ at old (row q i)
+    pub kept-after : (i : ℕ) → LeftAt live q i → k ≤ i → at period (row q i) ≡ at old (row q i)
+    pub kept-before : (i : ℕ) → LeftAt live q i → i < p → at period (row q i) ≡ at old (row q i)
     pub low : (i : ℕ) → Swept p k i → (p ≤ at period (row q i)) × (at period (row q i) ≤ i)
-    pub one : (i j : ℕ) → Swept p k i → Waits live q j → at period (row q i) ≤ j → j ≤ i → at period (row q j) ≡ at period (row q i)
+    pub one : (i j : ℕ) → Swept p k i → LeftAt live q j → at period (row q i) ≤ j → j ≤ i → at period (row q j) ≡ at period (row q i)
     pub group : (i : ℕ) → Swept p k i → first ≤ i → at period (row q i) ≡ first
     pub free : (i : ℕ) → Swept p k i → busyTo rel cap live q (at period (row q i)) ≤ rel (row q i)
-    pub clean : 1 ≤ b → (i : ℕ) → Waits live q i → first ≤ i → busyTo rel cap live q first ≤ rel (row q i)
+    pub clean : 1 ≤ b → (i : ℕ) → LeftAt live q i → first ≤ i → busyTo rel cap live q first ≤ rel (row q i)
     pub busy : 1 ≤ b → b ≡ busyTo rel cap live q k
-    pub fresh : b ≡ 0 → (i : ℕ) → Waits live q i → k ≤ i → at old (row q i) ≡ p → busyTo rel cap live q k ≤ rel (row q i)
+    pub fresh : b ≡ 0 → (i : ℕ) → LeftAt live q i → k ≤ i → at old (row q i) ≡ p → busyTo rel cap live q k ≤ rel (row q i)
     pub going : (i : ℕ) → Swept p k i → at period (row q i) ≡ first
         → (finish rel cap live q i ≡ from rel cap live q (rel (row q i)) b k) × (rel (row q i) < b)
     pub done : (i : ℕ) → Swept p k i → (at period (row q i) ≡ first → ⊥) → Meets i → bit passing (entry (row q i)) ≡ 1
-    pub sound : (i : ℕ) → Waits live q i → bit passing (entry (row q i)) ≡ 1 → Meets i
+    pub sound : (i : ℕ) → LeftAt live q i → bit passing (entry (row q i)) ≡ 1 → Meets i
     pub wide : length period ≡ 64
 
   module _ (queue : Queue rel cap entry q) (old : List ℕ) (known : Groups rel cap live q old) (p : ℕ) where
@@ -75,13 +75,13 @@ module _ (rel cap due entry : ℕ → ℕ) (live : ℕ → Bool) (q : List ℕ) 
       told = timely live due entry b q first k
 
       -- where those rows finish at b, the word with their entries is sound
-      told-sound : ((i : ℕ) → Swept p k i → at period (row q i) ≡ first → finish rel cap live q i ≡ b) → k ≤ length q → (i : ℕ) → Waits live q i
+      told-sound : ((i : ℕ) → Swept p k i → at period (row q i) ≡ first → finish rel cap live q i ≡ b) → k ≤ length q → (i : ℕ) → LeftAt live q i
           → bit (bitOr passing told) (entry (row q i)) ≡ 1 → Meets i
       told-sound f l i v e =
           by-or passing told (entry (row q i)) e
           (λ x. r .sound i v x)
           (λ x. let t = timely-sound live due entry b q first k (entry (row q i)) x in
-          let w : Waits live q (t .place) = (omega (arith, t .range .1), t .left) in
+          let w : LeftAt live q (t .place) = (omega (arith, t .range .1), t .left) in
           let s : Swept p k (t .place) = (w, omega (arith, r .range .0, t .range .0), t .range .1) in
           let z : i ≡ t .place = queue .single i (t .place) (v .0) (w .0) (sym (t .is)) in
           subst Meets (sym z) (omega (arith, f (t .place) s (r .group (t .place) s (t .range .0)), t .meets)))
@@ -127,7 +127,7 @@ module _ (rel cap due entry : ℕ → ℕ) (live : ℕ → Bool) (q : List ℕ) 
 
         -- a row of the old busy period is run
         module _ (e : live (row q k) ≡ true) (own : at old (row q k) ≡ p) where
-          abbrev w : Waits live q k
+          abbrev w : LeftAt live q k
           w = (inside, e)
 
           abbrev ends : ℕ
@@ -146,11 +146,11 @@ module _ (rel cap due entry : ℕ → ℕ) (live : ℕ → Bool) (q : List ℕ) 
           record Joins (word next : ℕ) : Type 0 where
             range : (p ≤ next) × (next ≤ k)
             group : (i : ℕ) → Swept p k i → next ≤ i → at period (row q i) ≡ next
-            clean : (i : ℕ) → Waits live q i → next ≤ i → busyTo rel cap live q next ≤ rel (row q i)
+            clean : (i : ℕ) → LeftAt live q i → next ≤ i → busyTo rel cap live q next ≤ rel (row q i)
             going : (i : ℕ) → Swept p k i → at period (row q i) ≡ next
                 → (finish rel cap live q i ≡ from rel cap live q (rel (row q i)) ends (suc k)) × (rel (row q i) < ends)
             done : (i : ℕ) → Swept p k i → (at period (row q i) ≡ next → ⊥) → Meets i → bit word (entry (row q i)) ≡ 1
-            sound : (i : ℕ) → Waits live q i → bit word (entry (row q i)) ≡ 1 → Meets i
+            sound : (i : ℕ) → LeftAt live q i → bit word (entry (row q i)) ≡ 1 → Meets i
 
           -- it finds the processor free: the busy period before it is over, and one begins here
           begins : b ≤ rel (row q k) → Joins (bitOr passing told) k
@@ -247,8 +247,8 @@ module _ (rel cap due entry : ℕ → ℕ) (live : ℕ → Bool) (q : List ℕ) 
           renewing-joins h = run passing first (joins h)
 
       -- the end: the rows are passed, or the next one is of another busy period
-      module _ (upto : k ≤ length q) (end : (length q ≤ k) ⊎ (Waits live q k × (at old (row q k) ≡ p → ⊥))) where
-        past : (i : ℕ) → Waits live q i → k ≤ i → at old (row q i) ≡ p → ⊥
+      module _ (upto : k ≤ length q) (end : (length q ≤ k) ⊎ (LeftAt live q k × (at old (row q k) ≡ p → ⊥))) where
+        past : (i : ℕ) → LeftAt live q i → k ≤ i → at old (row q i) ≡ p → ⊥
         past i v h z =
             ⊎-elim
             (λ l. omega (arith, v .0))
@@ -256,12 +256,12 @@ module _ (rel cap due entry : ℕ → ℕ) (live : ℕ → Bool) (q : List ℕ) 
             end
 
         -- the next row finds the processor free
-        over : (i : ℕ) → Swept p k i → 1 ≤ b → Waits live q k → (at old (row q k) ≡ p → ⊥) → b ≤ rel (row q k)
+        over : (i : ℕ) → Swept p k i → 1 ≤ b → LeftAt live q k → (at old (row q k) ≡ p → ⊥) → b ≤ rel (row q k)
         over i s some w n =
             let y = at old (row q k) in
             let none : (j : ℕ) → y ≤ j → j < k → live (row q j) ≡ false = λ j h l.
             by-bool (live (row q j))
-            (λ e. let v : Waits live q j = (omega (arith, w .0), e) in
+            (λ e. let v : LeftAt live q j = (omega (arith, w .0), e) in
             absurd (by-ltb j p
             (λ _ m. n (sym (known .one k i w (s .0) (omega (arith, s .1)) (omega (arith, s .2))) ∙ r .theirs i s))
             (λ _ m. n (sym (known .one k j w v h (omega arith)) ∙ r .theirs j (v, m, l)))))
@@ -285,11 +285,11 @@ module _ (rel cap due entry : ℕ → ℕ) (live : ℕ → Bool) (q : List ℕ) 
             end
 
         -- a row before the old busy period, of it, or after it
-        by-part {ℓ} : {P : Type ℓ} (i : ℕ) → Waits live q i → (i < p → P) → (Swept p k i → P) → (k ≤ i → P) → P
+        by-part {ℓ} : {P : Type ℓ} (i : ℕ) → LeftAt live q i → (i < p → P) → (Swept p k i → P) → (k ≤ i → P) → P
         by-part i v f g h = by-ltb i p (λ _ l. f l) (λ _ l. by-ltb i k (λ _ m. g (v, l, m)) (λ _ m. h m))
 
         -- rows of other busy periods stay with theirs
-        untouched : (i : ℕ) → Waits live q i → (i < p) ⊎ (k ≤ i) → (at period (row q i) ≡ at old (row q i)) × (at old (row q i) ≡ p → ⊥)
+        untouched : (i : ℕ) → LeftAt live q i → (i < p) ⊎ (k ≤ i) → (at period (row q i) ≡ at old (row q i)) × (at old (row q i) ≡ p → ⊥)
         untouched i v side = (
           ⊎-elim (λ l. r .kept-before i v l) (λ l. r .kept-after i v l) side,
           λ e. ⊎-elim (λ l. omega (arith, known .low i v)) (λ l. past i v l e) side,
@@ -320,10 +320,10 @@ module _ (rel cap due entry : ℕ → ℕ) (live : ℕ → Bool) (q : List ℕ) 
             }
 
         -- what the word says of every row, and of each row whether it stayed or was swept
-        pub renewed-sound : (i : ℕ) → Waits live q i → bit (bitOr passing told) (entry (row q i)) ≡ 1 → Meets i
+        pub renewed-sound : (i : ℕ) → LeftAt live q i → bit (bitOr passing told) (entry (row q i)) ≡ 1 → Meets i
         renewed-sound = told-sound settled upto
 
-        pub renewed-whole : (i : ℕ) → Waits live q i
+        pub renewed-whole : (i : ℕ) → LeftAt live q i
             → (Meets i → bit (bitOr passing told) (entry (row q i)) ≡ 1) ⊎ ((at period (row q i) ≡ at old (row q i)) × (at old (row q i) ≡ p → ⊥))
         renewed-whole i v =
             by-part i v

@@ -13,7 +13,7 @@ use Rattle.theory.specs.Tests.{by-leb, by-eqb}
 use Rattle.sweep.specs.Lowest.{lowestOf, lowest-set, lowest-from, lowest-clear}
 use Rattle.sweep.specs.Masks.{bit, bit-lt, isLeft, left-bit, zero-bit, cleared-same, cleared-other}
 use Rattle.planner.specs.Marks.{bit-and, or-left, or-right, by-or}
-use Rattle.planner.specs.Busy.{row, Waits, finish}
+use Rattle.planner.specs.Busy.{row, LeftAt, finish}
 use Rattle.planner.specs.Renewing.{Meets}
 use Rattle.planner.specs.Trying.{KnownAt, Renewed, Open, FirstIn, inTime}
 
@@ -66,8 +66,8 @@ module _ (queue : List ℕ) (n : ℕ) (release deadline cap entry : List ℕ) (l
         }
 
     -- an entry of the word whose row is in time, where no earlier one is
-    first-found : (e : ℕ) → 1 ≤ e → bit word (e - 1) ≡ 1 → ((k : ℕ) → Waits (isLeft left) q k → at entry (row q k) ≡ e - 1 → In-time k)
-        → ((k : ℕ) → Waits (isLeft left) q k → bit word (at entry (row q k)) ≡ 1 → at entry (row q k) < e - 1 → In-time k → ⊥)
+    first-found : (e : ℕ) → 1 ≤ e → bit word (e - 1) ≡ 1 → ((k : ℕ) → LeftAt (isLeft left) q k → at entry (row q k) ≡ e - 1 → In-time k)
+        → ((k : ℕ) → LeftAt (isLeft left) q k → bit word (at entry (row q k)) ≡ 1 → at entry (row q k) < e - 1 → In-time k → ⊥)
         → FirstIn passes queue entry n left word e
     first-found e some b this earlier =
         let s = stands (e - 1) b in
@@ -77,7 +77,7 @@ module _ (queue : List ℕ) (n : ℕ) (release deadline cap entry : List ℕ) (l
             some = some;
             stands = s;
             inside = b;
-            meets = pass (s .place) (this (s .place) (s .waits) (s .is));
+            meets = pass (s .place) (this (s .place) (s .left-at) (s .is));
             before = λ k w c l. fail k (earlier k w c l);
           };
         }
@@ -93,7 +93,7 @@ module _ (queue : List ℕ) (n : ℕ) (release deadline cap entry : List ℕ) (l
 
     -- no busy period has changed: all that pass are known
     module _ (known : KnownAt queue n release deadline cap entry left period 0 passing) where
-      passed : (k : ℕ) → Waits (isLeft left) q k → bit word (at entry (row q k)) ≡ 1 → In-time k → bit (bitAnd word passing) (at entry (row q k)) ≡ 1
+      passed : (k : ℕ) → LeftAt (isLeft left) q k → bit word (at entry (row q k)) ≡ 1 → In-time k → bit (bitAnd word passing) (at entry (row q k)) ≡ 1
       passed k w b m =
           omega (arith, bit-and word passing (at entry (row q k)), b, known .whole k w (zero-bit (at period (row q k))) m)
 

@@ -13,7 +13,7 @@ use Rattle.rules.specs.Rows.{at}
 use Rattle.sweep.specs.Masks.{isLeft}
 use Rattle.sweep.specs.Padded.{rows-within}
 use Rattle.planner.specs.Entries.{timely}
-use Rattle.planner.specs.Busy.{row, Waits}
+use Rattle.planner.specs.Busy.{row, LeftAt}
 use Rattle.planner.specs.Renewing.{Renewing, renewing-start, renewing-skip, renewing-begins, renewing-joins, renewed-groups, renewed-sound, renewed-whole}
 use Rattle.planner.specs.Trying.{Speed, Grouped, Renewed}
 
@@ -102,11 +102,11 @@ module _ (queue : List ℕ) (n : ℕ) (release deadline cap entry : List ℕ) (l
           → Renewed queue n release deadline cap entry left begin old period (bitOr passing (toldOf queue deadline entry left first k b))
       turn-end upto way =
           let l = queue-length in
-          let end : (length q ≤ k) ⊎ (Waits (isLeft left) q k × (at old (row q k) ≡ begin → ⊥)) =
+          let end : (length q ≤ k) ⊎ (LeftAt (isLeft left) q k × (at old (row q k) ≡ begin → ⊥)) =
           ⊎-elim
           (λ h. inl (omega arith))
           (λ v. let i = queue-row k (v .0) in
-          let w : Waits (isLeft left) q k = (omega (arith, v .0), ap (isLeft left) i ∙ v .1) in
+          let w : LeftAt (isLeft left) q k = (omega (arith, v .0), ap (isLeft left) i ∙ v .1) in
           inr (w, λ z. v .2 (ap (at period) (sym i) ∙ r .kept-after k w (omega arith) ∙ z)))
           way in
           rw (timely-take (isLeft left) due seat b queue n first k upto)

@@ -36,7 +36,7 @@ use Rattle.sweep.specs.Finds.{byRelease, queued, queued-sorted, queued-same, co
 use Rattle.planner.specs.Lines.{At, place-of, apart, sorted-rising, first-parts, first-kept, first-fails, keep-both, keep-append, keep-keep, keep-twice, keep-neither}
 use Rattle.planner.specs.Marks.{marks-bit, bit-and}
 use Rattle.planner.specs.Prepared.{capsAt, atLevel, every-take, every-length}
-use Rattle.planner.specs.Busy.{row, Waits}
+use Rattle.planner.specs.Busy.{row, LeftAt}
 use Rattle.planner.specs.Periods.{Queue, Known, known-start, known-placed}
 use Rattle.planner.specs.Entries.{entriesTo, entry-is, entries-below}
 use Rattle.planner.specs.Opening.{openTo, open-inside, open-clear, open-whole}
@@ -51,21 +51,21 @@ later-both a b d =
     (λ g q. rw (e, g, lt-leb (max a b) d (omega arith))))
     (λ e p. rw (e, lt-leb (max a b) d (omega arith)))
 
--- entry i of the trial sequence waits exactly if its row is left
-pub record Waiting (t : Table) (left waiting : ℕ) : Type 0 where
-  pub within : waiting < 2 ^ t .n
-  pub bits : (i : ℕ) → i < t .n → bit waiting i ≡ cond (isLeft left (getD (sequence t) i 0)) 1 0
+-- entry i of the trial sequence is unplaced exactly if its row is left
+pub record Unplaced (t : Table) (left unplaced : ℕ) : Type 0 where
+  pub within : unplaced < 2 ^ t .n
+  pub bits : (i : ℕ) → i < t .n → bit unplaced i ≡ cond (isLeft left (getD (sequence t) i 0)) 1 0
 
--- entry i of the trial sequence is tried exactly if it waits and no row left follows its row
-pub record Opened (t : Table) (left waiting tries : ℕ) : Type 0 where
-  pub inside : (x : ℕ) → bit tries x ≡ 1 → bit waiting x ≡ 1
+-- entry i of the trial sequence is tried exactly if it is unplaced and no row left follows its row
+pub record Opened (t : Table) (left unplaced tries : ℕ) : Type 0 where
+  pub inside : (x : ℕ) → bit tries x ≡ 1 → bit unplaced x ≡ 1
   pub free : (x : ℕ) → x < t .n → bit tries x ≡ 1 → unfollowed t (leftOf t left) (getD (sequence t) x 0) ≡ true
-  pub whole : (x : ℕ) → x < t .n → bit waiting x ≡ 1 → unfollowed t (leftOf t left) (getD (sequence t) x 0) ≡ true → bit tries x ≡ 1
+  pub whole : (x : ℕ) → x < t .n → bit unplaced x ≡ 1 → unfollowed t (leftOf t left) (getD (sequence t) x 0) ≡ true → bit tries x ≡ 1
 
 -- entry e, from 1, of the trial sequence has the row that takes the place; 0 where no row does
-pub record Taken (t : Table) (left waiting e : ℕ) : Type 0 where
+pub record Taken (t : Table) (left unplaced e : ℕ) : Type 0 where
   pub none : e ≡ 0 → taker t (leftOf t left) ≡ 0
-  pub found : (e ≡ 0 → ⊥) → (1 ≤ e) × (e ≤ t .n) × (bit waiting (e - 1) ≡ 1) × (getD (padded (sequence t)) (e - 1) 0 ≡ taker t (leftOf t left))
+  pub found : (e ≡ 0 → ⊥) → (1 ≤ e) × (e ≤ t .n) × (bit unplaced (e - 1) ≡ 1) × (getD (padded (sequence t)) (e - 1) 0 ≡ taker t (leftOf t left))
 
 module _ (t : Table) (accepted : Accepted t) where
   f : TableFacts t
@@ -168,9 +168,9 @@ module _ (t : Table) (accepted : Accepted t) where
             ∙ a .is);
       }
 
-  -- at first all entries wait
-  pub waiting-start : (left : ℕ) → left ≡ 2 ^ t .n - 1 → Waiting t left left
-  waiting-start left e =
+  -- at first all entries are unplaced
+  pub unplaced-start : (left : ℕ) → left ≡ 2 ^ t .n - 1 → Unplaced t left left
+  unplaced-start left e =
       let n = every-length t f (sequence t) (same-sequence t) in
       record {
         within = omega (arith, pow-pos (t .n));
@@ -192,34 +192,34 @@ module _ (t : Table) (accepted : Accepted t) where
       )) in
       record {
         place = a .place;
-        waits = rw queue-is (a .within, ap (isLeft left) (a .is) ∙ e);
+        left-at = rw queue-is (a .within, ap (isLeft left) (a .is) ∙ e);
         is = rw queue-is (ap (at entryOf) (a .is) ∙ entry-of x h);
       }
 
-  module _ (left waiting : ℕ) (w : Waiting t left waiting) where
-    -- an entry that waits is of a row left
-    waits-left : (x : ℕ) → bit waiting x ≡ 1 → (x < t .n) × (isLeft left (getD (sequence t) x 0) ≡ true)
-    waits-left x b =
-        let h : x < t .n = by-ltb x (t .n) (λ _ l. l) (λ _ l. absurd (omega (arith, above (t .n) x waiting (w .within) l))) in (
+  module _ (left unplaced : ℕ) (w : Unplaced t left unplaced) where
+    -- an unplaced entry is of a row left
+    unplaced-left : (x : ℕ) → bit unplaced x ≡ 1 → (x < t .n) × (isLeft left (getD (sequence t) x 0) ≡ true)
+    unplaced-left x b =
+        let h : x < t .n = by-ltb x (t .n) (λ _ l. l) (λ _ l. absurd (omega (arith, above (t .n) x unplaced (w .within) l))) in (
           h,
           by-bool (isLeft left (getD (sequence t) x 0)) (λ z. z)
               (λ z. absurd (omega (arith, w .bits x h, ap {B = ℕ} (λ (c : Bool). cond c 1 0) z))),
         )
 
-    pub opened : (tries : ℕ) → Opened t left waiting tries → (m : ℕ) → Open (padded (byRelease t)) entryOf (t .n) left (bitAnd tries m)
+    pub opened : (tries : ℕ) → Opened t left unplaced tries → (m : ℕ) → Open (padded (byRelease t)) entryOf (t .n) left (bitAnd tries m)
     opened tries o m x b =
-        let r = waits-left x (o .inside x (omega (arith, bit-and tries m x, b, bit-lt tries x))) in
+        let r = unplaced-left x (o .inside x (omega (arith, bit-and tries m x, b, bit-lt tries x))) in
         stands-row left x (r .0) (r .1)
 
-    -- the word that the code makes of the waiting entries, with the table free of waits or not
-    pub opening : (free : Bool) → free ≡ allZero (t .follows) → (tries : ℕ) → tries ≡ cond free waiting (openTo (t .follows) entryOf left waiting (t .n))
-        → Opened t left waiting tries
+    -- the word that the code makes of the unplaced entries, with the table free of waits or not
+    pub opening : (free : Bool) → free ≡ allZero (t .follows) → (tries : ℕ) → tries ≡ cond free unplaced (openTo (t .follows) entryOf left unplaced (t .n))
+        → Opened t left unplaced tries
     opening free e tries q = by-bool (allZero (t .follows))
-        (λ z. subst (Opened t left waiting) (sym (q ∙ ap (λ (b : Bool). cond b waiting (openTo (t .follows) entryOf left waiting (t .n))) (e ∙ z))) (all-free z))
-        (λ z. subst (Opened t left waiting) (sym (q ∙ ap (λ (b : Bool). cond b waiting (openTo (t .follows) entryOf left waiting (t .n))) (e ∙ z))) some-bound)
+        (λ z. subst (Opened t left unplaced) (sym (q ∙ ap (λ (b : Bool). cond b unplaced (openTo (t .follows) entryOf left unplaced (t .n))) (e ∙ z))) (all-free z))
+        (λ z. subst (Opened t left unplaced) (sym (q ∙ ap (λ (b : Bool). cond b unplaced (openTo (t .follows) entryOf left unplaced (t .n))) (e ∙ z))) some-bound)
       where
         -- no row follows another
-        all-free : allZero (t .follows) ≡ true → Opened t left waiting waiting
+        all-free : allZero (t .follows) ≡ true → Opened t left unplaced unplaced
         all-free z =
             record {
               inside = λ x b. b;
@@ -228,22 +228,22 @@ module _ (t : Table) (accepted : Accepted t) where
               whole = λ x h b u. b;
             }
 
-        some-bound : Opened t left waiting (openTo (t .follows) entryOf left waiting (t .n))
+        some-bound : Opened t left unplaced (openTo (t .follows) entryOf left unplaced (t .n))
         some-bound =
             record {
-              inside = open-inside (t .follows) entryOf left waiting (t .n);
+              inside = open-inside (t .follows) entryOf left unplaced (t .n);
               free = λ x h b. follow-none t (leftOf t left) (getD (sequence t) x 0) (λ y k p. followed x h b y k p);
-              whole = λ x h b u. open-whole (t .follows) entryOf left waiting (t .n) x b (λ j l some e s. seated x h u j l some e s);
+              whole = λ x h b u. open-whole (t .follows) entryOf left unplaced (t .n) x b (λ j l some e s. seated x h u j l some e s);
             }
           where
             -- a follower that is left has its row's entry cleared
-            followed : (x : ℕ) → x < t .n → bit (openTo (t .follows) entryOf left waiting (t .n)) x ≡ 1 → (y : ℕ) → In y (leftOf t left) → followsOf t y ≡ getD (sequence t) x 0 → ⊥
+            followed : (x : ℕ) → x < t .n → bit (openTo (t .follows) entryOf left unplaced (t .n)) x ≡ 1 → (y : ℕ) → In y (leftOf t left) → followsOf t y ≡ getD (sequence t) x 0 → ⊥
             followed x h b y k p =
                 let l = keep-in (isLeft left) (sequence t) y k in
                 let r = rows-in t y (omega (arith, same-sequence t y, l .0)) in
                 let z : y - 1 + 1 ≡ y = omega (arith, r .from) in
-                open-clear (t .follows) entryOf left waiting (t .n) (y - 1) (omega (arith, r .from, r .upTo)) (omega (arith, p, sequence-row x h .from)) (rw z (l .1))
-                (ap (bit (openTo (t .follows) entryOf left waiting (t .n))) (ap (at entryOf) p ∙ entry-of x h) ∙ b)
+                open-clear (t .follows) entryOf left unplaced (t .n) (y - 1) (omega (arith, r .from, r .upTo)) (omega (arith, p, sequence-row x h .from)) (rw z (l .1))
+                (ap (bit (openTo (t .follows) entryOf left unplaced (t .n))) (ap (at entryOf) p ∙ entry-of x h) ∙ b)
 
             -- an entry that is cleared is of a row that a row left follows
             seated : (x : ℕ) → x < t .n → unfollowed t (leftOf t left) (getD (sequence t) x 0) ≡ true → (j : ℕ) → j < t .n → 1 ≤ getD (t .follows) j 0 → isLeft left (j + 1) ≡ true
@@ -260,23 +260,23 @@ module _ (t : Table) (accepted : Accepted t) where
                 (w ∙ sym (a .is) ∙ ap (λ (y : ℕ). getD (sequence t) y 0) (sym (entry-place (getD (t .follows) j 0) i) ∙ s))
 
     -- the row at entry e is placed
-    pub waiting-turn : (e i : ℕ) → 1 ≤ e → e ≤ t .n → i ≡ getD (padded (sequence t)) (e - 1) 0 → bit waiting (e - 1) ≡ 1 → bit left (i - 1) ≡ 1
-        → Waiting t (left - 2 ^ (i - 1)) (waiting - 2 ^ (e - 1))
-    waiting-turn e i h k z b c =
+    pub unplaced-turn : (e i : ℕ) → 1 ≤ e → e ≤ t .n → i ≡ getD (padded (sequence t)) (e - 1) 0 → bit unplaced (e - 1) ≡ 1 → bit left (i - 1) ≡ 1
+        → Unplaced t (left - 2 ^ (i - 1)) (unplaced - 2 ^ (e - 1))
+    unplaced-turn e i h k z b c =
         let n = sequence-length in
         let x : getD (sequence t) (e - 1) 0 ≡ i = sym (z ∙ sequence-entry (e - 1) (omega arith)) in
         record {
           within = omega (arith, w .within);
           bits = λ j l. by-eqb j (e - 1)
               (λ _ q. let y : getD (sequence t) j 0 ≡ i = ap (λ (k : ℕ). getD (sequence t) k 0) q ∙ x in
-              ap (bit (waiting - 2 ^ (e - 1))) q ∙ cleared-same (e - 1) waiting b
+              ap (bit (unplaced - 2 ^ (e - 1))) q ∙ cleared-same (e - 1) unplaced b
               ∙ sym (ap (λ (a : Bool). cond a 1 0) (bit-not-left (left - 2 ^ (i - 1)) (getD (sequence t) j 0)
               (ap (λ (k : ℕ). bit (left - 2 ^ (i - 1)) (k - 1)) y ∙ cleared-same (i - 1) left c))))
               (λ _ q. let r = rows-in t (getD (sequence t) j 0) (entry-in (sequence t) (same-sequence t) j (omega arith)) in
               let s = rows-in t (getD (sequence t) (e - 1) 0) (entry-in (sequence t) (same-sequence t) (e - 1) (omega arith)) in
               let d : getD (sequence t) j 0 - 1 ≡ i - 1 → ⊥ = λ y.
               apart (sequence t) (once (sequence t) (same-sequence t)) j (e - 1) (omega arith) (omega arith) q (omega (arith, r .from, s .from)) in
-              cleared-other (e - 1) j waiting b q ∙ w .bits j l
+              cleared-other (e - 1) j unplaced b q ∙ w .bits j l
               ∙ ap (λ (m : ℕ). cond (eqb m 1) 1 0) (sym (cleared-other (i - 1) (getD (sequence t) j 0 - 1) left c d)));
         }
 
@@ -352,7 +352,7 @@ module _ (t : Table) (accepted : Accepted t) where
         rw (e, n, trial-part i k u (rw (h, n))) (later-both d (promisedMoment t (lowest (leftOf t left) i) i) (deadlineOf t i))))
 
     -- the rows tried of a level, and the first of them that passes
-    module _ (waiting : ℕ) (w : Waiting t left waiting) (tries : ℕ) (o : Opened t left waiting tries) where
+    module _ (unplaced : ℕ) (w : Unplaced t left unplaced) (tries : ℕ) (o : Opened t left unplaced tries) where
       -- left, and followed by no row left
       abbrev live : ℕ → Bool
       live x = isLeft left x && unfollowed t (leftOf t left) x
@@ -375,7 +375,7 @@ module _ (t : Table) (accepted : Accepted t) where
           let l = and-left (live i) (eqb (at (t .level) i) level) e in
           let b = and-right (live i) (eqb (at (t .level) i) level) e in
           let a = and-left (isLeft left i) (unfollowed t (leftOf t left) i) l in
-          let here : bit waiting x ≡ 1 = w .bits x h ∙ ap {B = ℕ} (λ (c : Bool). cond c 1 0) a in
+          let here : bit unplaced x ≡ 1 = w .bits x h ∙ ap {B = ℕ} (λ (c : Bool). cond c 1 0) a in
           omega (
             arith,
             bit-and tries (atLevel t level) x,
@@ -384,14 +384,14 @@ module _ (t : Table) (accepted : Accepted t) where
             ap {B = ℕ} (λ (c : Bool). cond c 1 0) b,
           )
 
-      of-word : (level x : ℕ) → bit (bitAnd tries (atLevel t level)) x ≡ 1 → (x < t .n) × (bit waiting x ≡ 1) × (chosen level (getD (sequence t) x 0) ≡ true)
+      of-word : (level x : ℕ) → bit (bitAnd tries (atLevel t level)) x ≡ 1 → (x < t .n) × (bit unplaced x ≡ 1) × (chosen level (getD (sequence t) x 0) ≡ true)
       of-word level x b =
           let n = sequence-length in
           let i = getD (sequence t) x 0 in
           let both = bit-and tries (atLevel t level) x in
           let in-open : bit tries x ≡ 1 = omega (arith, bit-lt tries x) in
           let one = o .inside x in-open in
-          let r = waits-left left waiting w x one in
+          let r = unplaced-left left unplaced w x one in
           let u = o .free x (r .0) in-open in
           let l : eqb (at (t .level) i) level ≡ true = by-bool (eqb (at (t .level) i) level) (λ z. z)
           (λ z. absurd (omega (arith, marks-bit (λ j. eqb (at (t .level) j) level) (sequence t) x (omega (arith, r .0)), ap {B = ℕ} (λ (c : Bool). cond c 1 0) z))) in
@@ -400,7 +400,7 @@ module _ (t : Table) (accepted : Accepted t) where
       -- what the search at a speed says of the rows of a level
       record Tested (level e : ℕ) : Type 0 where
         none : e ≡ 0 → first (passes t (leftOf t left)) (keep (λ i. eqb (at (t .level) i) level) rows) ≡ 0
-        found : (e ≡ 0 → ⊥) → (1 ≤ e) × (e ≤ t .n) × (bit waiting (e - 1) ≡ 1)
+        found : (e ≡ 0 → ⊥) → (1 ≤ e) × (e ≤ t .n) × (bit unplaced (e - 1) ≡ 1)
             × (getD (padded (sequence t)) (e - 1) 0 ≡ first (passes t (leftOf t left)) (keep (λ i. eqb (at (t .level) i) level) rows))
 
       module _ (level : ℕ) (tested : ℕ → Bool) (right : (i : ℕ) → eqb (at (t .level) i) level ≡ true → In i (leftOf t left) → unfollowed t (leftOf t left) i ≡ true → tested i ≡ passes t (leftOf t left) i)
@@ -439,20 +439,20 @@ module _ (t : Table) (accepted : Accepted t) where
 
         -- a row that the search passed over fails
         over : (x : ℕ) → x < t .n → (c : chosen level (getD (sequence t) x 0) ≡ true)
-            → ((j : ℕ) → Waits (isLeft left) (take (t .n) (padded (byRelease t))) j → bit (bitAnd tries (atLevel t level)) (at entryOf (row (take (t .n) (padded (byRelease t))) j)) ≡ 1
+            → ((j : ℕ) → LeftAt (isLeft left) (take (t .n) (padded (byRelease t))) j → bit (bitAnd tries (atLevel t level)) (at entryOf (row (take (t .n) (padded (byRelease t))) j)) ≡ 1
             → at entryOf (row (take (t .n) (padded (byRelease t))) j) ≡ x → tested (row (take (t .n) (padded (byRelease t))) j) ≡ false)
             → passes t (leftOf t left) (getD (sequence t) x 0) ≡ false
         over x h c g =
             let st = stands-row left x h (is-left (getD (sequence t) x 0) c) in
             sym (says x h c) ∙ ap tested (sym (at-place x h c))
-            ∙ g (st .place) (st .waits) (ap (bit (bitAnd tries (atLevel t level))) (st .is) ∙ word-of level x h c) (st .is)
+            ∙ g (st .place) (st .left-at) (ap (bit (bitAnd tries (atLevel t level))) (st .is) ∙ word-of level x h c) (st .is)
 
         -- the row found
         row-found : (z : e ≡ 0 → ⊥) (m : e - 1 < t .n) → row (take (t .n) (padded (byRelease t))) (k .found z .stands .place) ≡ getD (sequence t) (e - 1) 0
         row-found z m =
             let r = k .found z in
             let st = r .stands in
-            let w : Waits (isLeft left) (byRelease t) (st .place) = rw queue-is at (st .waits) in
+            let w : LeftAt (isLeft left) (byRelease t) (st .place) = rw queue-is at (st .left-at) in
             let x : In (row (byRelease t) (st .place)) (rowsOf t) = entry-in (byRelease t) same-release (st .place) (w .0) in
             let a = entry-at (row (byRelease t) (st .place)) x in
             let y : at entryOf (row (byRelease t) (st .place)) ≡ e - 1 = rw queue-is at (st .is) in
@@ -536,7 +536,7 @@ module _ (t : Table) (accepted : Accepted t) where
       high-tested e k = test-of 1 highTest (λ i z m u. high-passes i m u (ne-eqb (at (t .level) i) 0 (λ y. omega (arith, eqb-true (at (t .level) i) 1 z)))) e k
 
       -- the first LO row that passes takes the place
-      pub taken-low : (e : ℕ) → Searched 0 lowTest e → (e ≡ 0 → ⊥) → Taken t left waiting e
+      pub taken-low : (e : ℕ) → Searched 0 lowTest e → (e ≡ 0 → ⊥) → Taken t left unplaced e
       taken-low e k n =
           let r = low-tested e k .found n in
           record {
@@ -552,7 +552,7 @@ module _ (t : Table) (accepted : Accepted t) where
           }
 
       -- where none does, the first HI row that passes does
-      pub taken-high : (d e : ℕ) → Searched 0 lowTest d → d ≡ 0 → Searched 1 highTest e → Taken t left waiting e
+      pub taken-high : (d e : ℕ) → Searched 0 lowTest d → d ≡ 0 → Searched 1 highTest e → Taken t left unplaced e
       taken-high d e k z l =
           let x : taker t (leftOf t left) ≡ first (passes t (leftOf t left)) highs = taker-parts
           ∙ ap (λ (j : ℕ). cond (eqb j 0) (first (passes t (leftOf t left)) highs) (first (passes t (leftOf t left)) lows)) (low-tested d k .none z) in
@@ -589,7 +589,7 @@ module _ (t : Table) (accepted : Accepted t) where
         let others : (j : ℕ) → j < length q → (j ≡ a .place → ⊥) → isLeft less (row q j) ≡ isLeft left (row q j) = λ j h n.
         ap (λ (m : ℕ). eqb m 1) (cleared-other (i - 1) (row q j - 1) left b
         (λ z. queue-of s s1 .apart j (a .place) h (a .within) n (z ∙ ap (λ (m : ℕ). m - 1) (sym (a .is))))) in
-        let taken : Waits (isLeft left) q (a .place) = (a .within, bit-left left (row q (a .place)) (ap (λ (m : ℕ). bit left (m - 1)) (a .is) ∙ b)) in
+        let taken : LeftAt (isLeft left) q (a .place) = (a .within, bit-left left (row q (a .place)) (ap (λ (m : ℕ). bit left (m - 1)) (a .is) ∙ b)) in
         rw queue-is (subst (λ (x : ℕ). Known (releaseOf t) caps (deadlineOf t) (λ j. at entryOf j) (isLeft less) q period (bitOr changed (2 ^ at period x)) passing) (a .is)
         (known-placed (releaseOf t) caps (deadlineOf t) (λ j. at entryOf j) (isLeft left) q (queue-of s s1) (isLeft less) (a .place) within others taken
         period changed passing (rw queue-is at known)))
@@ -601,6 +601,6 @@ module _ (t : Table) (accepted : Accepted t) where
     period-place left i period changed passing known k b =
         let q = byRelease t in
         let a = place-of q i (omega (arith, same-release i)) in
-        let taken : Waits (isLeft left) q (a .place) = (a .within, bit-left left (row q (a .place)) (ap (λ (m : ℕ). bit left (m - 1)) (a .is) ∙ b)) in
+        let taken : LeftAt (isLeft left) q (a .place) = (a .within, bit-left left (row q (a .place)) (ap (λ (m : ℕ). bit left (m - 1)) (a .is) ∙ b)) in
         let g : Known (releaseOf t) caps (deadlineOf t) (λ j. at entryOf j) (isLeft left) q period changed passing = rw queue-is at known in
         omega (arith, g .groups .low (a .place) taken, ap (at period) (a .is), a .within, queue-of s s1 .few)

@@ -12,7 +12,7 @@ use Rattle.rules.specs.Rows.{at, put}
 use Rattle.rules.specs.Choice.{sequence}
 use Rattle.sweep.specs.Masks.{bit, isLeft}
 use Rattle.sweep.specs.Trials.{Columns, trial}
-use Rattle.planner.specs.Busy.{row, Waits}
+use Rattle.planner.specs.Busy.{row, LeftAt}
 use Rattle.planner.specs.Entries.{Entries}
 use Rattle.planner.specs.Periods.{Queue, Groups, Known}
 use Rattle.planner.specs.Renewing.{Meets}
@@ -40,9 +40,9 @@ KnownAt queue n release deadline cap entry left period changed passing =
 -- every swept row in time has its own; any other row keeps its busy period
 pub record Renewed (queue : List ℕ) (n : ℕ) (release deadline cap entry : List ℕ) (left begin : ℕ) (old period : List ℕ) (word : ℕ) : Type 0 where
   pub groups : Grouped queue n release cap left period
-  pub sound : (i : ℕ) → Waits (isLeft left) (take n queue) i → bit word (at entry (row (take n queue) i)) ≡ 1
+  pub sound : (i : ℕ) → LeftAt (isLeft left) (take n queue) i → bit word (at entry (row (take n queue) i)) ≡ 1
       → Meets (λ j. at release j) (λ j. at cap j) (λ j. at deadline j) (λ j. at entry j) (isLeft left) (take n queue) i
-  pub whole : (i : ℕ) → Waits (isLeft left) (take n queue) i
+  pub whole : (i : ℕ) → LeftAt (isLeft left) (take n queue) i
       → (Meets (λ j. at release j) (λ j. at cap j) (λ j. at deadline j) (λ j. at entry j) (isLeft left) (take n queue) i
       → bit word (at entry (row (take n queue) i)) ≡ 1)
       ⊎ ((at period (row (take n queue) i) ≡ at old (row (take n queue) i)) × (at old (row (take n queue) i) ≡ begin → ⊥))
@@ -74,7 +74,7 @@ pub record Parts (queue : List ℕ) (n : ℕ) (release cap part sequence entry :
 -- a row left has this entry, from 0
 pub record Stands (queue entry : List ℕ) (n left x : ℕ) : Type 0 where
   pub place : ℕ
-  pub waits : Waits (isLeft left) (take n queue) place
+  pub left-at : LeftAt (isLeft left) (take n queue) place
   pub is : at entry (row (take n queue) place) ≡ x
 
 -- the entries in a word are those of rows left
@@ -87,10 +87,10 @@ pub record Found (passes : ℕ → Bool) (queue entry : List ℕ) (n left word e
   pub stands : Stands queue entry n left (e - 1)
   pub inside : bit word (e - 1) ≡ 1
   pub meets : passes (row (take n queue) (stands .place)) ≡ true
-  pub before : (k : ℕ) → Waits (isLeft left) (take n queue) k → bit word (at entry (row (take n queue) k)) ≡ 1 → at entry (row (take n queue) k) < e - 1
+  pub before : (k : ℕ) → LeftAt (isLeft left) (take n queue) k → bit word (at entry (row (take n queue) k)) ≡ 1 → at entry (row (take n queue) k) < e - 1
       → passes (row (take n queue) k) ≡ false
 
 -- e is that entry, or 0 where none passes
 pub record FirstIn (passes : ℕ → Bool) (queue entry : List ℕ) (n left word e : ℕ) : Type 0 where
-  pub none : e ≡ 0 → (k : ℕ) → Waits (isLeft left) (take n queue) k → bit word (at entry (row (take n queue) k)) ≡ 1 → passes (row (take n queue) k) ≡ false
+  pub none : e ≡ 0 → (k : ℕ) → LeftAt (isLeft left) (take n queue) k → bit word (at entry (row (take n queue) k)) ≡ 1 → passes (row (take n queue) k) ≡ false
   pub found : (e ≡ 0 → ⊥) → Found passes queue entry n left word e

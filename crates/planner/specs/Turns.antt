@@ -23,7 +23,7 @@ use Rattle.planner.specs.Prepared.{trialsOf}
 use Rattle.planner.specs.Entries.{Entries}
 use Rattle.planner.specs.Opening.{openTo}
 use Rattle.planner.specs.Trying.{leftOf, Speed, KnownAt, Open, inTime, FirstIn, Parts, lowInTime}
-use Rattle.planner.specs.Taking.{Waiting, Opened, Taken, speed-of, opened, opening, waiting-turn, taken-low, taken-high, taken-row, known-first, known-turn, period-place, parts-of}
+use Rattle.planner.specs.Taking.{Unplaced, Opened, Taken, speed-of, opened, opening, unplaced-turn, taken-low, taken-high, taken-row, known-first, known-turn, period-place, parts-of}
 
 -- what is known of the same busy periods
 pub known-same : (queue : List ℕ) (n : ℕ) (release deadline cap entry : List ℕ) (left : ℕ) (p p' : List ℕ) (c c' k k' : ℕ) → p ≡ p' → c ≡ c' → k ≡ k'
@@ -52,9 +52,9 @@ module _ (t : Table) (accepted : Accepted t) (w : Trials) (prepared : w ≡ tria
   unfolding trialsOf
   degraded-parts = rw prepared (parts-of t accepted)
 
-  pub open-entries : (left waiting tries m : ℕ) → Waiting t left waiting → Opened t left waiting tries → Open (w .queue) (w .entry) (t .n) left (bitAnd tries m)
+  pub open-entries : (left unplaced tries m : ℕ) → Unplaced t left unplaced → Opened t left unplaced tries → Open (w .queue) (w .entry) (t .n) left (bitAnd tries m)
   unfolding trialsOf
-  open-entries left waiting tries m q o = rw prepared (opened t accepted left waiting q tries o m)
+  open-entries left unplaced tries m q o = rw prepared (opened t accepted left unplaced q tries o m)
 
   -- what the entries of a place are asked for with, and what they are
 
@@ -71,10 +71,10 @@ module _ (t : Table) (accepted : Accepted t) (w : Trials) (prepared : w ≡ tria
       (λ _ some. omega (arith, e, f .lower (k + 1) own some, own .upTo, f .few))
       (λ _ none. omega (arith, e))
 
-  pub opened-now : (free : Bool) → free ≡ allZero (t .follows) → (left waiting tries : ℕ) → Waiting t left waiting
-      → tries ≡ cond free waiting (openTo (t .follows) (w .entry) left waiting (t .n)) → Opened t left waiting tries
+  pub opened-now : (free : Bool) → free ≡ allZero (t .follows) → (left unplaced tries : ℕ) → Unplaced t left unplaced
+      → tries ≡ cond free unplaced (openTo (t .follows) (w .entry) left unplaced (t .n)) → Opened t left unplaced tries
   unfolding trialsOf
-  opened-now free e left waiting tries q z = opening t accepted left waiting q free e tries (rw prepared at z)
+  opened-now free e left unplaced tries q z = opening t accepted left unplaced q free e tries (rw prepared at z)
 
   -- before the first sweep
 
@@ -88,7 +88,7 @@ module _ (t : Table) (accepted : Accepted t) (w : Trials) (prepared : w ≡ tria
 
   -- the entry found
 
-  module _ (left waiting : ℕ) (holds : Holds left (leftOf t left)) (closed : Closed t (leftOf t left)) (q : Waiting t left waiting) (tries : ℕ) (o : Opened t left waiting tries) where
+  module _ (left unplaced : ℕ) (holds : Holds left (leftOf t left)) (closed : Closed t (leftOf t left)) (q : Unplaced t left unplaced) (tries : ℕ) (o : Opened t left unplaced tries) where
     abbrev Search : (ℕ → Bool) → ℕ → ℕ → Type 0
     Search tested level e = FirstIn tested (w .queue) (w .entry) (t .n) left (bitAnd tries level) e
 
@@ -98,21 +98,21 @@ module _ (t : Table) (accepted : Accepted t) (w : Trials) (prepared : w ≡ tria
     abbrev highTest : ℕ → Bool
     highTest = inTime (w .queue) (t .n) (t .release) (t .deadline) (w .degraded) left
 
-    pub low-taken : (e : ℕ) → Search lowTest (w .low) e → (e ≡ 0 → ⊥) → Taken t left waiting e
+    pub low-taken : (e : ℕ) → Search lowTest (w .low) e → (e ≡ 0 → ⊥) → Taken t left unplaced e
     unfolding trialsOf
-    low-taken e k n = taken-low t accepted left holds closed waiting q tries o e (rw prepared at k) n
+    low-taken e k n = taken-low t accepted left holds closed unplaced q tries o e (rw prepared at k) n
 
-    pub high-taken : (d e : ℕ) → Search lowTest (w .low) d → d ≡ 0 → Search highTest (w .high) e → Taken t left waiting e
+    pub high-taken : (d e : ℕ) → Search lowTest (w .low) d → d ≡ 0 → Search highTest (w .high) e → Taken t left unplaced e
     unfolding trialsOf
-    high-taken d e k z l = taken-high t accepted left holds closed waiting q tries o d e (rw prepared at k) z (rw prepared at l)
+    high-taken d e k z l = taken-high t accepted left holds closed unplaced q tries o d e (rw prepared at k) z (rw prepared at l)
 
   -- the row at the entry taken
-  module _ (left waiting : ℕ) (q : Waiting t left waiting) where
-    module _ (e : ℕ) (k : Taken t left waiting e) (some : e ≡ 0 → ⊥) where
+  module _ (left unplaced : ℕ) (q : Unplaced t left unplaced) where
+    module _ (e : ℕ) (k : Taken t left unplaced e) (some : e ≡ 0 → ⊥) where
       abbrev mine : ℕ
       mine = getD (w .sequence) (e - 1) 0
 
-      pub taken-range : (1 ≤ e) × (e ≤ t .n) × (bit waiting (e - 1) ≡ 1)
+      pub taken-range : (1 ≤ e) × (e ≤ t .n) × (bit unplaced (e - 1) ≡ 1)
       taken-range = let r = k .found some in (r .0, r .1, r .2)
 
       pub row-is : mine ≡ taker t (leftOf t left)
@@ -127,11 +127,11 @@ module _ (t : Table) (accepted : Accepted t) (w : Trials) (prepared : w ≡ tria
       row-some z = omega (arith, rows-in t mine row-in .from)
 
       module _ (b : bit left (mine - 1) ≡ 1) where
-        pub waiting-next : Waiting t (left - 2 ^ (mine - 1)) (waiting - 2 ^ (e - 1))
+        pub unplaced-next : Unplaced t (left - 2 ^ (mine - 1)) (unplaced - 2 ^ (e - 1))
         unfolding trialsOf
-        waiting-next =
+        unplaced-next =
             let r = taken-range in
-            rw prepared (waiting-turn t accepted left waiting q e (getD (padded (sequence t)) (e - 1) 0) (r .0) (r .1) refl (r .2) (rw prepared at b))
+            rw prepared (unplaced-turn t accepted left unplaced q e (getD (padded (sequence t)) (e - 1) 0) (r .0) (r .1) refl (r .2) (rw prepared at b))
 
         module _ (period : List ℕ) (changed passing : ℕ) where
           -- its busy period begins at a place of the queue, and changes

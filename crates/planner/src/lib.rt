@@ -397,15 +397,15 @@ fn open_entries<'a>(
     entry: &'a [u8; 64],
     n: u32,
     left: u64,
-    waiting: u64,
+    unplaced: u64,
 ) -> u64
     requires { ⌜ (n ≤ 64) × ((k : ℕ) → k < n → getD (now follows) k 0 ≤ 64) × Entries (now entry) ⌝ }
-    ensures { λ r. ⌜ r ≡ cond free waiting (openTo (now (follows .entry)) (now (entry .entry)) left waiting n) ⌝ }
+    ensures { λ r. ⌜ r ≡ cond free unplaced (openTo (now (follows .entry)) (now (entry .entry)) left unplaced n) ⌝ }
 {
     if free {
-        return waiting;
+        return unplaced;
     }
-    let mut tries = waiting;
+    let mut tries = unplaced;
     let mut k: u32 = 0;
     while k < n {
         let w = follows[k as usize];
@@ -419,8 +419,8 @@ fn open_entries<'a>(
     tries
 }
 
-// The choice for an accepted table (rules 4.1 to 4.6, 4.11). The place being filled is how many rows are left (rule 4.9). A row left is waiting at its
-// entry of the trial sequence. A placed row changes the busy period that it stood in, at either speed, and no other.
+// The choice for an accepted table (rules 4.1 to 4.6, 4.11). The place being filled is how many rows are left (rule 4.9). The entries
+// of the rows left in the trial sequence are the unplaced ones. A placed row changes the busy period that it stood in, at either speed, and no other.
 fn choose(t: Table) -> Planning
     requires { ⌜ Accepted t ⌝ }
     ensures { λ r. ⌜ r ≡ planFrom (choice t) ⌝ }
@@ -430,7 +430,7 @@ fn choose(t: Table) -> Planning
     let w = prepare(t);
     let mut order: [u8; 64] = [0; 64];
     let mut left = sweep::first_rows(n);
-    let mut waiting = left;
+    let mut unplaced = left;
     let mut place = sweep::how_many(left);
     let mut period: [u8; 64] = [0; 64];
     let mut changed: u64 = 1;
@@ -439,7 +439,7 @@ fn choose(t: Table) -> Planning
     let mut slow_changed: u64 = 1;
     let mut slow_passing: u64 = 0;
     while place > 0 {
-        let tries = open_entries(free, &t.follows, &w.entry, n, left, waiting);
+        let tries = open_entries(free, &t.follows, &w.entry, n, left, unplaced);
         let low = first_low(
             &w.queue,
             n,
@@ -489,7 +489,7 @@ fn choose(t: Table) -> Planning
         let i = (row - 1) as usize;
         order[(place - 1) as usize] = row;
         left = sweep::without(left, row);
-        waiting = sweep::without(waiting, entry);
+        unplaced = sweep::without(unplaced, entry);
         place = sweep::how_many(left);
         changed = changed | (1 << period[i]);
         slow_changed = slow_changed | (1 << slow_period[i]);

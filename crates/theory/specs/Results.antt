@@ -5,7 +5,7 @@
 -- check 6 has such rows above each of its rows.
 use Prim.Native.Nat.{ℕ, _+_, _-_, _≤_, _<_}
 use mathlib.Core.Bool.{true, false, true≢false}
-use mathlib.Core.Path.{_≡_, refl, sym, subst, _∙_}
+use mathlib.Core.Path.{_≡_, refl, sym, ap, subst, _∙_}
 use mathlib.Core.List.{List, [], _∷_, _++_}
 use mathlib.Core.Logic.{_↔_, _⊎_}
 use native.Mathlib.Omega.{arith}
@@ -354,8 +354,16 @@ module _ (t : Table) (accepted : Accepted t) where
     pub waits-slack : (i : ℕ) → slack t o i ≡ slack (unbound t) o i
     waits-slack = Waiting.same-slack t f o order
 
-    -- In every run by the running rule, at every clock k, the row that a follower with a slot used follows is closed, and all slots that the follower has used
-    -- came after that: closing slot and slots used are together no more than k.
+    -- In every run by the running rule a slot u goes to a follower only if the row that it follows was closed by clock u: at every clock from there on the
+    -- closing slot of that row is from 1 to u.
+    pub follower-held : (i : ℕ) → isRow t i ≡ true → 1 ≤ followsOf t i → (σ : ℕ → ℕ) (u k : ℕ) → u ≤ k → chosen t o (runAfter t o σ u) ≡ i
+        → (1 ≤ at (runAfter t o σ k .closing) (followsOf t i)) × (at (runAfter t o σ k .closing) (followsOf t i) ≤ u)
+    follower-held i r some σ u k h q =
+        subst (λ (x : State). (1 ≤ at (x .closing) (followsOf t i)) × (at (x .closing) (followsOf t i) ≤ u)) (running-is t o σ k)
+        (Waiting.slot-later t f (running t) o σ i (row-is t i r) some u k h (ap (chosen t o) (running-is t o σ u) ∙ q))
+
+    -- So at every clock k the row that a follower with a slot used follows is closed, and its closing slot and the slots that the follower has used are together
+    -- no more than k.
     pub follower-later : (i : ℕ) → isRow t i ≡ true → 1 ≤ followsOf t i → (σ : ℕ → ℕ) (k : ℕ) → 1 ≤ at (runAfter t o σ k .used) i
         → (1 ≤ at (runAfter t o σ k .closing) (followsOf t i)) × (at (runAfter t o σ k .closing) (followsOf t i) + at (runAfter t o σ k .used) i ≤ k)
     follower-later i r some σ k =

@@ -171,19 +171,34 @@ module _ (t : Table) (f : TableFacts t) (rule : Rule t) (o : List ℕ) (σ : ℕ
   abbrev above : ℕ
   above = followsOf t i
 
+  -- a closed row keeps its closing slot, which is not after the clock
+  stays : (k m : ℕ) → 1 ≤ at (now k .closing) above → at (now (m + k) .closing) above ≡ at (now k .closing) above
+  stays k m c = ap (λ (x : Cell). x .closing) (closed-stays t f rule o σ above (followed-row t f i r some) k m c)
+
+  past : (k : ℕ) → at (now k .closing) above ≤ k
+  past k = held t f rule o σ 0 0 k (λ j q. omega arith) (λ u q l. omega arith) k (omega arith) above (followed-row t f i r some) .past
+
+  -- A slot that goes to the follower: the row that it follows was closed by clock u, and stays so.
+  pub slot-later : (u k : ℕ) → u ≤ k → chosen t o (now u) ≡ i → (1 ≤ at (now k .closing) above) × (at (now k .closing) above ≤ u)
+  slot-later u k h q =
+      let c = chosen-ready t o (now u) i (r .from) q .free some in
+      let e : (k - u) + u ≡ k = omega arith in
+      let same : at (now k .closing) above ≡ at (now u .closing) above = ap (λ (v : ℕ). at (now v .closing) above) (sym e) ∙ stays u (k - u) c in
+      (omega (arith, c, same), omega (arith, past u, same))
+
   pub used-later : (k : ℕ) → 1 ≤ at (now k .used) i → Later t (now k) i k
   unfolding served
   used-later zero h = absurd (omega (arith, ap (λ (x : Cell). x .used) (fresh-cell i (r .from) (omega (arith, f .few, r .upTo)))))
   used-later (suc k) h =
       by-eqb (chosen t o (now k)) i
-      (λ _ q. let c = chosen-ready t o (now k) i (r .from) q .free some in
+      (λ _ q. let c = slot-later k (suc k) (omega arith) q in
       let used : at (now (suc k) .used) i ≡ at (now k .used) i + 1 = used-same ∙ ap (λ (x : Cell). x .used) (cell-served t f rule o σ k i r q) in
       by-leb 1 (at (now k .used) i)
-      (λ _ p. let l = used-later k p in record { closed = omega (arith, c, stays c); after = omega (arith, l .after, stays c, used) })
-      (λ _ p. record { closed = omega (arith, c, stays c); after = omega (arith, past, stays c, used) }))
+      (λ _ p. let l = used-later k p in record { closed = c .0; after = omega (arith, l .after, next (l .closed), used) })
+      (λ _ p. record { closed = c .0; after = omega (arith, c .1, used) }))
       (λ _ q. let used : at (now (suc k) .used) i ≡ at (now k .used) i = used-same ∙ ap (λ (x : Cell). x .used) (cell-other t f rule o σ k i r q) in
       let l = used-later k (omega arith) in
-      record { closed = omega (arith, l .closed, stays (l .closed)); after = omega (arith, l .after, stays (l .closed), used) })
+      record { closed = omega (arith, l .closed, next (l .closed)); after = omega (arith, l .after, next (l .closed), used) })
     where
       -- the look at the clock uses no slot
       used-same : at (now (suc k) .used) i ≡ at (workedBy t f rule o σ k .used) i
@@ -194,13 +209,8 @@ module _ (t : Table) (f : TableFacts t) (rule : Rule t) (o : List ℕ) (σ : ℕ
           go (inl x) = ap (λ (c : Cell). c .used) x
           go (inr x) = ap (λ (c : Cell). c .used) (x .shut)
 
-      stays : 1 ≤ at (now k .closing) above → at (now (suc k) .closing) above ≡ at (now k .closing) above
-      stays c =
-          let e : 1 + k ≡ suc k = omega arith in
-          ap (λ (u : ℕ). at (now u .closing) above) (sym e) ∙ ap (λ (x : Cell). x .closing) (closed-stays t f rule o σ above (followed-row t f i r some) k 1 c)
-
-      past : at (now k .closing) above ≤ k
-      past = held t f rule o σ 0 0 k (λ j q. omega arith) (λ u q l. omega arith) k (omega arith) above (followed-row t f i r some) .past
+      next : 1 ≤ at (now k .closing) above → at (now (suc k) .closing) above ≡ at (now k .closing) above
+      next c = let e : 1 + k ≡ suc k = omega arith in ap (λ (u : ℕ). at (now u .closing) above) (sym e) ∙ stays k 1 c
 
 -- The table without waits is a table like any other.
 pub unbound-table : (t : Table) → TableFacts t → TableFacts (unbound t)

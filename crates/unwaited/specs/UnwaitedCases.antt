@@ -22,7 +22,7 @@ use Rattle.rules.specs.Reports.{figureAt, figure}
 use Rattle.rules.specs.Rows.{at, rowsOf}
 use Rattle.rules.specs.Running.{closeLate}
 use Rattle.rules.specs.Sheets.{isLine, numberAt}
-use Rattle.rules.specs.Slots.{State, fresh, isPending, brought}
+use Rattle.rules.specs.Slots.{State, fresh, isPending, isWaiting, isReady, brought}
 use Rattle.rules.specs.Tables.{rowOk, promiseOk}
 use Rattle.rules.specs.TextCases.{bytes}
 use Rattle.record.specs.Records.{recordOf, tailSound}
@@ -149,5 +149,5 @@ texts =
     && same (Texts.reportText without loaded (padded (1 ∷ []))) (bytes "         1         1         3         3         6\n         3         0\n")
 
 pub before-waits : T (verdicts && checks && runs && sheets && texts)
-unfolding padded sequence word tableOf workSlots brought refusalNumber checkNumber plannedNumber rowsLeft searchedNumber searchedSpeed verdictNumber verdictRow isArrangement fresh isPending rowOk promiseOk tailSound digitAt digitOf written valueOf isField isLine numberAt figureAt figure ones onesIn Records.rowSound Records.isSound Records.nextRun Sheets.lineSize Sheets.columnOf Sheets.tableIn Sheets.checkLines Sheets.readLines Sheets.rowLine Sheets.sheetOf Sheets.wideRow Sheets.widenRows Texts.jobLine Texts.lastLine Texts.reportText Texts.placeLine Texts.programText Then.chosen Then.isOver Then.serve Then.slot Then.horizon Then.worstFinish Then.promisedMoment Then.slack Then.meets Then.tailOk Then.promisesOk Then.checkTable Then.checkOrder Then.checkBoth Then.passes Then.taker Then.fill Then.choice Then.planOf Then.tightest Then.judgeOf Then.makesOrder Then.leastSpeed Then.searchOf Then.runSlot Then.tellOne Then.tellForward Then.tellAll closeLate
+unfolding padded sequence word tableOf workSlots brought refusalNumber checkNumber plannedNumber rowsLeft searchedNumber searchedSpeed verdictNumber verdictRow isArrangement fresh isPending isWaiting isReady rowOk promiseOk tailSound digitAt digitOf written valueOf isField isLine numberAt figureAt figure ones onesIn Records.rowSound Records.isSound Records.nextRun Sheets.lineSize Sheets.columnOf Sheets.tableIn Sheets.checkLines Sheets.readLines Sheets.rowLine Sheets.sheetOf Sheets.wideRow Sheets.widenRows Texts.jobLine Texts.lastLine Texts.reportText Texts.placeLine Texts.programText Then.chosen Then.isOver Then.serve Then.slot Then.horizon Then.worstFinish Then.promisedMoment Then.slack Then.meets Then.tailOk Then.promisesOk Then.checkTable Then.checkOrder Then.checkBoth Then.passes Then.taker Then.fill Then.choice Then.planOf Then.tightest Then.judgeOf Then.makesOrder Then.leastSpeed Then.searchOf Then.runSlot Then.tellOne Then.tellForward Then.tellAll closeLate
 before-waits = tt

@@ -38,11 +38,11 @@ pub fn measure() {
     for_each_count(|n| measure_busy("forward, LO rows", &busy(n, LO, 0)));
     for_each_count(|n| measure_busy("forward, LO rows, r = c", &promising_all(n)));
     for_each_count(|n| measure_busy("forward, LO rows, K 16", &busy(n, LO, MOST_LOADING)));
-    for_each_count(|n| measure_busy("forward, HI waiting", &waiting(n, |_| HI, MILLION)));
-    for_each_count(|n| measure_busy("forward, LO dropped", &waiting(n, |_| LO, MILLION)));
-    for_each_count(|n| measure_busy("forward, every other dropped", &waiting(n, mixed, MILLION)));
-    for_each_count(|n| measure_forward("forward, n slots, HI", &waiting(n, |_| HI, n), n));
-    for_each_count(|n| measure_forward("forward, n slots, LO dropped", &waiting(n, |_| LO, n), n));
+    for_each_count(|n| measure_busy("forward, HI outranked", &outranked(n, |_| HI, MILLION)));
+    for_each_count(|n| measure_busy("forward, LO dropped", &outranked(n, |_| LO, MILLION)));
+    for_each_count(|n| measure_busy("forward, every other dropped", &outranked(n, mixed, MILLION)));
+    for_each_count(|n| measure_forward("forward, n slots, HI", &outranked(n, |_| HI, n), n));
+    for_each_count(|n| measure_forward("forward, n slots, LO dropped", &outranked(n, |_| LO, n), n));
 }
 
 /// A record in which the row at the lowest place alone is open, so that every
@@ -146,9 +146,9 @@ fn promising_all(n: u32) -> Table {
 }
 
 /// A table whose first row is HI and runs for a million slots, at one work unit per slot,
-/// while all others wait, each at the level that its row number gives and with its own
+/// while all others stand below it, each at the level that its row number gives and with its own
 /// deadline: the last one after so many slots, the others evenly before it.
-fn waiting(n: u32, level: fn(u32) -> u32, last: u32) -> Table {
+fn outranked(n: u32, level: fn(u32) -> u32, last: u32) -> Table {
     let row = |number: u32| {
         let level = if number == 1 { HI } else { level(number) };
         row([0, MILLION, last / n * number, level])

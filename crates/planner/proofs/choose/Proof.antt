@@ -1,4 +1,4 @@
--- The loop's invariant: the choice goes on from the rows left and the rows placed, the place is how many rows are left, their entries wait, and
+-- The loop's invariant: the choice goes on from the rows left and the rows placed, the place is how many rows are left, their entries are the unplaced ones, and
 -- what is known of the busy periods at either speed is so of the rows left.
 use Prim.Native.Nat.{ℕ, _≤_, _<_, _-_}
 use native.Mathlib.Omega.{arith}
@@ -13,22 +13,22 @@ use Rattle.theory.specs.Facts.{facts}
 use Rattle.sweep.specs.Masks.{bit, cleared-ones, one-shl}
 use Rattle.sweep.specs.Padded.{zeros}
 use Rattle.planner.specs.Trying.{leftOf, KnownAt}
-use Rattle.planner.specs.Taking.{Waiting, Opened, Taken, waiting-start}
+use Rattle.planner.specs.Taking.{Unplaced, Opened, Taken, unplaced-start}
 use Rattle.planner.specs.Turns.{KnownIn, known-same, entries-small, followed-few, opened-now, normal-speed, degraded-speed, degraded-parts, open-entries, normal-first, degraded-first, low-taken, high-taken, taken-range}
-use Rattle.planner.specs.Turns.{row-is, row-some, normal-within, degraded-within, waiting-next, normal-next, degraded-next}
+use Rattle.planner.specs.Turns.{row-is, row-some, normal-within, degraded-within, unplaced-next, normal-next, degraded-next}
 use Rattle.planner.specs.Placing.{Placing, placing-start, placing-done, placing-stuck, placing-turn, taker-range, taker-bit}
 use Rattle.planner.proofs.choose.Statement.{statement}
 use Rattle.planner.proofs.choose.Tie as tie
 
 abbrev Inv-loop : tie.InvT-loop
-Inv-loop t n free w order₀ left₀ waiting₀ place₀ period₀ changed₀ passing₀ slow-period₀ slow-changed₀ slow-passing₀ order left waiting place period changed passing
+Inv-loop t n free w order₀ left₀ unplaced₀ place₀ period₀ changed₀ passing₀ slow-period₀ slow-changed₀ slow-passing₀ order left unplaced place period changed passing
     slow-period slow-changed slow-passing =
-    (place ≤ 64) × Placing t order left place × Waiting t left waiting
+    (place ≤ 64) × Placing t order left place × Unplaced t left unplaced
     × KnownAt (w .queue) (t .n) (t .release) (t .deadline) (w .normal) (w .entry) left period changed passing
     × KnownAt (w .queue) (t .n) (t .release) (t .deadline) (w .degraded) (w .entry) left slow-period slow-changed slow-passing
 
 abbrev μ-loop : tie.MeasureT-loop
-μ-loop t n free w order₀ left₀ waiting₀ place₀ period₀ changed₀ passing₀ slow-period₀ slow-changed₀ slow-passing₀ order left waiting place period changed passing
+μ-loop t n free w order₀ left₀ unplaced₀ place₀ period₀ changed₀ passing₀ slow-period₀ slow-changed₀ slow-passing₀ order left unplaced place period changed passing
     slow-period slow-changed slow-passing = ones left
 
 -- the places of the code, each from a later one: the start, a turn, the trials at N, those at G
@@ -68,7 +68,7 @@ loop-holds c =
     let p = placing-start t (s .pre) (zeros 64) (first .result) (c .how-many .result) refl (first .ensures) (c .how-many .ensures) in (
       omega (arith, p .few, facts _ (s .pre) .few),
       p,
-      waiting-start t (s .pre) (first .result) (first .ensures),
+      unplaced-start t (s .pre) (first .result) (first .ensures),
       normal-first t (s .pre) (w .prepare .result) (w .prepare .ensures) (first .result),
       degraded-first t (s .pre) (w .prepare .result) (w .prepare .ensures) (first .result),
     )
@@ -83,12 +83,12 @@ open-entries-requires c κs =
 
 -- the entries that are tried
 tried-now : (c : tie.After-open-entries Inv-loop μ-loop) → let l = c .before .before .before .before .before .before in
-    Opened (start l .args .t1) (l .loop .left) (l .loop .waiting) (c .open-entries .result)
+    Opened (start l .args .t1) (l .loop .left) (l .loop .unplaced) (c .open-entries .result)
 tried-now c =
     let l = c .before .before .before .before .before .before in
     let w = prepared l in
     let s = start l in
-    opened-now (s .args .t1) (s .pre) (w .prepare .result) (w .prepare .ensures) (w .before .zero-after .result) (w .before .zero-after .ensures) (l .loop .left) (l .loop .waiting)
+    opened-now (s .args .t1) (s .pre) (w .prepare .result) (w .prepare .ensures) (w .before .zero-after .result) (w .before .zero-after .ensures) (l .loop .left) (l .loop .unplaced)
     (c .open-entries .result) (l .loop .inv .2) (c .open-entries .ensures)
 
 first-low-requires : tie.Need-first-low-requires Inv-loop μ-loop
@@ -101,7 +101,7 @@ first-low-requires c κs =
       normal-speed t (s .pre) v (w .prepare .ensures),
       degraded-parts t (s .pre) v (w .prepare .ensures),
       l .loop .inv .3,
-      open-entries t (s .pre) v (w .prepare .ensures) (l .loop .left) (l .loop .waiting) (opened-of c .open-entries .result) (v .low)
+      open-entries t (s .pre) v (w .prepare .ensures) (l .loop .left) (l .loop .unplaced) (opened-of c .open-entries .result) (v .low)
           (l .loop .inv .2) (tried-now (opened-of c)),
     )
 
@@ -114,7 +114,7 @@ first-in-time-requires c κs =
     let v = w .prepare .result in (
       degraded-speed t (s .pre) v (w .prepare .ensures),
       l .loop .inv .4,
-      open-entries t (s .pre) v (w .prepare .ensures) (l .loop .left) (l .loop .waiting) (opened-of (failed c .before .before) .open-entries .result) (v .high)
+      open-entries t (s .pre) v (w .prepare .ensures) (l .loop .left) (l .loop .unplaced) (opened-of (failed c .before .before) .open-entries .result) (v .high)
           (l .loop .inv .2) (tried-now (opened-of (failed c .before .before))),
     )
 
@@ -129,17 +129,17 @@ module _ (c : tie.Joined1 Inv-loop μ-loop) where
   abbrev begun : tie.Start Inv-loop μ-loop
   begun = start head
 
-  taken : Taken (begun .args .t1) (head .loop .left) (head .loop .waiting) (c .if1 .entry)
+  taken : Taken (begun .args .t1) (head .loop .left) (head .loop .unplaced) (c .if1 .entry)
   taken =
       let w = prepared head .prepare in
       let i = head .loop .inv in
       ⊎-elim
-      (λ v. subst (Taken (begun .args .t1) (head .loop .left) (head .loop .waiting)) (sym (v .13))
-      (high-taken (begun .args .t1) (begun .pre) (w .result) (w .ensures) (head .loop .left) (head .loop .waiting) (i .1 .holds) (i .1 .closed) (i .2)
+      (λ v. subst (Taken (begun .args .t1) (head .loop .left) (head .loop .unplaced)) (sym (v .13))
+      (high-taken (begun .args .t1) (begun .pre) (w .result) (w .ensures) (head .loop .left) (head .loop .unplaced) (i .1 .holds) (i .1 .closed) (i .2)
       (opened-of (c .before .before) .open-entries .result) (tried-now (opened-of (c .before .before)))
       (c .before .first-low .result .found) (v .9 .result .found) (c .before .first-low .ensures .0) (v .0 .taken) (v .9 .ensures .0)))
-      (λ v. subst (Taken (begun .args .t1) (head .loop .left) (head .loop .waiting)) (sym (v .4))
-      (low-taken (begun .args .t1) (begun .pre) (w .result) (w .ensures) (head .loop .left) (head .loop .waiting) (i .1 .holds) (i .1 .closed) (i .2)
+      (λ v. subst (Taken (begun .args .t1) (head .loop .left) (head .loop .unplaced)) (sym (v .4))
+      (low-taken (begun .args .t1) (begun .pre) (w .result) (w .ensures) (head .loop .left) (head .loop .unplaced) (i .1 .holds) (i .1 .closed) (i .2)
       (opened-of (c .before .before) .open-entries .result) (tried-now (opened-of (c .before .before)))
       (c .before .first-low .result .found) (c .before .first-low .ensures .0) (v .0 .left)))
       (c .if1 .came)
@@ -176,22 +176,22 @@ module _ (c : tie.Else2 Inv-loop μ-loop) where
   abbrev mine : ℕ
   mine = getD (prepared entered .prepare .result .sequence) (c .before .if1 .entry - 1) 0
 
-  entry-range : (1 ≤ c .before .if1 .entry) × (c .before .if1 .entry ≤ first .args .t1 .n) × (bit (entered .loop .waiting) (c .before .if1 .entry - 1) ≡ 1)
+  entry-range : (1 ≤ c .before .if1 .entry) × (c .before .if1 .entry ≤ first .args .t1 .n) × (bit (entered .loop .unplaced) (c .before .if1 .entry - 1) ≡ 1)
   entry-range =
       let w = prepared entered .prepare in
-      taken-range (first .args .t1) (first .pre) (w .result) (w .ensures) (entered .loop .left) (entered .loop .waiting)
+      taken-range (first .args .t1) (first .pre) (w .result) (w .ensures) (entered .loop .left) (entered .loop .unplaced)
       (entered .loop .inv .2) (c .before .if1 .entry) (taken (c .before)) (c .if2 .left)
 
   is : mine ≡ taker (first .args .t1) (leftOf (first .args .t1) (entered .loop .left))
   is =
       let w = prepared entered .prepare in
-      row-is (first .args .t1) (first .pre) (w .result) (w .ensures) (entered .loop .left) (entered .loop .waiting)
+      row-is (first .args .t1) (first .pre) (w .result) (w .ensures) (entered .loop .left) (entered .loop .unplaced)
       (entered .loop .inv .2) (c .before .if1 .entry) (taken (c .before)) (c .if2 .left)
 
   some : mine ≡ 0 → ⊥
   some =
       let w = prepared entered .prepare in
-      row-some (first .args .t1) (first .pre) (w .result) (w .ensures) (entered .loop .left) (entered .loop .waiting)
+      row-some (first .args .t1) (first .pre) (w .result) (w .ensures) (entered .loop .left) (entered .loop .unplaced)
       (entered .loop .inv .2) (c .before .if1 .entry) (taken (c .before)) (c .if2 .left)
 
   range : (1 ≤ mine) × (mine ≤ 64)
@@ -207,7 +207,7 @@ module _ (c : tie.Else2 Inv-loop μ-loop) where
   slow-within : at (c .before .if1 .slow-period) mine < 64
   slow-within =
       let w = prepared entered .prepare in
-      degraded-within (first .args .t1) (first .pre) (w .result) (w .ensures) (entered .loop .left) (entered .loop .waiting)
+      degraded-within (first .args .t1) (first .pre) (w .result) (w .ensures) (entered .loop .left) (entered .loop .unplaced)
       (entered .loop .inv .2) (c .before .if1 .entry) (taken (c .before)) (c .if2 .left) held
       (c .before .if1 .slow-period) (c .before .if1 .slow-changed) (c .before .if1 .slow-passing) (known (c .before))
 
@@ -260,7 +260,7 @@ cast-changed c =
     let s = first e in
     let l = entered e in
     let w = prepared l .prepare in
-    let h = normal-within (s .args .t1) (s .pre) (w .result) (w .ensures) (l .loop .left) (l .loop .waiting)
+    let h = normal-within (s .args .t1) (s .pre) (w .result) (w .ensures) (l .loop .left) (l .loop .unplaced)
     (l .loop .inv .2) (e .before .if1 .entry) (taken (e .before)) (e .if2 .left) (held e) _
     (e .before .before .first-low .result .changed) (e .before .before .first-low .result .passing) (e .before .before .first-low .ensures .1) in
     omega (arith, h)
@@ -271,7 +271,7 @@ shl-changed c =
     let s = first e in
     let l = entered e in
     let w = prepared l .prepare in
-    let h = normal-within (s .args .t1) (s .pre) (w .result) (w .ensures) (l .loop .left) (l .loop .waiting)
+    let h = normal-within (s .args .t1) (s .pre) (w .result) (w .ensures) (l .loop .left) (l .loop .unplaced)
     (l .loop .inv .2) (e .before .if1 .entry) (taken (e .before)) (e .if2 .left) (held e) _
     (e .before .before .first-low .result .changed) (e .before .before .first-low .result .passing) (e .before .before .first-low .ensures .1) in
     h
@@ -303,15 +303,15 @@ loop-again c =
     let p = placing-turn t (s .pre) (l .loop .order) (l .loop .left) (l .loop .place) (l .loop .inv .1)
     (turn (e .before) .loop-test .taken) (mine e) (is e) (some e)
     (gone .result) (c .before .how-many2 .result) (gone .ensures) (c .before .how-many2 .ensures) in
-    let near = normal-within t (s .pre) (w .result) (w .ensures) (l .loop .left) (l .loop .waiting)
+    let near = normal-within t (s .pre) (w .result) (w .ensures) (l .loop .left) (l .loop .unplaced)
     (l .loop .inv .2) (e .before .if1 .entry) (taken (e .before)) (e .if2 .left) (held e) _ (low .result .changed) (low .result .passing) (low .ensures .1) in (
       omega (arith, p .few, facts _ (s .pre) .few),
       p,
-      rw (gone .ensures, c .before .before .without2 .ensures) (waiting-next t (s .pre) (w .result) (w .ensures) (l .loop .left) (l .loop .waiting)
+      rw (gone .ensures, c .before .before .without2 .ensures) (unplaced-next t (s .pre) (w .result) (w .ensures) (l .loop .left) (l .loop .unplaced)
           (l .loop .inv .2) (e .before .if1 .entry) (taken (e .before)) (e .if2 .left) (held e)),
-      rw (gone .ensures, one-shl _ near) (normal-next t (s .pre) (w .result) (w .ensures) (l .loop .left) (l .loop .waiting)
+      rw (gone .ensures, one-shl _ near) (normal-next t (s .pre) (w .result) (w .ensures) (l .loop .left) (l .loop .unplaced)
           (l .loop .inv .2) (e .before .if1 .entry) (taken (e .before)) (e .if2 .left) (held e) _ (low .result .changed) (low .result .passing) (low .ensures .1)),
-      rw (gone .ensures, one-shl (at (high .slow-period) (mine e)) (slow-within e)) (degraded-next t (s .pre) (w .result) (w .ensures) (l .loop .left) (l .loop .waiting)
+      rw (gone .ensures, one-shl (at (high .slow-period) (mine e)) (slow-within e)) (degraded-next t (s .pre) (w .result) (w .ensures) (l .loop .left) (l .loop .unplaced)
           (l .loop .inv .2) (e .before .if1 .entry) (taken (e .before)) (e .if2 .left) (held e)
           (high .slow-period) (high .slow-changed) (high .slow-passing) (known (e .before))),
     )

@@ -90,7 +90,7 @@ module _ (c : tie.Else1 Inv-loop μ-loop) where
   mine-range : (1 ≤ getD (start head .args .sequence .now) (found - 1) 0) × (getD (start head .args .sequence .now) (found - 1) 0 ≤ 64)
   mine-range =
       let a = start head .args in
-      let r = row-range (a .queue .now) (a .n) (start head .pre .1 .columns .rows) (there .stands .place) (there .stands .waits .0) in
+      let r = row-range (a .queue .now) (a .n) (start head .pre .1 .columns .rows) (there .stands .place) (there .stands .left-at .0) in
       (omega (arith, is, r .0), omega (arith, is, r .1))
 
 sub-row : tie.Need-sub-row Inv-loop μ-loop

@@ -12,10 +12,10 @@ use Rattle.planner.proofs.open_entries.Statement.{statement}
 use Rattle.planner.proofs.open_entries.Tie as tie
 
 abbrev Inv-loop : tie.InvT-loop
-Inv-loop free follows entry n left waiting tries₀ k₀ tries k = (k ≤ n) × (tries ≡ openTo follows entry left waiting k)
+Inv-loop free follows entry n left unplaced tries₀ k₀ tries k = (k ≤ n) × (tries ≡ openTo follows entry left unplaced k)
 
 abbrev μ-loop : tie.MeasureT-loop
-μ-loop free follows entry n left waiting tries₀ k₀ tries k = n - k
+μ-loop free follows entry n left unplaced tries₀ k₀ tries k = n - k
 
 -- the places of a turn, each from a later one
 abbrev turn-of : tie.After-w Inv-loop μ-loop → tie.In-loop Inv-loop μ-loop
@@ -88,10 +88,10 @@ loop-again c =
       ⊎-elim
           (λ v. let z : seat + 1 - 1 ≡ seat = omega arith in
           v .5 ∙ v .4 .ensures ∙ ap (cleared (l .tries)) z ∙ ap (λ (m : ℕ). cleared m seat) (l .inv .1)
-          ∙ sym (open-follower follows entry (a .left) (a .waiting) (l .k) (omega (arith, v .0 .taken)) (sym (v .1 .ensures) ∙ v .2 .taken)))
+          ∙ sym (open-follower follows entry (a .left) (a .unplaced) (l .k) (omega (arith, v .0 .taken)) (sym (v .1 .ensures) ∙ v .2 .taken)))
           (λ w. ⊎-elim
-          (λ v. v .3 ∙ l .inv .1 ∙ sym (open-placed follows entry (a .left) (a .waiting) (l .k) (sym (v .1 .ensures) ∙ v .2 .left)))
-          (λ v. v .1 ∙ l .inv .1 ∙ sym (open-other follows entry (a .left) (a .waiting) (l .k) (v .0 .left)))
+          (λ v. v .3 ∙ l .inv .1 ∙ sym (open-placed follows entry (a .left) (a .unplaced) (l .k) (sym (v .1 .ensures) ∙ v .2 .left)))
+          (λ v. v .1 ∙ l .inv .1 ∙ sym (open-other follows entry (a .left) (a .unplaced) (l .k) (v .0 .left)))
           w)
           (c .if2 .came),
     )
@@ -101,7 +101,7 @@ returns-2 c =
     let s = c .before .before .before in
     let l = c .before .loop in
     let e : l .k ≡ s .args .n = omega (arith, c .loop-test .left) in
-    rw (c .before .before .if1 .left) (l .inv .1 ∙ ap (openTo (now (s .args .follows)) (now (s .args .entry)) (s .args .left) (s .args .waiting)) e)
+    rw (c .before .before .if1 .left) (l .inv .1 ∙ ap (openTo (now (s .args .follows)) (now (s .args .entry)) (s .args .left) (s .args .unplaced)) e)
 
 pub open-entries-spec : {M : Type 1} → statement M
 open-entries-spec =
