@@ -115,7 +115,7 @@ module _ (t : Table) (accepted : Accepted t) where
           no-nine = calls-number t o cs fresh;
           kept = kept-paper;
           promised = promised-paper;
-          held = held-paper;
+          held = λ i u r some h q. let p = held-paper i u r some h q in (p .0, omega (arith, p .1));
           waited = waited-paper;
         })
 
