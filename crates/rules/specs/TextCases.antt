@@ -163,8 +163,8 @@ texts =
     ∷ text "       2       2       1       0\n       0       1       2       0       0       0\n       0       1       2       1       0       1\n" "      15       0\n"
     ∷ text "       1       2       1       0\n       0       1       1       0       2       1\n" "      12       0\n"
     ∷ text "       1       2       1       0\n       0       1       1       0       0      01\n" "       2       0\n"
-    ∷ rows64 "      64       2       1       0\n" "       0       1       1       2       0       0\n" [] "       5       0\n"
-    ∷ rows64 "      64       2       1       0\n" "       0       1       1       2       0       0\n" (10 ∷ []) "       1       0\n"
+    ∷ rows64 "      64       2       1       0\n" "       0       1       1       x       0       0\n" [] "       2       0\n"
+    ∷ rows64 "      64       2       1       0\n" "       0       1       1       x       0       0\n" (10 ∷ []) "       1       0\n"
     ∷ []
 
 -- sheets and what the reader makes of them (rule 6.8)
