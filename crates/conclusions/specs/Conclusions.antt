@@ -23,7 +23,8 @@ use Rattle.rules.specs.Program.{programText}
 use Rattle.rules.specs.Reports.{figure}
 use Rattle.rules.specs.Rows.{at}
 use Rattle.rules.specs.Sheets.{isLine, numberAt, readOf}
-use Rattle.rules.specs.Slots.{fresh, after}
+use Rattle.rules.specs.Running.{runAfter}
+use Rattle.rules.specs.Slots.{fresh, chosen, after}
 use Rattle.rules.specs.Tables.{checkTable, Accepted}
 use Rattle.rules.specs.Worst.{horizon, worstSpeed, slack}
 use Rattle.record.specs.Answers.{slotSaid, forwardSaid}
@@ -432,8 +433,7 @@ pub record KeptWords (table state : List ℕ) (i : ℕ) : Type 0 where
   pub upTo : getD state (128 + i) 0 ≤ getD table (131 + i) 0
 
 -- In the words of a state, a row that has used a slot follows none, or one that is closed, and that closing slot and the slots used are together no more than
--- the clock; and what a row of a level other than 0 follows has then got all its work (rule 9.19). That each slot is given to a row that does not wait is in
--- what a firmware writer is told of it (`ReadyIn`).
+-- the clock; and what a row of a level other than 0 follows has then got all its work (rule 9.19).
 pub record WaitedWords (table state : List ℕ) : Type 0 where
   pub closed : (i : ℕ) → 1 ≤ i → i ≤ getD table 0 0 → (getD table (323 + i) 0 ≡ 0 → ⊥) → 1 ≤ getD state (64 + i) 0
       → 1 ≤ getD state (128 + getD table (323 + i) 0) 0
@@ -464,6 +464,11 @@ pub record PenEngineer (table order start : List ℕ) (cs : List Call) : Type 0 
       × (getD (listWords table order cs start .state) (128 + i) 0 ≤ getD table (131 + i) 0)
   pub pen : (i : ℕ) → 1 ≤ i → i ≤ getD table 0 0 → (getD table (195 + i) 0 ≡ 0 → ⊥) → 1 ≤ getD (listWords table order cs start .state) (128 + i) 0
       → getD (listWords table order cs start .state) i 0 ≡ getD table (67 + i) 0
+  -- slot u of the run on paper, up to the coming one, goes to a follower only if the row that it follows was closed by clock u (rule 9.19)
+  pub slots : (i u : ℕ) → 1 ≤ i → i ≤ getD table 0 0 → (getD table (323 + i) 0 ≡ 0 → ⊥) → u ≤ getD (listWords table order cs start .state) 0 0
+      → chosen (tableIn table) order (runAfter (tableIn table) order (supplyAt cs) u) ≡ i
+      → (1 ≤ getD (listWords table order cs start .state) (128 + getD table (323 + i) 0) 0)
+      × (getD (listWords table order cs start .state) (128 + getD table (323 + i) 0) 0 ≤ u)
   pub waits : WaitedWords table (listWords table order cs start .state)
 
 -- a number and a value as an answer (rules 9.7, 9.8)

@@ -14,7 +14,7 @@ use Rattle.rules.specs.Meaning.{Serves}
 use Rattle.rules.specs.Orders.{isOrder}
 use Rattle.rules.specs.Rows.{at}
 use Rattle.rules.specs.Running.{runAfter}
-use Rattle.rules.specs.Slots.{State}
+use Rattle.rules.specs.Slots.{State, chosen}
 use Rattle.rules.specs.Tables.{Accepted}
 use Rattle.theory.specs.Facts.{Row, facts, is-row, followed-row}
 use Rattle.theory.specs.Results.{running-low, running-high}
@@ -167,8 +167,8 @@ module _ (table order : List ℕ) (tables : length table ≡ 388) where
     waited : Waited t order cs (makeAll cs (freshRun t order))
     waited = rw (claim .started order passes) at (concluded demand-3 t accepted cs .waits order passes)
 
-    -- a follower that has used a slot, and the row that it follows
-    module _ (i : ℕ) (l : 1 ≤ i) (h : i ≤ t .n) (n : getD table (323 + i) 0 ≡ 0 → ⊥) (used : 1 ≤ getD (stateWords end) (64 + i) 0) where
+    -- a follower, and the row that it follows
+    module _ (i : ℕ) (l : 1 ≤ i) (h : i ≤ t .n) (n : getD table (323 + i) 0 ≡ 0 → ⊥) where
       abbrev w : ℕ
       w = at (t .follows) i
 
@@ -181,31 +181,35 @@ module _ (table order : List ℕ) (tables : length table ≡ 388) where
       row : Row t w
       row = followed-row t (facts t accepted) i (record { from = l; upTo = h }) some
 
-      used-end : 1 ≤ at (end .used) i
-      used-end = omega (arith, used, end-words i l (few i h) .used)
+      closing-word : getD (stateWords end) (128 + w) 0 ≡ at (end .closing) w
+      closing-word = end-words w some (few w (row .upTo)) .closing
 
-      followed-closed : 1 ≤ getD (stateWords end) (128 + getD table (323 + i) 0) 0
-      followed-closed =
-          rw w-is (omega (arith, end-words w some (few w (row .upTo)) .closing, waited .closed i l h (λ z. n (w-is ∙ z)) used-end))
+      -- a slot that goes to it
+      followed-by : (u : ℕ) → u ≤ getD (stateWords end) 0 0 → chosen t order (runAfter t order (supplyAt cs) u) ≡ i
+          → (1 ≤ getD (stateWords end) (128 + getD table (323 + i) 0) 0) × (getD (stateWords end) (128 + getD table (323 + i) 0) 0 ≤ u)
+      followed-by u c q =
+          let s = waited .slots i u l h (λ z. n (w-is ∙ z)) (omega (arith, c, clock-word end)) q in
+          rw w-is (omega (arith, closing-word, s .0), omega (arith, closing-word, s .1))
 
-      followed-before : getD (stateWords end) (128 + getD table (323 + i) 0) 0 + getD (stateWords end) (64 + i) 0 ≤ getD (stateWords end) 0 0
-      followed-before =
-          rw w-is
-          (omega (
-            arith,
-            end-words w some (few w (row .upTo)) .closing,
-            end-words i l (few i h) .used,
-            clock-word end,
-            waited .after i l h (λ z. n (w-is ∙ z)) used-end,
-          ))
+      -- and one that has used a slot
+      module _ (used : 1 ≤ getD (stateWords end) (64 + i) 0) where
+        used-end : 1 ≤ at (end .used) i
+        used-end = omega (arith, used, end-words i l (few i h) .used)
 
-      followed-done : (getD table (195 + i) 0 ≡ 0 → ⊥) → getD (stateWords end) (getD table (323 + i) 0) 0 ≡ getD table (67 + getD table (323 + i) 0) 0
-      followed-done high =
-          let v = table-words table w some (few w (row .upTo)) in
-          rw w-is
-          (end-words w some (few w (row .upTo)) .got
-          ∙ waited .done i l h (λ z. n (w-is ∙ z)) (λ z. high (table-words table i l (few i h) .level ∙ z)) used-end
-          ∙ sym (v .work))
+        followed-closed : 1 ≤ getD (stateWords end) (128 + getD table (323 + i) 0) 0
+        followed-closed = rw w-is (omega (arith, closing-word, waited .closed i l h (λ z. n (w-is ∙ z)) used-end))
+
+        followed-before : getD (stateWords end) (128 + getD table (323 + i) 0) 0 + getD (stateWords end) (64 + i) 0 ≤ getD (stateWords end) 0 0
+        followed-before =
+            rw w-is (omega (arith, closing-word, end-words i l (few i h) .used, clock-word end, waited .after i l h (λ z. n (w-is ∙ z)) used-end))
+
+        followed-done : (getD table (195 + i) 0 ≡ 0 → ⊥) → getD (stateWords end) (getD table (323 + i) 0) 0 ≡ getD table (67 + getD table (323 + i) 0) 0
+        followed-done high =
+            let v = table-words table w some (few w (row .upTo)) in
+            rw w-is
+            (end-words w some (few w (row .upTo)) .got
+            ∙ waited .done i l h (λ z. n (w-is ∙ z)) (λ z. high (table-words table i l (few i h) .level ∙ z)) used-end
+            ∙ sym (v .work))
 
     -- so it is through every list of calls, by a planned order or any other
     pub waited-words : WaitedWords table (listWords table order cs start .state)
@@ -231,6 +235,7 @@ module _ (table order : List ℕ) (tables : length table ≡ 388) where
           part = λ i l h n d w. rw listed (part-words i l h (deadlines .part serves i l h (sym (table-words table i l (few i h) .level) ∙ n) (reached i l h d) (supplied i _ l h w)));
           preview = λ i l h n. rw listed (previewed i l h (sym (table-words table i l (few i h) .level) ∙ n));
           pen = λ i l h n. rw listed (pens i l h (λ z. n (table-words table i l (few i h) .level ∙ z)));
+          slots = λ i u l h n. rw listed (followed-by i l h n u);
           waits = waited-words;
         }
 

@@ -2,14 +2,16 @@
 -- rows are closed, when a follower has no slot, which orders break a wait, the K that is read, and when 11, 13, 14 and 15 are said.
 use Prim.Native.Nat.{ℕ, _+_, _≤_, _<_}
 use mathlib.Core.Bool.{cond}
-use mathlib.Core.Logic.{⊎-elim}
+use mathlib.Core.Logic.{_⊎_, inl, inr, ⊎-elim}
 use mathlib.Core.Path.{_≡_, refl, sym, ap, _∙_}
 use mathlib.Core.List.{List}
 use native.Mathlib.Omega.{arith}
 use borrow.Author.Tests.{le-leb, lt-leb, lt-ltb, le-ltb}
 use lib.Dec.{ltb, leb}
 use lib.ListN.{getD}
-use Rattle.rules.specs.Calls.{Call}
+use Rattle.rules.specs.Calls.{Call, supplyAt}
+use Rattle.rules.specs.Running.{runAfter}
+use Rattle.rules.specs.Slots.{chosen}
 use Rattle.rules.specs.Sheets.{numberAt}
 use Rattle.rules.specs.Tables.{Accepted}
 use Rattle.theory.specs.Tests.{by-ltb, by-leb, by-eqb}
@@ -115,6 +117,12 @@ module _ (table order start : List ℕ) (cs : List Call) (p : PenEngineer table 
   module _ (follows : getD table (323 + i) 0 ≡ 0 → ⊥) where
     abbrev followed : ℕ
     followed = getD table (323 + i) 0
+
+    -- beside a row that is open, or closed only after slot u began, no such slot goes to its follower, nor does the coming one
+    pub no-slot : (u : ℕ) → u ≤ getD end 0 0 → (getD end (128 + followed) 0 ≡ 0) ⊎ (u < getD end (128 + followed) 0)
+        → chosen (tableIn table) order (runAfter (tableIn table) order (supplyAt cs) u) ≡ i → ⊥
+    no-slot u c (inl still) q = omega (arith, still, p .slots i u l h follows c q .0)
+    no-slot u c (inr later) q = omega (arith, later, p .slots i u l h follows c q .1)
 
     pub held-back : getD end (128 + followed) 0 ≡ 0 → getD end (64 + i) 0 ≡ 0
     held-back still = by-eqb (getD end (64 + i) 0) 0 (λ _ e. e) (λ _ e. absurd (omega (arith, still, p .waits .closed i l h follows (omega arith))))

@@ -97,6 +97,8 @@ runs =
     ∷ told preempted (3 ∷ 2 ∷ 1 ∷ []) 0 (forward (replicate 6 1) ∷ []) (0 ∷ []) (6 ∷ []) (6 ∷ 3 ∷ 3 ∷ 5 ∷ 1 ∷ 1 ∷ 6 ∷ 2 ∷ 2 ∷ 3 ∷ [])
     ∷ gives (chosen preempted (2 ∷ 1 ∷ 3 ∷ []) fresh) 1
     ∷ gives (chosen (two 0 1 0 1 1) (2 ∷ 1 ∷ []) fresh) 1
+    ∷ gives (chosen (two 0 1 0 0 1) (2 ∷ 1 ∷ []) fresh) 1
+    ∷ gives (chosen (chain 1 1) (3 ∷ 1 ∷ 2 ∷ []) fresh) 1
     ∷ told (steady (job 0 3 2 1 ∷ following 0 1 9 1 1 ∷ [])) (2 ∷ 1 ∷ []) 0 (forward (replicate 4 1) ∷ []) (0 ∷ []) (4 ∷ []) (4 ∷ 3 ∷ 3 ∷ 3 ∷ 1 ∷ 1 ∷ 4 ∷ [])
     ∷ yes (isWaiting preempted fresh 2)
     ∷ yes (not (isReady preempted fresh 2))
@@ -116,13 +118,18 @@ checks =
     ∷ refused (steady (following 0 1 9 0 2 ∷ job 0 1 9 0 ∷ [])) 13
     ∷ refused (two 0 0 0 0 2) 13
     ∷ refused (two 0 0 0 0 3) 13
+    ∷ refused (chain 1 3) 13
     ∷ refused (two 0 0 0 0 65) 13
     ∷ refused (two 0 0 0 0 4294967295) 13
     ∷ accepted (two 0 0 0 0 1)
     ∷ accepted (two 0 0 1 0 1)
     ∷ refused (two 1 0 0 0 1) 14
     ∷ refused (two 1 1 0 1 1) 14
+    ∷ refused (two 1 1 0 0 1) 14
+    ∷ refused (steady (job 1 1 9 0 ∷ job 0 1 9 0 ∷ following 0 1 9 0 1 ∷ [])) 14
     ∷ refused (two 0 0 0 1 1) 15
+    ∷ refused (two 0 0 1 1 1) 15
+    ∷ refused (steady (job 0 1 9 0 ∷ job 0 1 9 1 ∷ following 0 1 9 1 1 ∷ [])) 15
     ∷ accepted (two 0 1 0 0 1)
     ∷ accepted (two 0 1 0 1 1)
     ∷ accepted (two 0 0 0 1 0)
@@ -150,7 +157,9 @@ checks =
     ∷ disordered (chain 1 2) (2 ∷ 1 ∷ 3 ∷ [])
     ∷ disordered (chain 1 2) (1 ∷ 3 ∷ 2 ∷ [])
     ∷ disordered (chain 1 1) (2 ∷ 1 ∷ 3 ∷ [])
+    ∷ disordered (chain 1 1) (3 ∷ 1 ∷ 2 ∷ [])
     ∷ disordered (two 0 1 0 1 1) (2 ∷ 1 ∷ [])
+    ∷ disordered (two 0 1 0 0 1) (2 ∷ 1 ∷ [])
     ∷ ordered (chain 1 1) (1 ∷ 3 ∷ 2 ∷ [])
     ∷ ordered (chain 0 0) (3 ∷ 2 ∷ 1 ∷ [])
     ∷ yes (isAbove 1 2 (3 ∷ 1 ∷ 2 ∷ []))
