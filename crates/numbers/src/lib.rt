@@ -46,6 +46,9 @@ pub fn refusal_number(why: Refusal) -> u32
         Refusal::NotLower => 13,
         Refusal::ReleasedLater => 14,
         Refusal::FollowsLow => 15,
+        Refusal::NotCorrect => 16,
+        Refusal::RowOpen => 17,
+        Refusal::ReleasedBefore => 18,
     }
 }
 

@@ -22,7 +22,7 @@ use Rattle.rules.specs.Rows.{at, isLow, rowsOf, workOf, deadlineOf}
 use Rattle.rules.specs.Tables.{passed, zeroTable}
 use Rattle.rules.specs.Orders.{checkBoth}
 use Rattle.rules.specs.Running.{isDue, closeLate, runSlot}
-use Rattle.rules.specs.Slots.{State, fresh, isOver, chosen, slot}
+use Rattle.rules.specs.Slots.{State, startAt, fresh, isOver, chosen, slot}
 use Rattle.columns.specs.Dues.{firstDue}
 use Rattle.rules.specs.Calls.{lastClock}
 
@@ -58,6 +58,10 @@ isSound r =
     && leb (r .clock) lastClock
     && all (rowSound r) (rowsOf (r .table))
     && tailSound r
+
+-- a table and an order at clock u, in slots, with every row open and empty (rules 22.4, 22.7)
+abbrev pub startRun : Table → List ℕ → ℕ → Run
+startRun t o u = recordOf t o (startAt u)
 
 -- a table and an order before their first slot: the state is the one of zeros (rules 2.13, 8.2)
 abbrev pub freshRun : Table → List ℕ → Run

@@ -6,7 +6,7 @@ ghost use mathlib.Core.Bool.{true};
 ghost use Prim.Native.Nat.{_≤_, _<_};
 ghost use Rattle.rules.specs.Tables.{passed, zeroTable};
 ghost use Rattle.rules.specs.Orders.{checkBoth};
-ghost use Rattle.record.specs.Records.{tailSound, isSound, freshRun, freshOf, workedRun, closedRun, dueOf, comingSlot, oneSlot};
+ghost use Rattle.record.specs.Records.{tailSound, isSound, startRun, freshOf, workedRun, closedRun, dueOf, comingSlot, oneSlot};
 use rules::Check;
 use rules::Refusal;
 use rules::Table;
@@ -119,15 +119,16 @@ pub fn is_sound(r: Run) -> bool
     tail_sound(r)
 }
 
-// The record of a table and an order before their first slot: clock 0, nothing got, nothing used, every row open (rules 2.13, 8.2).
-fn start(t: Table, order: [u8; 64]) -> Run
-    ensures { λ r. ⌜ r ≡ freshRun t order ⌝ }
+// The record of a table and an order at a clock, in slots, with nothing got, nothing used and every row open: before their first slot, or as a commit
+// leaves it (rules 2.13, 8.2, 22.4).
+pub fn start(t: Table, order: [u8; 64], clock: u32) -> Run
+    ensures { λ r. ⌜ r ≡ startRun t order clock ⌝ }
 {
     let zeros = [0u32; 64];
     Run {
         table: t,
         order: order,
-        clock: 0,
+        clock: clock,
         got: zeros,
         used: zeros,
         closing: zeros,
@@ -135,7 +136,7 @@ fn start(t: Table, order: [u8; 64]) -> Run
 }
 
 // The table of zeros.
-fn zero_table() -> Table
+pub fn zero_table() -> Table
     ensures { λ t. ⌜ t ≡ zeroTable ⌝ }
 {
     let zeros = [0u32; 64];
@@ -160,7 +161,7 @@ pub fn fresh(t: Table, order: [u8; 64]) -> FreshRun
     let check = checks::check_both(t, order);
     match check {
         Check::Passed => {
-            let run = start(t, order);
+            let run = start(t, order, 0);
             FreshRun {
                 check: Check::Passed,
                 run: run,
@@ -169,7 +170,7 @@ pub fn fresh(t: Table, order: [u8; 64]) -> FreshRun
         Check::Refused(why) => {
             let none = zero_table();
             let zeros = [0u8; 64];
-            let run = start(none, zeros);
+            let run = start(none, zeros, 0);
             FreshRun {
                 check: Check::Refused(why),
                 run: run,

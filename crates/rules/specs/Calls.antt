@@ -3,7 +3,7 @@ use Prim.Native.Nat.{ℕ, _+_}
 use mathlib.Core.Bool.{cond}
 use mathlib.Core.List.{List, [], _∷_, _++_}
 use lib.Dec.{ltb}
-use lib.ListN.{getD}
+use lib.ListN.{getD, replicate}
 use Rattle.rules.specs.declared.Table.{Table}
 use Rattle.rules.specs.Running.{runSlot}
 use Rattle.rules.specs.Slots.{State, chosen}
@@ -69,7 +69,12 @@ unfoldable pub allSupplies : List Call → List ℕ
 allSupplies [] = []
 allSupplies (c ∷ cs) = suppliesOf c ++ allSupplies cs
 
--- What slot u supplied, in work units: the supply taken while the clock showed u (rule 9.15). From clock 0 on each supply is
--- taken in turn, one at each clock, and at the last clock all are refused; so it is the u-th of all.
-unfoldable pub supplyAt : List Call → ℕ → ℕ
-supplyAt cs u = getD (allSupplies cs) u 0
+-- What slot u supplied, in work units, where the first call is made at clock k: the supply taken while the clock showed u (rule 9.15). From clock
+-- k on each supply is taken in turn, one at each clock, and at the last clock all are refused; so it is the one that comes u - k supplies after the
+-- first. The slots before clock k take none of these supplies, and count as 0.
+unfoldable pub supplyFrom : ℕ → List Call → ℕ → ℕ
+supplyFrom k cs u = getD (replicate k 0 ++ allSupplies cs) u 0
+
+-- what slot u supplied, where the first call is made at clock 0: the u-th of all supplies (rule 9.15)
+abbrev pub supplyAt : List Call → ℕ → ℕ
+supplyAt cs u = supplyFrom 0 cs u

@@ -15,7 +15,7 @@ use Rattle.rules.specs.declared.Table.{Table}
 use Rattle.rules.specs.declared.Verdict.{Verdict}
 use Rattle.rules.specs.declared.Refusal.the-variants.{ClockOver, Unsound, NoRoom, Loading}
 use Rattle.rules.specs.declared.Check.the-variants.{Passed}
-use Rattle.rules.specs.Calls.{Call, one, forward, Said, tellOne, tellForward, tellAll, allSupplies, supplyAt}
+use Rattle.rules.specs.Calls.{Call, one, forward, Said, tellOne, tellForward, tellAll, allSupplies, supplyFrom, supplyAt}
 use Rattle.rules.specs.Correct.{earliest, Window}
 use Rattle.rules.specs.Choice.{planOf, padded, lowest, unfollowed, passes, sequence, choice, fill, taker, word}
 use Rattle.rules.specs.Judge.{column, tableOf, judgeOf, tightest}
@@ -397,7 +397,7 @@ allHold [] = true
 allHold (c ∷ cs) = holds c && allHold cs
 
 pub cases-hold : T (allHold (starred ++ choices ++ judgements ++ checks ++ runs ++ parts))
-unfolding planOf padded unfollowed passes sequence choice fill taker word tableOf judgeOf tightest workSlots refusalNumber checkNumber plannedNumber rowsLeft verdictNumber verdictYes verdictRow verdictSlack isArrangement isOrder checkOrder checkBoth fresh isPending isWaiting isReady chosen isOver brought serve slot rowOk tailOk promiseOk checkWait checkTable horizon worstFinish promisedMoment slack meets tellOne tellForward tellAll closeLate runSlot allSupplies supplyAt earliest
+unfolding planOf padded unfollowed passes sequence choice fill taker word tableOf judgeOf tightest workSlots refusalNumber checkNumber plannedNumber rowsLeft verdictNumber verdictYes verdictRow verdictSlack isArrangement isOrder checkOrder checkBoth fresh isPending isWaiting isReady chosen isOver brought serve slot rowOk tailOk promiseOk checkWait checkTable horizon worstFinish promisedMoment slack meets tellOne tellForward tellAll closeLate runSlot allSupplies supplyFrom earliest
 cases-hold = tt
 
 -- an accepted table is one that the checks of a table pass, and no other (rule 5.5)

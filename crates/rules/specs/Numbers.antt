@@ -3,7 +3,7 @@ use Prim.Native.Nat.{ℕ}
 use mathlib.Core.Bool.{Bool, true, false}
 use lib.IntN.{ℤ, pos}
 use Rattle.rules.specs.declared.Refusal.{Refusal}
-use Rattle.rules.specs.declared.Refusal.the-variants.{Length, Malformed, RowCount, Speeds, RowLimits, NotAnOrder, ClockOver, Unsound, NoRoom, Loading, Promised, NotLower, ReleasedLater, FollowsLow}
+use Rattle.rules.specs.declared.Refusal.the-variants.{Length, Malformed, RowCount, Speeds, RowLimits, NotAnOrder, ClockOver, Unsound, NoRoom, Loading, Promised, NotLower, ReleasedLater, FollowsLow, NotCorrect, RowOpen, ReleasedBefore}
 use Rattle.rules.specs.declared.Check.{Check}
 use Rattle.rules.specs.declared.Check.the-variants as Checks
 use Rattle.rules.specs.declared.Planned.{Planned}
@@ -29,8 +29,11 @@ refusalNumber Promised = 12
 refusalNumber NotLower = 13
 refusalNumber ReleasedLater = 14
 refusalNumber FollowsLow = 15
+refusalNumber NotCorrect = 16
+refusalNumber RowOpen = 17
+refusalNumber ReleasedBefore = 18
 
--- the number of the reader, of the writer, of the report, of the checks of tables and orders, of the fresh record: 0 where no check refuses (rule 10.0)
+-- the number of the reader, of the writer, of the report, of the checks of tables and orders, of the fresh record, of a commit: 0 where no check refuses (rule 10.0)
 unfoldable pub checkNumber : Check → ℕ
 unfolding refusalNumber
 checkNumber Checks.Passed = 0

@@ -15,9 +15,13 @@ pub record State : Type 0 where
   pub used : List ℕ
   pub closing : List ℕ
 
+-- the state at clock u, in slots, with zeros for all rows: every one is open and empty (rules 2.13, 22.4)
+abbrev pub startAt : ℕ → State
+startAt u = record { clock = u; got = replicate 64 0; used = replicate 64 0; closing = replicate 64 0 }
+
 -- the state at the start of a run: zeros (rule 2.13)
 unfoldable pub fresh : State
-fresh = record { clock = 0; got = replicate 64 0; used = replicate 64 0; closing = replicate 64 0 }
+fresh = startAt 0
 
 -- row i is a row of the table, released, and open (rules 1.5, 2.2)
 unfoldable pub isPending : Table → State → ℕ → Bool

@@ -28,7 +28,7 @@ pub struct Table {
     pub follows: [u32; 64],
 }
 
-// Why a call was refused (rules 10.1 to 10.6, 10.8 to 10.15). The number of each is given by specs/Numbers.
+// Why a call was refused (rules 10.1 to 10.6, 10.8 to 10.18). The number of each is given by specs/Numbers.
 pub enum Refusal {
     Length,
     Malformed,
@@ -44,6 +44,9 @@ pub enum Refusal {
     NotLower,
     ReleasedLater,
     FollowsLow,
+    NotCorrect,
+    RowOpen,
+    ReleasedBefore,
 }
 
 // A check passed, or what it was refused for (rule 11.1).
@@ -75,6 +78,14 @@ pub enum Planned {
 // The planner's answer with the order made, all zero unless it was (rules 10.0, 10.7).
 pub struct Planning {
     pub answer: Planned,
+    pub order: [u8; 64],
+}
+
+// What asking answers of a sheet: the reader's refusal, or what the planner answers of its table; and the table and the order proposed, both
+// all zero unless an order was made (rule 22.2).
+pub struct Asking {
+    pub answer: Planned,
+    pub table: Table,
     pub order: [u8; 64],
 }
 

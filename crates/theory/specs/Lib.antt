@@ -29,4 +29,6 @@ pub mod Runs
 pub mod Results
 pub mod Lost
 pub mod Seven
+pub mod Starting
 pub mod Serving
+pub mod Closed

@@ -12,29 +12,26 @@ use Rattle.rules.specs.declared.Table.{Table}
 use Rattle.rules.specs.Correct.{KeptIn, earliest, Window}
 use Rattle.rules.specs.Rows.{at, isRow, isLow, deadlineOf, promisedOf}
 use Rattle.rules.specs.Running.{runSlot, runAfter, RunServes}
-use Rattle.rules.specs.Slots.{State, chosen}
+use Rattle.rules.specs.Slots.{State}
 use Rattle.rules.specs.Tables.{Accepted}
 use Rattle.rules.specs.Worst.{worstSpeed}
-use Rattle.theory.specs.Cells.{Cell, cellAt, chosen-ready}
+use Rattle.theory.specs.Cells.{Cell, cellAt}
 use Rattle.theory.specs.Ends.{running, stateBy, running-is, clock-run}
 use Rattle.theory.specs.Facts.{Row, row-is, TableFacts, facts}
-use Rattle.theory.specs.Finishes.{earliest-first}
 use Rattle.theory.specs.Lost.{lost, slot-lost}
 use Rattle.theory.specs.Part.{got-grows}
+use Rattle.theory.specs.Starting.{early-idle}
 use Rattle.theory.specs.Sustain.{closed-stays}
-use Rattle.theory.specs.Tests.{by-bool, by-eqb, by-leb, and-left, and-right}
+use Rattle.theory.specs.Tests.{by-bool, by-leb, and-left, and-right}
 use Rattle.theory.specs.Verdict.{KeptCell}
 
 -- before the earliest release every slot is idle, so that its supply is lost
 early-lost : (t : Table) (o : List ℕ) (s : State) → s .clock < earliest t → lost t o s ≡ true
 unfolding lost
-early-lost t o s h =
-    by-eqb (chosen t o s) 0
-    (λ e _. rw e)
-    (λ _ n. let q = chosen-ready t o s (chosen t o s) (omega arith) refl in absurd (omega (arith, q .released, earliest-first t (chosen t o s) (q .row))))
+early-lost t o s h = rw (early-idle t o s h)
 
 -- two courses that agree from the earliest release up to clock m make one run up to there
-same-window : (t : Table) (o : List ℕ) (σ τ : ℕ → ℕ) (m : ℕ) → ((u : ℕ) → earliest t ≤ u → u < m → τ u ≡ σ u) → (k : ℕ) → k ≤ m
+pub same-window : (t : Table) (o : List ℕ) (σ τ : ℕ → ℕ) (m : ℕ) → ((u : ℕ) → earliest t ≤ u → u < m → τ u ≡ σ u) → (k : ℕ) → k ≤ m
     → runAfter t o σ k ≡ runAfter t o τ k
 same-window t o σ τ m h zero p = refl
 same-window t o σ τ m h (suc k) p =

@@ -1,5 +1,6 @@
 -- Each arm is one case of the definition.
 use borrow.Author.Needs.{needs}
+use mathlib.Core.Path.{sym, ap}
 use Rattle.rules.specs.Numbers.{refusalNumber}
 use Rattle.numbers.proofs.refusal_number.Statement.{statement}
 use Rattle.numbers.proofs.refusal_number.Tie as tie
@@ -46,61 +47,82 @@ enum-told-13 c = search needs
 enum-told-14 : tie.Need-enum-told-14
 enum-told-14 c = search needs
 
+enum-told-15 : tie.Need-enum-told-15
+enum-told-15 c = search needs
+
+enum-told-16 : tie.Need-enum-told-16
+enum-told-16 c = search needs
+
+enum-told-17 : tie.Need-enum-told-17
+enum-told-17 c = search needs
+
 returns : tie.Need-returns
 unfolding refusalNumber
-returns c = search needs
+returns c = sym (ap refusalNumber (c .enum-told .given .1))
 
 returns-2 : tie.Need-returns-2
 unfolding refusalNumber
-returns-2 c = search needs
+returns-2 c = sym (ap refusalNumber (c .enum-told2 .given .1))
 
 returns-3 : tie.Need-returns-3
 unfolding refusalNumber
-returns-3 c = search needs
+returns-3 c = sym (ap refusalNumber (c .enum-told3 .given .1))
 
 returns-4 : tie.Need-returns-4
 unfolding refusalNumber
-returns-4 c = search needs
+returns-4 c = sym (ap refusalNumber (c .enum-told4 .given .1))
 
 returns-5 : tie.Need-returns-5
 unfolding refusalNumber
-returns-5 c = search needs
+returns-5 c = sym (ap refusalNumber (c .enum-told5 .given .1))
 
 returns-6 : tie.Need-returns-6
 unfolding refusalNumber
-returns-6 c = search needs
+returns-6 c = sym (ap refusalNumber (c .enum-told6 .given .1))
 
 returns-7 : tie.Need-returns-7
 unfolding refusalNumber
-returns-7 c = search needs
+returns-7 c = sym (ap refusalNumber (c .enum-told7 .given .1))
 
 returns-8 : tie.Need-returns-8
 unfolding refusalNumber
-returns-8 c = search needs
+returns-8 c = sym (ap refusalNumber (c .enum-told8 .given .1))
 
 returns-9 : tie.Need-returns-9
 unfolding refusalNumber
-returns-9 c = search needs
+returns-9 c = sym (ap refusalNumber (c .enum-told9 .given .1))
 
 returns-10 : tie.Need-returns-10
 unfolding refusalNumber
-returns-10 c = search needs
+returns-10 c = sym (ap refusalNumber (c .enum-told10 .given .1))
 
 returns-11 : tie.Need-returns-11
 unfolding refusalNumber
-returns-11 c = search needs
+returns-11 c = sym (ap refusalNumber (c .enum-told11 .given .1))
 
 returns-12 : tie.Need-returns-12
 unfolding refusalNumber
-returns-12 c = search needs
+returns-12 c = sym (ap refusalNumber (c .enum-told12 .given .1))
 
 returns-13 : tie.Need-returns-13
 unfolding refusalNumber
-returns-13 c = search needs
+returns-13 c = sym (ap refusalNumber (c .enum-told13 .given .1))
 
 returns-14 : tie.Need-returns-14
 unfolding refusalNumber
-returns-14 c = search needs
+returns-14 c = sym (ap refusalNumber (c .enum-told14 .given .1))
+
+returns-15 : tie.Need-returns-15
+unfolding refusalNumber
+returns-15 c = sym (ap refusalNumber (c .enum-told15 .given .1))
+
+returns-16 : tie.Need-returns-16
+unfolding refusalNumber
+returns-16 c = sym (ap refusalNumber (c .enum-told16 .given .1))
+
+returns-17 : tie.Need-returns-17
+unfolding refusalNumber
+returns-17 c = sym (ap refusalNumber (c .enum-told17 .given .1))
 
 pub refusal-number-spec : {M : Type 1} → statement M
 refusal-number-spec =
@@ -120,6 +142,9 @@ refusal-number-spec =
     enum-told-12
     enum-told-13
     enum-told-14
+    enum-told-15
+    enum-told-16
+    enum-told-17
     returns
     returns-2
     returns-3
@@ -133,4 +158,7 @@ refusal-number-spec =
     returns-11
     returns-12
     returns-13
-    returns-14)
+    returns-14
+    returns-15
+    returns-16
+    returns-17)

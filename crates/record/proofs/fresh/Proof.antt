@@ -1,6 +1,7 @@
 -- `record::fresh` meets its contract: each arm is one case of the check's answer, with the definition's record. Assumes nothing.
 use borrow.Author.Needs.{needs}
 use mathlib.Core.Path.{sym, _∙_}
+use Rattle.rules.specs.Slots.{fresh}
 use Rattle.record.specs.Records.{freshOf}
 use Rattle.record.proofs.fresh.Statement.{statement}
 use Rattle.record.proofs.fresh.Tie as tie
@@ -24,11 +25,11 @@ start-requires-2 : tie.Need-start-requires-2
 start-requires-2 c κs = search needs
 
 returns : tie.Need-returns
-unfolding freshOf
+unfolding freshOf fresh
 returns c = rw (sym (c .before .before .before .check-both .ensures) ∙ c .before .enum-told .given .1, c .start .ensures)
 
 returns-2 : tie.Need-returns-2
-unfolding freshOf
+unfolding freshOf fresh
 returns-2 c =
     rw (
       sym (c .before .before .before .before .before .check-both .ensures) ∙ c .before .before .before .check .given .1,

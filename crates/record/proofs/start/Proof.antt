@@ -1,11 +1,9 @@
 -- `record::start` meets its contract: the record that it makes is the definition's. Assumes nothing.
 use mathlib.Core.Path.{refl}
-use Rattle.rules.specs.Slots.{fresh}
 use Rattle.record.proofs.start.Statement.{statement}
 use Rattle.record.proofs.start.Tie as tie
 
 returns : tie.Need-returns
-unfolding fresh
 returns c = refl
 
 pub start-spec : {M : Type 1} → statement M
