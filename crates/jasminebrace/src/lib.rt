@@ -14,16 +14,19 @@ ghost use Rattle.rules.specs.Judge.{judgeOf, tableOf};
 ghost use Rattle.rules.specs.Numbers.{checkNumber, plannedNumber, rowsLeft, verdictNumber, verdictYes, verdictRow, verdictSlack};
 ghost use Rattle.rules.specs.Orders.{checkBoth};
 ghost use Rattle.rules.specs.Program.{programText};
+ghost use Rattle.rules.specs.Proposals.{askOf};
 ghost use Rattle.rules.specs.Reports.{reportOf};
 ghost use Rattle.rules.specs.Sheets.{readOf, writeOf};
 ghost use Rattle.rules.specs.Speeds.{searchOf, searchSheet};
 ghost use Rattle.record.specs.Answers.{slotSaid, forwardSaid};
 ghost use Rattle.record.specs.Records.{freshOf, comingSlot, oneSlot, forwardOver};
+ghost use Rattle.proposal.specs.Commits.{commitOf};
 ghost use Rattle.words.specs.Words.{tableIn, wordsOf, runIn, stateWords};
 ghost use Rattle.jasminebrace.specs.Finishes.{finishesOf, yesWord};
 ghost use Rattle.jasminebrace.specs.Packed.{packedOf};
 ghost use Rattle.jasminebrace.specs.Searches.{SearchTold};
 ghost use Rattle.jasminebrace.specs.Version.{version};
+use proposal::Proposal;
 use record::Run;
 use rules::Check;
 use rules::Row;
@@ -148,6 +151,32 @@ pub extern "C" fn jb_plan(table: &[u32; 388], order: &mut [u8; 64], left: &mut u
     let made = planning.order;
     let answer = planning.answer;
     let numbers = numbers::plan_numbers(answer);
+    *order = made;
+    *left = numbers.left;
+    numbers.number
+}
+
+// Asks for a proposal (rule 22.2): the table of a sheet and an order for it, both all zero where none is made. Gives the reader's number, or 0, or 7 with
+// the word of the rows left (rule 11.9).
+#[no_mangle]
+pub extern "C" fn jb_ask(
+    sheet: &[u8],
+    table: &mut [u32; 388],
+    order: &mut [u8; 64],
+    left: &mut u64,
+) -> u32
+    ensures { λ r. ⌜ (let asking = askOf (now (sheet .entry)) in
+        (r ≡ plannedNumber (asking .answer))
+        × (now (table .exit) ≡ wordsOf (asking .table))
+        × (now (order .exit) ≡ asking .order)
+        × (now (left .exit) ≡ rowsLeft (asking .answer))) ⌝ }
+{
+    let asking = proposal::ask(sheet);
+    let t = asking.table;
+    let made = asking.order;
+    let answer = asking.answer;
+    let numbers = numbers::plan_numbers(answer);
+    *table = words::words_of(t);
     *order = made;
     *left = numbers.left;
     numbers.number
@@ -397,6 +426,44 @@ pub extern "C" fn jb_forward(
     *state = words::state_words(reached);
     *worked = numbers.value;
     numbers.number
+}
+
+// Commits a table and an order to a run record (rules 22.3 to 22.5): the record has them, its rows are open and empty, and its clock stays. On a refusal the
+// record stays as it was. Gives the number of the commit's checks (rule 11.10).
+#[no_mangle]
+pub extern "C" fn jb_commit(
+    table: &[u32; 388],
+    order: &[u8; 64],
+    run_table: &mut [u32; 388],
+    run_order: &mut [u8; 64],
+    run_state: &mut [u32; 193],
+) -> u32
+    ensures { λ r. ⌜ (let after = commitOf (runIn (now («run_table» .entry)) (now («run_order» .entry)) (now («run_state» .entry)))
+            (tableIn (now (table .entry))) (now (order .entry)) in
+        (r ≡ checkNumber (after .check))
+        × (now («run_table» .exit) ≡ wordsOf (after .run .table))
+        × (now («run_order» .exit) ≡ after .run .order)
+        × (now («run_state» .exit) ≡ stateWords (after .run))) ⌝ }
+{
+    let t = words::table_in(table);
+    let placed = *order;
+    let proposal = Proposal {
+        table: t,
+        order: placed,
+    };
+    let held_table = *run_table;
+    let held_order = *run_order;
+    let held_state = *run_state;
+    let run = words::run_in(&held_table, held_order, held_state);
+    let committed = proposal::commit_held(run, proposal);
+    let after = committed.run;
+    let check = committed.check;
+    let after_table = after.table;
+    let after_order = after.order;
+    *run_table = words::words_of(after_table);
+    *run_order = after_order;
+    *run_state = words::state_words(after);
+    numbers::check_number(check)
 }
 
 // Writes what the planning program writes for an input, zeros after it (section 12 of the rules). Gives how many bytes that is.
