@@ -2,6 +2,7 @@ pub mod Playing
 pub mod Paper
 pub mod Supplies
 pub mod Claim
+pub mod Listed
 pub mod Concluded
 pub mod Proved
 pub mod Encoding

@@ -4,15 +4,21 @@ use mathlib.Core.Bool.{true}
 use mathlib.Core.Path.{_≡_, refl}
 use mathlib.Core.List.{List, [], _∷_}
 use lib.Dec.{ltb}
+use Rattle.record.specs.declared.Run.{Run}
 use Rattle.record.specs.Answers.{slotSaid, forwardSaid}
 use Rattle.record.specs.Records.{recordOf, isSound, nextRun, chosenRow, oneSlot, workOn, forwardOver}
+use Rattle.record.specs.Fresh.{start-sound, start-sized}
 use Rattle.record.specs.Kept.{Sized, sized-kept, sound-kept}
 use Rattle.rules.specs.declared.Table.{Table}
-use Rattle.rules.specs.Calls.{lastClock, Call, one, forward, Told, tellOne, tellForward, tell, tellAll}
+use Rattle.rules.specs.Calls.{lastClock, Call, one, forward, Told, tellOne, tellForward, tell}
+use Rattle.rules.specs.Days.{Act, run, commit, InHand, ActTold, tellAct, tellDay}
+use Rattle.rules.specs.Proposals.{checkProposal}
 use Rattle.rules.specs.Running.{runSlot}
 use Rattle.rules.specs.Slots.{State}
 use Rattle.theory.specs.Tests.{by-bool}
-use Rattle.guarantee.specs.Playing.{Made, make, makeAll}
+use Rattle.proposal.specs.Commits.{checkCommit, commitOf}
+use Rattle.proposal.specs.Passing.{by-check, turned}
+use Rattle.guarantee.specs.Playing.{Made, make, makeAct, makeDay}
 
 -- the record of this state is sound and has full columns
 pub record Holding (t : Table) (o : List ℕ) (s : State) : Type 0 where
@@ -55,9 +61,34 @@ module _ (t : Table) (o : List ℕ) where
   call-holds (one v) s h = by-bool (ltb (s .clock) lastClock) (λ e. rw e (holding-next s v h e)) (λ e. rw e h)
   call-holds (forward vs) s h = forward-holds 0 vs s h
 
-  -- every answer and the record at the end (rule 9.10)
-  pub calls-told : (cs : List Call) (s : State) → Holding t o s
-      → makeAll cs (recordOf t o s) ≡ record { said = tellAll t o cs s .said; run = recordOf t o (tellAll t o cs s .state) }
-  unfolding makeAll tellAll
-  calls-told [] s h = refl
-  calls-told (c ∷ cs) s h = simp (call-told c s h, calls-told cs (tell t o c s .state) (call-holds c s h))
+-- the record of the sheet in hand
+abbrev pub recordIn : InHand → Run
+recordIn h = recordOf (h .table) (h .order) (h .state)
+
+-- it is sound, with full columns
+abbrev pub HandHolds : InHand → Type 0
+HandHolds h = Holding (h .table) (h .order) (h .state)
+
+abbrev actMade : ActTold → Made
+actMade x = record { said = x .said; run = recordIn (x .hand) }
+
+act-told : (a : Act) (h : InHand) → HandHolds h → makeAct a (recordIn h) ≡ actMade (tellAct a h)
+unfolding commitOf checkCommit
+act-told (run c) h q = call-told (h .table) (h .order) c (h .state) q
+act-told (commit p o) h q =
+    rw (q .sound) (by-check (checkProposal (h .table) (h .state) p o) (λ e. rw e) (λ w e. rw e))
+
+act-holds : (a : Act) (h : InHand) → HandHolds h → HandHolds (tellAct a h .hand)
+act-holds (run c) h q = call-holds (h .table) (h .order) c (h .state) q
+act-holds (commit p o) h q =
+    by-check (checkProposal (h .table) (h .state) p o)
+    (λ e. let w = turned (h .table) (h .state) p o e in
+    rw e (record { sound = start-sound p o (w .checked) (h .state .clock) (w .early); sized = start-sized p o (h .state .clock) }))
+    (λ w e. rw e q)
+
+-- every answer and the record at the end (rules 9.10, 22.9)
+pub acts-told : (acts : List Act) (h : InHand) → HandHolds h
+    → makeDay acts (recordIn h) ≡ record { said = tellDay acts h .said; run = recordIn (tellDay acts h .hand) }
+unfolding makeDay tellDay
+acts-told [] h q = refl
+acts-told (a ∷ more) h q = simp (act-told a h q, acts-told more (tellAct a h .hand) (act-holds a h q))

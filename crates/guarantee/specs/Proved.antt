@@ -1,37 +1,45 @@
--- Demand 3 (rules 9.5 to 9.12, 9.18, 9.19), the theorem: the claim holds of every accepted table and every list of calls.
+-- Demand 3 (rules 9.5 to 9.12, 9.18 to 9.20, 22.7 to 22.9), the theorem: the claim holds of every accepted table and every list of run calls and commits.
 use Prim.Native.Nat.{ℕ, _+_, _≤_}
 use mathlib.Core.Bool.{Bool, true, not}
-use mathlib.Core.Logic.{_↔_}
-use mathlib.Core.Path.{_≡_, refl, sym, subst}
+use mathlib.Core.Logic.{_↔_, _⊎_, inl, inr}
+use mathlib.Core.Path.{_≡_, refl, sym, ap, subst, _∙_}
 use mathlib.Core.List.{List, [], _∷_}
 use native.Mathlib.Omega.{arith}
 use lib.Dec.{ltb, eqb}
 use lib.ListN.{length, replicate}
-use Rattle.record.specs.Fresh.{fresh-sound, fresh-sized}
-use Rattle.record.specs.Records.{recordOf, freshRun, freshOf}
+use Rattle.record.specs.declared.Run.{Run}
+use Rattle.record.specs.Fresh.{start-sound, start-sized}
+use Rattle.record.specs.Records.{recordOf, stateOf, startRun, isSound, freshOf}
 use Rattle.rules.specs.declared.Table.{Table}
 use Rattle.rules.specs.declared.Check.the-variants.{Passed}
-use Rattle.rules.specs.Calls.{lastClock, Call, one, forward, Said, tellOne, tellForward, tell, tellAll, supplyAt}
+use Rattle.rules.specs.declared.Refusal.the-variants.{Unsound}
+use Rattle.proposal.specs.declared.Committed.{Committed}
+use Rattle.rules.specs.Calls.{lastClock, Call, one, forward, Said, tellOne, tellForward, tell, supplyFrom}
 use Rattle.rules.specs.Choice.{choice, word, padded, planFrom, planOf}
-use Rattle.rules.specs.Correct.{KeptIn, Correct, CorrectOrder, Window}
+use Rattle.rules.specs.Correct.{KeptIn, Correct, CorrectOrder, earliest, Window, WindowTo}
+use Rattle.rules.specs.Days.{Act, run, commit, InHand, begun, tellAct, tellDay, runCalls}
 use Rattle.rules.specs.Lists.{all}
 use Rattle.rules.specs.Numbers.{plannedNumber, rowsLeft}
 use Rattle.rules.specs.Orders.{isOrder}
+use Rattle.rules.specs.Proposals.{checkProposal}
 use Rattle.rules.specs.Rows.{at, isRow, isLow, isHigh, workOf, deadlineOf, promisedOf, followsOf}
 use Rattle.rules.specs.Running.{runSlot, runAfter}
 use Rattle.rules.specs.Slots.{State, fresh, chosen}
 use Rattle.rules.specs.Tables.{Accepted}
 use Rattle.rules.specs.Worst.{worstSpeed}
+use Rattle.theory.specs.Closed.{closed-kept, closed-part}
 use Rattle.theory.specs.Counts.{in-head}
-use Rattle.theory.specs.Facts.{both-pass}
+use Rattle.theory.specs.Facts.{both-pass, both-order}
 use Rattle.theory.specs.Results.{running-sustainable, running-promise, follower-held, follower-later, high-follower-later, verdict, choice-order, choice-correct, choice-none}
 use Rattle.theory.specs.Tests.{by-bool, by-eqb, and-both}
-use Rattle.guarantee.specs.Playing.{makeAll}
-use Rattle.guarantee.specs.Claim.{paper, RunRight, Demand3}
-use Rattle.guarantee.specs.Paper.{calls-told}
-use Rattle.guarantee.specs.Supplies.{paper-run}
+use Rattle.proposal.specs.Commits.{checkCommit, commitOf}
+use Rattle.proposal.specs.Passing.{by-check, refused-not, turned, proposal-not-nine}
+use Rattle.guarantee.specs.Playing.{makeDay}
+use Rattle.guarantee.specs.Claim.{HandRight, paper, RunRight, Demand3}
+use Rattle.guarantee.specs.Paper.{recordIn, HandHolds, acts-told}
+use Rattle.guarantee.specs.Supplies.{Proper, begun-proper, paper-run}
 
--- the run on paper says 0 and 8 and nothing else (rules 9.7, 9.8), so never 9 (rule 9.11)
+-- a run call on paper says 0 or 8 and nothing else (rules 9.7, 9.8), and a commit a number of its checks after 9, so never 9 (rule 9.11)
 abbrev not-nine : Said → Bool
 not-nine s = not (eqb (s .number) 9)
 
@@ -46,81 +54,139 @@ module _ (t : Table) (o : List ℕ) where
   call-number (one v) s = by-bool (ltb (s .clock) lastClock) (λ e. rw e) (λ e. rw e)
   call-number (forward vs) s = forward-number 0 vs s
 
-  calls-number : (cs : List Call) (s : State) → all not-nine (tellAll t o cs s .said) ≡ true
-  unfolding tellAll
-  calls-number [] s = refl
-  calls-number (c ∷ cs) s =
-      and-both (not-nine (tell t o c s .said)) (all not-nine (tellAll t o cs (tell t o c s .state) .said))
-      (call-number c s) (calls-number cs (tell t o c s .state))
+act-number : (a : Act) (h : InHand) → not-nine (tellAct a h .said) ≡ true
+act-number (run c) h = call-number (h .table) (h .order) c (h .state)
+act-number (commit p o) h = proposal-not-nine (h .table) (h .state) p o
+
+acts-number : (acts : List Act) (h : InHand) → all not-nine (tellDay acts h .said) ≡ true
+unfolding tellDay
+acts-number [] h = refl
+acts-number (a ∷ more) h =
+    and-both (not-nine (tellAct a h .said)) (all not-nine (tellDay more (tellAct a h .hand) .said)) (act-number a h) (acts-number more (tellAct a h .hand))
+
+-- the sheet in hand is always one of an accepted table, with an order of it
+act-proper : (a : Act) (h : InHand) → Proper h → Proper (tellAct a h .hand)
+act-proper (run c) h q = record { accepted = q .accepted; passes = q .passes }
+act-proper (commit p o) h q =
+    by-check (checkProposal (h .table) (h .state) p o) (λ e. rw e (begun-proper (h .table) (h .state) p o e)) (λ w e. rw e q)
+
+acts-proper : (acts : List Act) (h : InHand) → Proper h → Proper (tellDay acts h .hand)
+unfolding tellDay
+acts-proper [] h q = q
+acts-proper (a ∷ more) h q = acts-proper more (tellAct a h .hand) (act-proper a h q)
+
+-- it is the first one, or it was committed, and then its order is correct
+abbrev FirstOr : InHand → InHand → Type 0
+FirstOr g h = ((h .table ≡ g .table) × (h .order ≡ g .order)) ⊎ Correct (h .table) (h .order)
+
+act-first : (g : InHand) (a : Act) (h : InHand) → FirstOr g h → FirstOr g (tellAct a h .hand)
+act-first g (run c) h q = q
+act-first g (commit p o) h q =
+    by-check (checkProposal (h .table) (h .state) p o) (λ e. rw e (inr (turned (h .table) (h .state) p o e .correct))) (λ w e. rw e q)
+
+acts-first : (g : InHand) (acts : List Act) (h : InHand) → FirstOr g h → FirstOr g (tellDay acts h .hand)
+unfolding tellDay
+acts-first g [] h q = q
+acts-first g (a ∷ more) h q = acts-first g more (tellAct a h .hand) (act-first g a h q)
+
+-- What holds of a sheet that is at the state of its own run under a course of speed: of a correct order by its slacks, of any order for followers.
+module _ (t : Table) (accepted : Accepted t) (o : List ℕ) (order : isOrder t o ≡ true) (s : State) (σ : ℕ → ℕ) (taken : s ≡ runAfter t o σ (s .clock)) where
+  -- what is shown of that run is so of the state
+  seen : (P : State → Type 0) → P (runAfter t o σ (s .clock)) → P s
+  seen P q = subst P (sym taken) q
+
+  abbrev HeldTo : ℕ → ℕ → State → Type 0
+  HeldTo i u x = (1 ≤ at (x .closing) (followsOf t i)) × (at (x .closing) (followsOf t i) ≤ u)
+
+  abbrev AfterRow : ℕ → ℕ → State → Type 0
+  AfterRow i k x =
+      1 ≤ at (x .used) i
+      → (1 ≤ at (x .closing) (followsOf t i)) × (at (x .closing) (followsOf t i) + at (x .used) i ≤ k)
+      × (isHigh t i ≡ true → at (x .got) (followsOf t i) ≡ workOf t (followsOf t i))
+
+  shut : (i : ℕ) → 1 ≤ at (s .closing) i → 1 ≤ at (runAfter t o σ (s .clock) .closing) i
+  shut i c = subst (λ (x : State). 1 ≤ at (x .closing) i) taken c
+
+  hand-right : HandRight t o s σ (recordOf t o s)
+  hand-right =
+      let k = s .clock in
+      record {
+        taken = taken;
+        clock = refl;
+        got = refl;
+        used = refl;
+        closing = refl;
+        table = refl;
+        order = refl;
+        kept = λ c i r d w. seen (λ (x : State). KeptIn t x i)
+            (running-sustainable t accepted o order i r (verdict t accepted o order .0 c i r) σ w k d);
+        promised = λ c i r l d w. seen (λ (x : State). promisedOf t i ≤ at (x .got) i)
+            (running-promise t accepted o order i r l (verdict t accepted o order .0 c i r) σ w k d);
+        settled = λ c i r z w. seen (λ (x : State). KeptIn t x i)
+            (closed-kept t accepted o order i r (verdict t accepted o order .0 c i r) σ k (shut i z) w);
+        settled-part = λ c i r l z w. seen (λ (x : State). promisedOf t i ≤ at (x .got) i)
+            (closed-part t accepted o order i r (verdict t accepted o order .0 c i r) σ k (shut i z) l w);
+        held = λ i u r some h q. seen (HeldTo i u) (follower-held t accepted o order i r some σ u k h q);
+        waited = λ i r some. seen (AfterRow i k)
+            (λ used. let l = follower-later t accepted o order i r some σ k used in
+            (l .0, l .1, λ h. high-follower-later t accepted o order i r h some σ k used));
+      }
 
 none-of : (l : List ℕ) → length l ≡ 0 → l ≡ []
 none-of [] e = refl
 none-of (x ∷ l) e = absurd (omega arith)
 
+-- a commit that is not refused, to any record (rules 22.4, 22.7)
+module _ (r : Run) (t : Table) (o : List ℕ) (e : commitOf r t o .check ≡ Passed) where
+  commit-passed : checkCommit r t o ≡ Passed
+  unfolding commitOf
+  commit-passed = by-check (checkCommit r t o) (λ c. c) (λ w c. refused-not w (rw c at e))
+
+  proposal-passed : checkProposal (r .table) (stateOf r) t o ≡ Passed
+  unfolding checkCommit
+  proposal-passed = by-bool (isSound r) (λ c. rw c at commit-passed) (λ c. refused-not Unsound (rw c at commit-passed))
+
+  commit-starts : (commitOf r t o .run ≡ startRun t o (r .clock)) × (r .clock ≤ earliest t) × (isOrder t o ≡ true) × Correct t o
+  unfolding commitOf
+  commit-starts =
+      let w = turned (r .table) (stateOf r) t o proposal-passed in
+      (rw commit-passed, w .early, both-order t o (w .checked), w .correct)
+
 module _ (t : Table) (accepted : Accepted t) where
-  -- with any order of the table
-  module _ (o : List ℕ) (order : isOrder t o ≡ true) (cs : List Call) where
-    started : freshOf t o ≡ record { check = Passed; run = freshRun t o }
-    unfolding freshOf
-    started = rw (both-pass t o accepted order)
+  -- with any order of the table, from the record at any clock that is not after the earliest release
+  module _ (o : List ℕ) (order : isOrder t o ≡ true) where
+    fresh-starts : freshOf t o ≡ record { check = Passed; run = startRun t o 0 }
+    unfolding freshOf fresh
+    fresh-starts = rw (both-pass t o accepted order)
 
-    made-told : makeAll cs (freshRun t o) ≡ record { said = paper t o cs .said; run = recordOf t o (paper t o cs .state) }
-    made-told = calls-told t o cs fresh (record { sound = fresh-sound t o (both-pass t o accepted order); sized = fresh-sized t o })
+    module _ (k : ℕ) (early : k ≤ earliest t) (acts : List Act) where
+      abbrev hand : InHand
+      hand = paper t o k acts .hand
 
-    kept-paper : Correct t o → (i : ℕ) → isRow t i ≡ true → deadlineOf t i ≤ paper t o cs .state .clock
-        → Window t (supplyAt cs) i (worstSpeed t i) → KeptIn t (paper t o cs .state) i
-    kept-paper correct i r d w =
-        subst (λ (s : State). KeptIn t s i) (sym (paper-run t o cs))
-        (running-sustainable t accepted o order i r (verdict t accepted o order .0 correct i r) (supplyAt cs) w (paper t o cs .state .clock) d)
+      holds : HandHolds (begun t o k)
+      holds = record { sound = start-sound t o (both-pass t o accepted order) k early; sized = start-sized t o k }
 
-    promised-paper : Correct t o → (i : ℕ) → isRow t i ≡ true → isLow t i ≡ true → deadlineOf t i ≤ paper t o cs .state .clock
-        → Window t (supplyAt cs) i (t .degraded) → promisedOf t i ≤ at (paper t o cs .state .got) i
-    promised-paper correct i r l d w =
-        subst (λ (s : State). promisedOf t i ≤ at (s .got) i) (sym (paper-run t o cs))
-        (running-promise t accepted o order i r l (verdict t accepted o order .0 correct i r) (supplyAt cs) w (paper t o cs .state .clock) d)
+      made-told : makeDay acts (startRun t o k) ≡ record { said = paper t o k acts .said; run = recordIn hand }
+      made-told = acts-told acts (begun t o k) holds
 
-    abbrev HeldTo : ℕ → ℕ → State → Type 0
-    HeldTo i u s = (1 ≤ at (s .closing) (followsOf t i)) × (at (s .closing) (followsOf t i) ≤ u)
+      proper : Proper hand
+      proper = acts-proper acts (begun t o k) (record { accepted = accepted; passes = order })
 
-    held-paper : (i u : ℕ) → isRow t i ≡ true → 1 ≤ followsOf t i → u ≤ paper t o cs .state .clock → chosen t o (runAfter t o (supplyAt cs) u) ≡ i
-        → HeldTo i u (paper t o cs .state)
-    held-paper i u r some h q =
-        subst (HeldTo i u) (sym (paper-run t o cs)) (follower-held t accepted o order i r some (supplyAt cs) u (paper t o cs .state .clock) h q)
+      taken : hand .state ≡ runAfter (hand .table) (hand .order) (supplyFrom k (runCalls acts)) (hand .state .clock)
+      unfolding supplyFrom
+      taken = paper-run t accepted o order k early acts
 
-    abbrev AfterRow : ℕ → State → ℕ → Type 0
-    AfterRow i s k =
-        1 ≤ at (s .used) i
-        → (1 ≤ at (s .closing) (followsOf t i)) × (at (s .closing) (followsOf t i) + at (s .used) i ≤ k)
-        × (isHigh t i ≡ true → at (s .got) (followsOf t i) ≡ workOf t (followsOf t i))
-
-    waited-paper : (i : ℕ) → isRow t i ≡ true → 1 ≤ followsOf t i → AfterRow i (paper t o cs .state) (paper t o cs .state .clock)
-    waited-paper i r some =
-        let k = paper t o cs .state .clock in
-        subst (λ (s : State). AfterRow i s k) (sym (paper-run t o cs))
-        (λ used. let l = follower-later t accepted o order i r some (supplyAt cs) k used in
-        (l .0, l .1, λ h. high-follower-later t accepted o order i r h some (supplyAt cs) k used))
-
-    run-right : RunRight t o cs (makeAll cs (freshRun t o))
-    run-right =
-        subst (RunRight t o cs) (sym made-told)
-        (record {
-          said = refl;
-          taken = paper-run t o cs;
-          clock = refl;
-          got = refl;
-          used = refl;
-          closing = refl;
-          table = refl;
-          order = refl;
-          no-nine = calls-number t o cs fresh;
-          kept = kept-paper;
-          promised = promised-paper;
-          held = λ i u r some h q. let p = held-paper i u r some h q in (p .0, omega (arith, p .1));
-          waited = waited-paper;
-        })
-
-    right : RunRight t o cs (makeAll cs (freshOf t o .run))
-    right = rw started run-right
+      run-right : RunRight t o k acts (makeDay acts (startRun t o k))
+      run-right =
+          subst (RunRight t o k acts) (sym made-told)
+          (record {
+            said = refl;
+            no-nine = acts-number acts (begun t o k);
+            accepted = proper .accepted;
+            passes = proper .passes;
+            first = acts-first (begun t o k) acts (begun t o k) (inl (refl, refl));
+            hand = hand-right (hand .table) (proper .accepted) (hand .order) (proper .passes) (hand .state) (supplyFrom k (runCalls acts)) taken;
+          })
 
   -- the planner's answer, by what the choice leaves (rule 9.9)
   plan-is : planOf t ≡ planFrom (choice t)
@@ -155,13 +221,14 @@ module _ (t : Table) (accepted : Accepted t) where
 
 -- the closed statement that stands in Claim
 pub demand-3 : Demand3
-demand-3 t accepted cs =
+demand-3 t accepted acts =
     record {
       plan = plan-is t accepted;
       exists = exists t accepted;
       zero = zero t accepted;
       seven = seven t accepted;
       found = found t accepted;
-      started = λ o e. started t accepted o e cs;
-      right = λ o e. right t accepted o e cs;
+      started = fresh-starts t accepted;
+      committed = λ r o e. commit-starts r t o e;
+      right = λ o e k early. run-right t accepted o e k early acts;
     }

@@ -1,5 +1,5 @@
 -- What a function that plays a list of calls shows: the planner's answer, every answer of the calls and the record at the end are those
--- that demand 3 speaks of (rules 9.9 to 9.12, 9.18).
+-- that demand 3 speaks of (rules 9.9 to 9.12, 9.18 to 9.20).
 use Prim.Native.Nat.{ℕ, _+_}
 use mathlib.Core.Path.{_≡_}
 use mathlib.Core.List.{List, [], _∷_}
@@ -9,6 +9,7 @@ use Rattle.record.specs.Records.{freshOf}
 use Rattle.rules.specs.declared.Table.{Table}
 use Rattle.rules.specs.Calls.{Call, Said}
 use Rattle.rules.specs.Choice.{planOf}
+use Rattle.rules.specs.Days.{justRuns}
 use Rattle.rules.specs.Tables.{Accepted}
 use Rattle.guarantee.specs.declared.Turn.{Turn}
 use Rattle.guarantee.specs.declared.Played.{Played}
@@ -42,4 +43,4 @@ pub record Shown (t : Table) (cs : List Call) (before after : List ℕ) (r : Pla
   pub planned : r .planning ≡ planOf t
   pub noting : after ≡ laid (makeAll cs (freshOf t (planOf t .order) .run) .said) before
   pub left : r .run ≡ makeAll cs (freshOf t (planOf t .order) .run) .run
-  pub claim : Accepted t → Claim t cs
+  pub claim : Accepted t → Claim t (justRuns cs)

@@ -1,18 +1,32 @@
--- From the fresh state on, each supply of a list of calls is taken in turn, one at each clock up to the last: the state after the calls is
--- that of the run whose slot u has the u-th supply (rule 9.15).
+-- From the clock at which a list starts, each supply of its run calls is taken in turn, one at each clock up to the last, whatever commits stand between:
+-- the sheet in hand is at the state of its own run whose slot u has the supply taken at clock u (rules 9.15, 22.7, 22.9).
 use Prim.Native.Nat.{ℕ, zero, suc, _+_, _≤_, min}
-use mathlib.Core.Path.{_≡_, refl, sym, ap, _∙_}
+use mathlib.Core.Path.{_≡_, refl, sym, ap, subst, _∙_}
+use mathlib.Core.Bool.{true}
 use mathlib.Core.List.{List, [], _∷_, _++_}
 use native.Mathlib.Omega.{arith}
-use lib.ListN.{length, getD, drop, length-append}
+use lib.ListN.{length, getD, drop, replicate, length-replicate}
 use lib.Seq.{drop-drop, drop-at}
 use borrow.Author.Tests.{lt-ltb, le-ltb}
 use Rattle.rules.specs.declared.Table.{Table}
-use Rattle.rules.specs.Calls.{lastClock, Call, one, forward, tellOne, tellForward, tell, tellAll, suppliesOf, allSupplies, supplyAt}
+use Rattle.rules.specs.declared.Refusal.{Refusal}
+use Rattle.rules.specs.declared.Check.the-variants.{Passed, Refused}
+use Rattle.rules.specs.Calls.{lastClock, Call, one, forward, tellOne, tellForward, tell, suppliesOf, allSupplies}
+use Rattle.rules.specs.Correct.{earliest}
+use Rattle.rules.specs.Days.{Act, run, commit, InHand, begun, tellAct, tellDay, runCalls}
+use Rattle.rules.specs.Orders.{isOrder}
+use Rattle.rules.specs.Proposals.{checkProposal}
 use Rattle.rules.specs.Running.{runSlot, runAfter}
-use Rattle.rules.specs.Slots.{State, fresh}
+use Rattle.rules.specs.Slots.{State}
+use Rattle.rules.specs.Tables.{Accepted}
 use Rattle.theory.specs.Tests.{by-ltb}
 use Rattle.theory.specs.Ends.{clock-run}
+use Rattle.theory.specs.Facts.{Row, facts}
+use Rattle.theory.specs.Finishes.{earliest-first}
+use Rattle.theory.specs.Starting.{started}
+use Rattle.record.specs.Checked.{limits}
+use Rattle.judge.specs.Checked.{checked}
+use Rattle.proposal.specs.Passing.{by-check, turned}
 
 -- the next supply of what is left of a list
 head-at : (l : List ℕ) (k v : ℕ) (more : List ℕ) → drop k l ≡ v ∷ more → getD l k 0 ≡ v
@@ -66,34 +80,92 @@ module _ (t : Table) (o : List ℕ) (all : List ℕ) where
   last-call (forward []) s h = refl
   last-call (forward (v ∷ vs)) s h = rw (le-ltb (s .clock) lastClock h)
 
-  last-calls : (cs : List Call) (s : State) → lastClock ≤ s .clock → tellAll t o cs s .state ≡ s
-  unfolding tellAll
-  last-calls [] s h = refl
-  last-calls (c ∷ cs) s h = ap (λ (x : State). tellAll t o cs x .state) (last-call c s h) ∙ last-calls cs s h
+-- the sheet in hand is at the state that its own run from clock 0 has there, under the course of speed of all supplies (rules 9.6, 22.7)
+abbrev pub Taken : List ℕ → InHand → Type 0
+Taken l h = h .state ≡ runAfter (h .table) (h .order) (λ u. getD l u 0) (h .state .clock)
 
-  calls-state : (cs : List Call) (k : ℕ) → k ≤ lastClock → drop k all ≡ allSupplies cs
-      → tellAll t o cs (at-clock k) .state ≡ at-clock (min (k + length (allSupplies cs)) lastClock)
-  unfolding tellAll allSupplies
-  calls-state [] k h e = same-clock k (min (k + 0) lastClock) (omega arith)
-  calls-state (c ∷ cs) k h e =
+-- the sheet in hand is one of an accepted table, with an order of it
+pub record Proper (h : InHand) : Type 0 where
+  pub accepted : Accepted (h .table)
+  pub passes : isOrder (h .table) (h .order) ≡ true
+
+-- a proposal whose checks passed is such a sheet
+pub begun-proper : (t : Table) (s : State) (p : Table) (o : List ℕ) → checkProposal t s p o ≡ Passed → Proper (begun p o (s .clock))
+begun-proper t s p o e = let c = checked p o (turned t s p o e .checked) in record { accepted = c .accepted; passes = c .order }
+
+-- a commit takes the sheet in hand away, or changes nothing (rules 22.4, 22.5)
+hand-passed : (h : InHand) (p : Table) (o : List ℕ) → checkProposal (h .table) (h .state) p o ≡ Passed → tellAct (commit p o) h .hand ≡ begun p o (h .state .clock)
+hand-passed h p o e = rw e
+
+hand-refused : (h : InHand) (p : Table) (o : List ℕ) (w : Refusal) → checkProposal (h .table) (h .state) p o ≡ Refused w → tellAct (commit p o) h .hand ≡ h
+hand-refused h p o w e = rw e
+
+-- at the last clock no proposal passes: its releases are before it
+never-last : (t : Table) (s : State) (p : Table) (o : List ℕ) → lastClock ≤ s .clock → checkProposal t s p o ≡ Passed → ⊥
+never-last t s p o h e =
+    let w = turned t s p o e in
+    let f = limits p o (w .checked) in
+    let r : Row p 1 = record { from = omega arith; upTo = f .some } in
+    omega (arith, w .early, earliest-first p 1 r, f .row 1 r .before, f .row 1 r .soon)
+
+-- there no act changes the sheet in hand
+last-act : (a : Act) (h : InHand) → lastClock ≤ h .state .clock → tellAct a h .hand ≡ h
+last-act (run c) h q = rw (last-call (h .table) (h .order) [] c (h .state) q)
+last-act (commit p o) h q =
+    by-check (checkProposal (h .table) (h .state) p o)
+    (λ e. absurd (never-last (h .table) (h .state) p o q e))
+    (λ w e. hand-refused h p o w e)
+
+last-acts : (acts : List Act) (h : InHand) → lastClock ≤ h .state .clock → tellDay acts h .hand ≡ h
+unfolding tellDay
+last-acts [] h q = refl
+last-acts (a ∷ more) h q = ap (λ (x : InHand). tellDay more x .hand) (last-act a h q) ∙ last-acts more h q
+
+module _ (l : List ℕ) where
+  abbrev σ : ℕ → ℕ
+  σ u = getD l u 0
+
+  -- a run call takes its supplies in turn, up to the last clock
+  call-taken : (c : Call) (more : List ℕ) (h : InHand) → Taken l h → h .state .clock ≤ lastClock → drop (h .state .clock) l ≡ suppliesOf c ++ more
+      → tellAct (run c) h .hand .state ≡ runAfter (h .table) (h .order) σ (min (h .state .clock + length (suppliesOf c)) lastClock)
+  call-taken c more h q p e =
+      ap (λ (s : State). tell (h .table) (h .order) c s .state) q ∙ call-state (h .table) (h .order) l c more (h .state .clock) p e
+
+  pub day-taken : (acts : List Act) (h : InHand) → Proper h → Taken l h → h .state .clock ≤ lastClock → drop (h .state .clock) l ≡ allSupplies (runCalls acts)
+      → Taken l (tellDay acts h .hand)
+  unfolding tellDay allSupplies runCalls
+  day-taken [] h proper q p e = q
+  day-taken (run c ∷ more) h proper q p e =
       let n = length (suppliesOf c) in
+      let k = h .state .clock in
       let m = min (k + n) lastClock in
-      let r = allSupplies cs in
-      let l = length-append (suppliesOf c) r in
-      ap (λ (x : State). tellAll t o cs x .state) (call-state c r k h e)
-      ∙ by-ltb (k + n) lastClock
-      (λ _ q. let is : m ≡ k + n = omega arith in
-      let then : min (m + length r) lastClock ≡ min (k + length (suppliesOf c ++ r)) lastClock = omega arith in
-      calls-state cs m (omega arith)
-      (ap (λ (x : ℕ). drop x all) is ∙ sym (drop-drop n k all) ∙ ap (drop n) e ∙ drop-at (suppliesOf c) r n refl) ∙ ap at-clock then)
-      (λ _ q. let then : m ≡ min (k + length (suppliesOf c ++ r)) lastClock = omega arith in
-      last-calls cs (at-clock m) (omega (arith, clock-run t o (λ u. getD all u 0) m)) ∙ ap at-clock then)
+      let r = allSupplies (runCalls more) in
+      let next = tellAct (run c) h .hand in
+      let moved = call-taken c r h q p e in
+      let at-m : next .state .clock ≡ m = ap (λ (s : State). s .clock) moved ∙ clock-run (h .table) (h .order) σ m in
+      let there : Taken l next = moved ∙ ap (runAfter (h .table) (h .order) σ) (sym at-m) in
+      by-ltb (k + n) lastClock
+      (λ _ w. let is : next .state .clock ≡ k + n = omega arith in
+      day-taken more next (record { accepted = proper .accepted; passes = proper .passes }) there (omega arith)
+      (ap (λ (x : ℕ). drop x l) is ∙ sym (drop-drop n k l) ∙ ap (drop n) e ∙ drop-at (suppliesOf c) r n refl))
+      (λ _ w. subst (Taken l) (sym (last-acts more next (omega arith))) there)
+  day-taken (commit p o ∷ more) h proper q m e =
+      by-check (checkProposal (h .table) (h .state) p o)
+      (λ c.
+      let next = begun p o (h .state .clock) in
+      let good = begun-proper (h .table) (h .state) p o c in
+      subst (λ (x : InHand). Taken l (tellDay more x .hand)) (sym (hand-passed h p o c))
+      (day-taken more next good
+      (sym (started p (facts p (good .accepted)) o (good .passes) σ (h .state .clock) (turned (h .table) (h .state) p o c .early))) m e))
+      (λ w c. subst (λ (x : InHand). Taken l (tellDay more x .hand)) (sym (hand-refused h p o w c)) (day-taken more h proper q m e))
 
--- the state after a list of calls is that of the course of speed `supplyAt`, at the clock that the calls reach (rules 9.6, 9.15)
-pub paper-run : (t : Table) (o : List ℕ) (cs : List Call) → tellAll t o cs fresh .state ≡ runAfter t o (supplyAt cs) (tellAll t o cs fresh .state .clock)
-unfolding supplyAt
-paper-run t o cs =
-    let e = calls-state t o (allSupplies cs) cs 0 (omega arith) refl in
-    e
-    ∙ ap (runAfter t o (λ u. getD (allSupplies cs) u 0))
-    (sym (ap (λ (s : State). s .clock) e ∙ clock-run t o (λ u. getD (allSupplies cs) u 0) (min (0 + length (allSupplies cs)) lastClock)))
+-- the state on paper after a list of acts is that of the course of speed `supplyFrom`, at the clock that the list reaches (rules 9.6, 9.15, 22.7, 22.9)
+pub paper-run : (t : Table) → Accepted t → (o : List ℕ) → isOrder t o ≡ true → (k : ℕ) → k ≤ earliest t → (acts : List Act)
+    → Taken (replicate k 0 ++ allSupplies (runCalls acts)) (tellDay acts (begun t o k) .hand)
+paper-run t accepted o order k early acts =
+    let l = replicate k 0 ++ allSupplies (runCalls acts) in
+    let f = facts t accepted in
+    let r : Row t 1 = record { from = omega arith; upTo = f .some } in
+    day-taken l acts (begun t o k) (record { accepted = accepted; passes = order }) (sym (started t f o order (λ u. getD l u 0) k early))
+    (omega (arith, early, earliest-first t 1 r, f .row 1 r .before, f .row 1 r .soon))
+    (drop-at (replicate k 0) (allSupplies (runCalls acts)) k (length-replicate k 0))

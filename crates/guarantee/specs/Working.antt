@@ -1,14 +1,15 @@
 -- From the claim alone: deadlines are kept, and promised parts got in time, if the slots in which a row works supply enough. What idle slots and
--- loading slots supply matters to neither (rules 9.12, 9.17, 9.18).
+-- loading slots supply matters to neither (rules 9.12, 9.17, 9.18), also where the sheet in hand was committed (rule 22.9).
 use Prim.Native.Nat.{ℕ, _≤_}
 use mathlib.Core.Bool.{true}
 use mathlib.Core.List.{List}
 use mathlib.Core.Path.{_≡_, sym, ap, subst, _∙_}
 use native.Mathlib.Omega.{arith}
-use Rattle.record.specs.Records.{stateOf, freshOf}
+use Rattle.record.specs.Records.{stateOf, startRun}
 use Rattle.rules.specs.declared.Table.{Table}
-use Rattle.rules.specs.Calls.{Call, supplyAt}
-use Rattle.rules.specs.Correct.{KeptIn, Correct}
+use Rattle.rules.specs.Calls.{supplyFrom}
+use Rattle.rules.specs.Correct.{KeptIn, Correct, earliest}
+use Rattle.rules.specs.Days.{Act, InHand, runCalls}
 use Rattle.rules.specs.Orders.{isOrder}
 use Rattle.rules.specs.Rows.{at, isRow, deadlineOf, isLow, promisedOf}
 use Rattle.rules.specs.Slots.{State}
@@ -17,28 +18,38 @@ use Rattle.rules.specs.Worst.{worstSpeed}
 use Rattle.theory.specs.Lost.{WorkWindow, sustainable-working, promise-working}
 use Rattle.theory.specs.Results.{verdict}
 use Rattle.guarantee.specs.Claim.{paper, Demand3}
-use Rattle.guarantee.specs.Playing.{makeAll}
+use Rattle.guarantee.specs.Playing.{makeDay}
 
--- After a list of calls on the fresh record of a correct order, a row with a deadline that the clock has come to has kept it, if every slot of
--- its window in which a row worked supplied at least N for a LO row, or G for a HI row.
-pub kept-working : Demand3 → (t : Table) → Accepted t → (o : List ℕ) → isOrder t o ≡ true → (cs : List Call) → Correct t o → (i : ℕ) → isRow t i ≡ true
-    → deadlineOf t i ≤ makeAll cs (freshOf t o .run) .run .clock → WorkWindow t o (supplyAt cs) i (worstSpeed t i)
-    → KeptIn t (stateOf (makeAll cs (freshOf t o .run) .run)) i
-kept-working claim t a o e cs correct i r d w =
-    let q = claim t a cs .right o e in
-    let k = sustainable-working t a o e i r (verdict t a o e .0 correct i r) (supplyAt cs) w (paper t o cs .state .clock) (omega (arith, q .clock)) in
-    let p : KeptIn t (paper t o cs .state) i = subst (λ (s : State). KeptIn t s i) (sym (q .taken)) k in
-    record {
-      done = ap (λ (l : List ℕ). at l i) (q .got) ∙ p .done;
-      closed = rw (q .closing) (p .closed);
-      inTime = rw (q .closing) (p .inTime);
-    }
+-- After a list of acts that starts with table t and order o at clock k, a row of the sheet in hand with a deadline that the clock has come to has kept it, if
+-- the order in hand is correct and every slot of the row's window in which a row worked supplied at least N for a LO row, or G for a HI row.
+module _ (claim : Demand3) (t : Table) (a : Accepted t) (o : List ℕ) (e : isOrder t o ≡ true) (k : ℕ) (early : k ≤ earliest t) (acts : List Act) where
+  abbrev h : InHand
+  h = paper t o k acts .hand
 
--- A LO row with such a deadline has got its promised part, if every one of those slots supplied at least G.
-pub part-working : Demand3 → (t : Table) → Accepted t → (o : List ℕ) → isOrder t o ≡ true → (cs : List Call) → Correct t o → (i : ℕ) → isRow t i ≡ true
-    → isLow t i ≡ true → deadlineOf t i ≤ makeAll cs (freshOf t o .run) .run .clock → WorkWindow t o (supplyAt cs) i (t .degraded)
-    → promisedOf t i ≤ at (makeAll cs (freshOf t o .run) .run .got) i
-part-working claim t a o e cs correct i r l d w =
-    let q = claim t a cs .right o e in
-    let k = promise-working t a o e i r l (verdict t a o e .0 correct i r) (supplyAt cs) w (paper t o cs .state .clock) (omega (arith, q .clock)) in
-    rw (q .got) (subst (λ (s : State). promisedOf t i ≤ at (s .got) i) (sym (q .taken)) k)
+  abbrev σ : ℕ → ℕ
+  σ u = supplyFrom k (runCalls acts) u
+
+  pub kept-working : Correct (h .table) (h .order) → (i : ℕ) → isRow (h .table) i ≡ true → deadlineOf (h .table) i ≤ makeDay acts (startRun t o k) .run .clock
+      → WorkWindow (h .table) (h .order) σ i (worstSpeed (h .table) i) → KeptIn (h .table) (stateOf (makeDay acts (startRun t o k) .run)) i
+  kept-working correct i r d w =
+      let q = claim t a acts .right o e k early in
+      let f = q .hand in
+      let z = sustainable-working (h .table) (q .accepted) (h .order) (q .passes) i r (verdict (h .table) (q .accepted) (h .order) (q .passes) .0 correct i r) σ w
+      (h .state .clock) (omega (arith, f .clock)) in
+      let p : KeptIn (h .table) (h .state) i = subst (λ (s : State). KeptIn (h .table) s i) (sym (f .taken)) z in
+      record {
+        done = ap (λ (l : List ℕ). at l i) (f .got) ∙ p .done;
+        closed = rw (f .closing) (p .closed);
+        inTime = rw (f .closing) (p .inTime);
+      }
+
+  -- A LO row with such a deadline has got its promised part, if every one of those slots supplied at least G.
+  pub part-working : Correct (h .table) (h .order) → (i : ℕ) → isRow (h .table) i ≡ true → isLow (h .table) i ≡ true
+      → deadlineOf (h .table) i ≤ makeDay acts (startRun t o k) .run .clock → WorkWindow (h .table) (h .order) σ i (h .table .degraded)
+      → promisedOf (h .table) i ≤ at (makeDay acts (startRun t o k) .run .got) i
+  part-working correct i r l d w =
+      let q = claim t a acts .right o e k early in
+      let f = q .hand in
+      let z = promise-working (h .table) (q .accepted) (h .order) (q .passes) i r l (verdict (h .table) (q .accepted) (h .order) (q .passes) .0 correct i r) σ w
+      (h .state .clock) (omega (arith, f .clock)) in
+      rw (f .got) (subst (λ (s : State). promisedOf (h .table) i ≤ at (s .got) i) (sym (f .taken)) z)

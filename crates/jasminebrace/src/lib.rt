@@ -439,7 +439,7 @@ pub extern "C" fn jb_commit(
     run_state: &mut [u32; 193],
 ) -> u32
     ensures { λ r. ⌜ (let after = commitOf (runIn (now («run_table» .entry)) (now («run_order» .entry)) (now («run_state» .entry)))
-            (tableIn (now (table .entry))) (now (order .entry)) in
+        (tableIn (now (table .entry))) (now (order .entry)) in
         (r ≡ checkNumber (after .check))
         × (now («run_table» .exit) ≡ wordsOf (after .run .table))
         × (now («run_order» .exit) ≡ after .run .order)

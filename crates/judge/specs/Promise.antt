@@ -52,7 +52,8 @@ yes-met : (t : Table) (o : List ℕ) (i : ℕ) → ltZ (slack t o i) (pos 0) ≡
 unfolding verdictYes
 yes-met t o i e = rw e
 
-exactly : (t : Table) (o : List ℕ) → checkBoth t o ≡ Passed → (verdictYes (judgeOf t o) ≡ true) ↔ Correct t o
+-- where no check refuses, yes is said of an order just if it is correct
+pub exactly : (t : Table) (o : List ℕ) → checkBoth t o ≡ Passed → (verdictYes (judgeOf t o) ≡ true) ↔ Correct t o
 exactly t o p =
     let c = checked t o p in
     let v = verdict t (c .accepted) o (c .order) in

@@ -44,3 +44,7 @@ earliest t = least (releaseOf t) (releaseOf t 1) (rowsOf t)
 -- Each slot of row i's window supplies at least s work units: from the earliest release of all rows to the slot before the deadline (rule 9.14).
 abbrev pub Window : Table → (ℕ → ℕ) → ℕ → ℕ → Type 0
 Window t σ i s = (u : ℕ) → earliest t ≤ u → u < deadlineOf t i → s ≤ σ u
+
+-- Each slot of row i's window before clock k supplies at least s work units (rule 9.20).
+abbrev pub WindowTo : Table → (ℕ → ℕ) → ℕ → ℕ → ℕ → Type 0
+WindowTo t σ k i s = (u : ℕ) → earliest t ≤ u → u < deadlineOf t i → u < k → s ≤ σ u

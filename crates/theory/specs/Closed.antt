@@ -10,7 +10,7 @@ use lib.IntN.{pos}
 use lib.Signed.{ltZ}
 use borrow.Author.Tests.{lt-ltb}
 use Rattle.rules.specs.declared.Table.{Table}
-use Rattle.rules.specs.Correct.{KeptIn, earliest, Window}
+use Rattle.rules.specs.Correct.{KeptIn, Window, WindowTo}
 use Rattle.rules.specs.Orders.{isOrder}
 use Rattle.rules.specs.Rows.{at, isRow, isLow, deadlineOf, promisedOf}
 use Rattle.rules.specs.Running.{runAfter}
@@ -25,10 +25,6 @@ use Rattle.theory.specs.Serving.{same-window}
 use Rattle.theory.specs.Sustain.{closed-stays}
 use Rattle.theory.specs.Tests.{by-ltb}
 use Rattle.theory.specs.Verdict.{KeptCell}
-
--- each slot of row i's window before clock k supplies at least s work units
-abbrev pub WindowTo : Table → (ℕ → ℕ) → ℕ → ℕ → ℕ → Type 0
-WindowTo t σ k i s = (u : ℕ) → earliest t ≤ u → u < deadlineOf t i → u < k → s ≤ σ u
 
 module _ (t : Table) (accepted : Accepted t) (o : List ℕ) (order : isOrder t o ≡ true) (i : ℕ) (r : isRow t i ≡ true)
     (slow : ltZ (slack t o i) (pos 0) ≡ false) (σ : ℕ → ℕ) (k : ℕ) (closed : 1 ≤ at (runAfter t o σ k .closing) i) where

@@ -1,5 +1,6 @@
 -- The order is the planner's, the record is the fresh one, and the calls are made from there on: demand 3 is about just these.
 use borrow.Author.Needs.{needs}
+use Rattle.rules.specs.Days.{justRuns}
 use Rattle.guarantee.specs.Encoding.{callsIn}
 use Rattle.guarantee.specs.Proved.{demand-3}
 use Rattle.guarantee.proofs.play.Statement.{statement}
@@ -27,7 +28,7 @@ returns c =
       planned = p .plan .ensures .answer;
       noting = rw (f .fresh .ensures, p .plan .ensures .answer) at (a .answered .ensures .noting);
       left = rw (f .fresh .ensures, p .plan .ensures .answer) at (a .answered .ensures .left);
-      claim = λ accepted. demand-3 (s .args .t) accepted (callsIn (s .args .calls .now));
+      claim = λ accepted. demand-3 (s .args .t) accepted (justRuns (callsIn (s .args .calls .now)));
     }
 
 pub play-spec : {M : Type 1} → statement M
