@@ -39,13 +39,13 @@ from entries import after_group, blanked, copied, functions_of
 
 # The loop of the first tries the rows of a place at one speed; that of the second tries the LO rows and asks each for its promised part, by the
 # third; the loop of the fourth fills the places; the fifth is the whole planning.
-TRIAL = "planner::first_in_time"
-LOW = "planner::first_low"
-PART = "planner::part_in_time"
+TRIAL = "periods::first_in_time"
+LOW = "periods::first_low"
+PART = "periods::part_in_time"
 PLACES = "planner::choose"
 PLAN = "planner::plan"
 # The passes over the rows left that find finishes and a promised moment, and the need of a job.
-SWEEP = "planner::renew"
+SWEEP = "periods::renew"
 MOMENT = "sweep::part_finish"
 NEED = "checks::need"
 # Where a planning works out needs, and what is handed over there to have its need worked out: each row's work (at N), each row's promised part
@@ -387,7 +387,7 @@ def added(crate, code, file="lib.rt"):
 def edits():
     """Name of a fault, what puts it into a copy, and the pieces of what must be said of it."""
     crate, sweep = SWEEP.split("::")
-    planner, trial = TRIAL.split("::")
+    tries, trial = TRIAL.split("::")
     (rows, _), _, (high, _) = ASKING
     works, parts, highs = map(said, ASKING)
     hidden = "fn hidden(work: u32) -> u32\n    ensures { λ r. ⌜ r ≡ r ⌝ }\n{\n    checks::need(0, work, 1)\n}"
@@ -427,7 +427,7 @@ def edits():
         ("an unknown call in planning", [first(PLAN, "unknown(1);")], f"planning uses unknown, which cannot be followed: {PLAN}"),
         ("the trial under another name", [changed(TRIAL, lambda a, body, b: a.replace(f"fn {trial}", "fn other") + body + b)],
          f"there are 0 functions {TRIAL}, not one"),
-        ("two trials of one name", [added(planner, f"mod more {{ fn {trial}() {{}} }}")], f"there are 2 functions {TRIAL}, not one"),
+        ("two trials of one name", [added(tries, f"mod more {{ fn {trial}() {{}} }}")], f"there are 2 functions {TRIAL}, not one"),
         ("a need in the question for a part", [first(PART, "checks::need(0, 1, 1);")],
          f"a trial works out a need (checks::need): {PART}"),
         ("a division in the pass for a moment", [first(MOMENT, "let a = 7 / 2;")], f"a trial divides (/): .. > {MOMENT}"),
@@ -436,17 +436,17 @@ def edits():
          f"a trial works out a need (checks::need): {LOW} > {rows}"),
         ("parts that no pass is made for", [becomes(PART, "{ true }")], f"{MOMENT} is not called in {PART}"),
         ("parts that are not asked for", [becomes(LOW, "{ while true { first_in_time(t); } }")], f"{PART} is not called in the loops of {LOW}"),
-        ("a part asked for elsewhere", [looped(PLACES, "part_in_time(t);")], f"{PLACES} calls {PART} outside of the loops of {LOW}"),
-        ("LO rows tried elsewhere", [first(PLAN, "first_low(t);")], f"{PLAN} calls {LOW} outside of the loops of {PLACES}"),
+        ("a part asked for elsewhere", [looped(PLACES, f"{PART}(t);")], f"{PLACES} calls {PART} outside of the loops of {LOW}"),
+        ("LO rows tried elsewhere", [first(PLAN, f"{LOW}(t);")], f"{PLAN} calls {LOW} outside of the loops of {PLACES}"),
         ("LO rows without a loop", [becomes(LOW, "{ }")], f"{LOW} has no loop"),
         ("LO rows that are not tried", [becomes(LOW, "{ while true { part_in_time(t); } }")], f"{TRIAL} is not called in the loops of {LOW}"),
         ("a trial without a loop", [becomes(TRIAL, "{ checks::and_then() }")], f"{TRIAL} has no loop"),
         ("a trial that calls nothing", [becomes(TRIAL, "{ while true { rules::Check::Passed; } }")], f"the loop of {TRIAL} calls nothing"),
         ("a trial that does not sweep", [becomes(TRIAL, "{ while true { checks::and_then(); } }")], f"{SWEEP} is not called in {TRIAL}"),
-        ("a sweep elsewhere", [looped(PLACES, f"{sweep}(t);")], f"{PLACES} calls {SWEEP} outside of {TRIAL}"),
-        ("a sweep from another crate", [first("judge::timed", f"{crate}::{sweep}(t);")], f"judge::timed calls {SWEEP} outside of {TRIAL}"),
-        ("a trial elsewhere", [first(PLAN, f"{trial}(t);")], f"{PLAN} calls {TRIAL} outside of the loops of {PLACES} and {LOW}"),
-        ("a trial before the places", [first(PLACES, f"{trial}(t);")], f"{PLACES} calls {TRIAL} outside of the loops of {PLACES} and {LOW}"),
+        ("a sweep elsewhere", [looped(LOW, f"{sweep}(t);")], f"{LOW} calls {SWEEP} outside of {TRIAL}"),
+        ("a sweep from another crate", [first("judge::timed", f"{SWEEP}(t);")], f"judge::timed calls {SWEEP} outside of {TRIAL}"),
+        ("a trial elsewhere", [first(PLAN, f"{TRIAL}(t);")], f"{PLAN} calls {TRIAL} outside of the loops of {PLACES} and {LOW}"),
+        ("a trial before the places", [first(PLACES, f"{TRIAL}(t);")], f"{PLACES} calls {TRIAL} outside of the loops of {PLACES} and {LOW}"),
         ("places without trials", [becomes(PLACES, "{ while true {} }")], f"{TRIAL} is not called in the loops of {PLACES}"),
         ("places without a loop", [becomes(PLACES, "{ }")], f"{PLACES} has no loop"),
         ("a planning without places", [becomes(PLAN, "{ }")], f"{PLAN} does not come to {PLACES}"),

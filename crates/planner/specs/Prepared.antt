@@ -6,6 +6,7 @@ use native.Mathlib.Omega.{arith}
 use lib.Dec.{eqb}
 use lib.ListN.{length, take}
 use Rattle.rules.specs.declared.Table.{Table}
+use Rattle.rules.specs.Lists.{keep}
 use Rattle.rules.specs.Rows.{at, rowsOf}
 use Rattle.rules.specs.Tables.{Accepted}
 use Rattle.rules.specs.Choice.{sequence, padded}
@@ -15,12 +16,13 @@ use Rattle.theory.specs.Caps.{cap}
 use Rattle.theory.specs.Facts.{rows-in, TableFacts, facts}
 use Rattle.theory.specs.Places.{length-rows}
 use Rattle.theory.specs.Choosing.{same-sequence}
+use Rattle.sweep.specs.Masks.{isLeft}
 use Rattle.sweep.specs.Padded.{padded-take, padded-at}
 use Rattle.sweep.specs.Finds.{byRelease}
 use Rattle.sweep.specs.CapColumn.{partNeeds}
+use Rattle.periods.specs.Marks.{marks}
+use Rattle.periods.specs.Entries.{entriesTo}
 use Rattle.planner.specs.declared.Trials.{Trials}
-use Rattle.planner.specs.Marks.{marks}
-use Rattle.planner.specs.Entries.{entriesTo}
 use Rattle.planner.specs.Keys.{trialKey, sort-eq}
 use Rattle.planner.specs.Sequence.{sequence-sort}
 
@@ -31,6 +33,10 @@ capsAt t s = padded (map (cap t s) (rowsOf t))
 -- the entries of the trial sequence whose rows are of this level, as a word
 abbrev pub atLevel : Table → ℕ → ℕ
 atLevel t level = marks (λ i. eqb (at (t .level) i) level) (sequence t)
+
+-- the rows of a word, in their trial sequence
+abbrev pub leftOf : Table → ℕ → List ℕ
+leftOf t m = keep (isLeft m) (sequence t)
 
 -- what all trials of a table share
 unfoldable pub trialsOf : Table → Trials

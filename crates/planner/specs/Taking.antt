@@ -33,14 +33,14 @@ use Rattle.sweep.specs.Holds.{Holds, holds-same, count-keep-le, count-kept, kee
 use Rattle.sweep.specs.Padded.{zeros, padded-at, padded-entry}
 use Rattle.sweep.specs.Trials.{trial}
 use Rattle.sweep.specs.Finds.{byRelease, queued, queued-sorted, queued-same, columns, finds, finds-part}
+use Rattle.periods.specs.Marks.{marks-bit, bit-and}
+use Rattle.periods.specs.Busy.{row, LeftAt}
+use Rattle.periods.specs.Periods.{Queue, Known, known-start, known-placed}
+use Rattle.periods.specs.Entries.{entriesTo, entry-is, entries-below}
+use Rattle.periods.specs.Trying.{Speed, Parts, KnownAt, Stands, Open, inTime, partInTime, lowInTime, FirstIn}
 use Rattle.planner.specs.Lines.{At, place-of, apart, sorted-rising, first-parts, first-kept, first-fails, keep-both, keep-append, keep-keep, keep-twice, keep-neither}
-use Rattle.planner.specs.Marks.{marks-bit, bit-and}
-use Rattle.planner.specs.Prepared.{capsAt, atLevel, every-take, every-length}
-use Rattle.planner.specs.Busy.{row, LeftAt}
-use Rattle.planner.specs.Periods.{Queue, Known, known-start, known-placed}
-use Rattle.planner.specs.Entries.{entriesTo, entry-is, entries-below}
+use Rattle.planner.specs.Prepared.{capsAt, atLevel, leftOf, every-take, every-length}
 use Rattle.planner.specs.Opening.{openTo, open-inside, open-clear, open-whole}
-use Rattle.planner.specs.Trying.{leftOf, Speed, Parts, KnownAt, Stands, Open, inTime, partInTime, lowInTime, FirstIn}
 
 -- the later of two clocks is in time if both are
 later-both : (a b d : ℕ) → leb a d && leb b d ≡ leb (max a b) d

@@ -18,11 +18,11 @@ use Rattle.theory.specs.Waits.{Closed}
 use Rattle.sweep.specs.Holds.{Holds}
 use Rattle.sweep.specs.Masks.{bit}
 use Rattle.sweep.specs.Padded.{zeros}
+use Rattle.periods.specs.Entries.{Entries}
+use Rattle.periods.specs.Trying.{Speed, KnownAt, Open, inTime, FirstIn, Parts, lowInTime}
 use Rattle.planner.specs.declared.Trials.{Trials}
-use Rattle.planner.specs.Prepared.{trialsOf}
-use Rattle.planner.specs.Entries.{Entries}
+use Rattle.planner.specs.Prepared.{leftOf, trialsOf}
 use Rattle.planner.specs.Opening.{openTo}
-use Rattle.planner.specs.Trying.{leftOf, Speed, KnownAt, Open, inTime, FirstIn, Parts, lowInTime}
 use Rattle.planner.specs.Taking.{Unplaced, Opened, Taken, speed-of, opened, opening, unplaced-turn, taken-low, taken-high, taken-row, known-first, known-turn, period-place, parts-of}
 
 -- what is known of the same busy periods

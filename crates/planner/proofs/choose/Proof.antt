@@ -12,7 +12,8 @@ use Rattle.rules.specs.Choice.{taker}
 use Rattle.theory.specs.Facts.{facts}
 use Rattle.sweep.specs.Masks.{bit, cleared-ones, one-shl}
 use Rattle.sweep.specs.Padded.{zeros}
-use Rattle.planner.specs.Trying.{leftOf, KnownAt}
+use Rattle.periods.specs.Trying.{KnownAt}
+use Rattle.planner.specs.Prepared.{leftOf}
 use Rattle.planner.specs.Taking.{Unplaced, Opened, Taken, unplaced-start}
 use Rattle.planner.specs.Turns.{KnownIn, known-same, entries-small, followed-few, opened-now, normal-speed, degraded-speed, degraded-parts, open-entries, normal-first, degraded-first, low-taken, high-taken, taken-range}
 use Rattle.planner.specs.Turns.{row-is, row-some, normal-within, degraded-within, unplaced-next, normal-next, degraded-next}

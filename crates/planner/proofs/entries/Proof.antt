@@ -6,7 +6,7 @@ use borrow.Author.Needs.{needs}
 use mathlib.Core.Path.{_≡_, refl, sym, ap, _∙_}
 use mathlib.Core.List.{List}
 use lib.ListN.{getD, set}
-use Rattle.planner.specs.Entries.{entriesTo}
+use Rattle.periods.specs.Entries.{entriesTo}
 use Rattle.planner.proofs.entries.Statement.{statement}
 use Rattle.planner.proofs.entries.Tie as tie
 

@@ -8,9 +8,9 @@ use mathlib.Core.Logic.{⊎-elim}
 use lib.Dec.{eqb}
 use lib.ListN.{length, take}
 use Rattle.rules.specs.Rows.{at}
-use Rattle.planner.specs.Marks.{marks, marks-clear, marked, not-marked}
 use Rattle.sweep.specs.Masks.{bit}
 use Rattle.sweep.specs.Padded.{rows-within}
+use Rattle.periods.specs.Marks.{marks, marks-clear, marked, not-marked}
 use Rattle.planner.proofs.entries_at.Statement.{statement}
 use Rattle.planner.proofs.entries_at.Tie as tie
 

@@ -7,10 +7,10 @@ use mathlib.Core.Logic.{inl, inr, ⊎-elim}
 use lib.Bits.{bitOr}
 use lib.ListN.{getD}
 use Rattle.sweep.specs.Padded.{Rows}
-use Rattle.planner.specs.Entries.{Entries}
-use Rattle.planner.specs.Sweeping.{Turn, turn-start, turn-skip, turn-row, turn-end}
-use Rattle.planner.proofs.renew.Statement.{statement}
-use Rattle.planner.proofs.renew.Tie as tie
+use Rattle.periods.specs.Entries.{Entries}
+use Rattle.periods.specs.Sweeping.{Turn, turn-start, turn-skip, turn-row, turn-end}
+use Rattle.periods.proofs.renew.Statement.{statement}
+use Rattle.periods.proofs.renew.Tie as tie
 
 abbrev Inv-loop : tie.InvT-loop
 Inv-loop queue n release deadline cap entry left begin period₀ passing₀ busy₀ first₀ k₀ period passing busy first k =

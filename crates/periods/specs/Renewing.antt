@@ -11,11 +11,11 @@ use lib.Seq.{getD-set-same, getD-set-other}
 use Rattle.rules.specs.Rows.{at}
 use Rattle.theory.specs.Tests.{by-bool, by-ltb, by-eqb, not-both}
 use Rattle.sweep.specs.Masks.{bit, zero-bit}
-use Rattle.planner.specs.Marks.{or-left, or-right, by-or}
-use Rattle.planner.specs.Entries.{timely, timely-sound, timely-whole}
-use Rattle.planner.specs.Busy.{row, LeftAt, busyTo, from, finish, from-end, from-busy, from-free, from-skip, stops}
-use Rattle.planner.specs.Busy.{busy-row, busy-skip, busy-over, reach}
-use Rattle.planner.specs.Periods.{Queue, Groups}
+use Rattle.periods.specs.Marks.{or-left, or-right, by-or}
+use Rattle.periods.specs.Entries.{timely, timely-sound, timely-whole}
+use Rattle.periods.specs.Busy.{row, LeftAt, busyTo, from, finish, from-end, from-busy, from-free, from-skip, stops}
+use Rattle.periods.specs.Busy.{busy-row, busy-skip, busy-over, reach}
+use Rattle.periods.specs.Periods.{Queue, Groups}
 
 module _ (rel cap due entry : ℕ → ℕ) (live : ℕ → Bool) (q : List ℕ) where
   -- rows left of the old busy period, which began at place p, that stand before place k

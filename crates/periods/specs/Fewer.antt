@@ -8,8 +8,8 @@ use lib.ListN.{length, drop}
 use Rattle.rules.specs.Lists.{keep}
 use Rattle.theory.specs.Tests.{by-bool, by-ltb, by-leb}
 use Rattle.theory.specs.Sweep.{sweep-ge}
-use Rattle.planner.specs.Busy.{row, LeftAt, Rising, busyTo, from, finish, from-end, from-skip, from-early, from-busy, from-free, stops}
-use Rattle.planner.specs.Busy.{busy-row, busy-skip, busy-past, reach, free}
+use Rattle.periods.specs.Busy.{row, LeftAt, Rising, busyTo, from, finish, from-end, from-skip, from-early, from-busy, from-free, stops}
+use Rattle.periods.specs.Busy.{busy-row, busy-skip, busy-past, reach, free}
 
 module _ (rel cap : ℕ → ℕ) where
   -- a row that is left stops the sweep, or is run

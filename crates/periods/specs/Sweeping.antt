@@ -12,10 +12,10 @@ use lib.Seq.{getD-take, length-take-le}
 use Rattle.rules.specs.Rows.{at}
 use Rattle.sweep.specs.Masks.{isLeft}
 use Rattle.sweep.specs.Padded.{rows-within}
-use Rattle.planner.specs.Entries.{timely}
-use Rattle.planner.specs.Busy.{row, LeftAt}
-use Rattle.planner.specs.Renewing.{Renewing, renewing-start, renewing-skip, renewing-begins, renewing-joins, renewed-groups, renewed-sound, renewed-whole}
-use Rattle.planner.specs.Trying.{Speed, Grouped, Renewed}
+use Rattle.periods.specs.Entries.{timely}
+use Rattle.periods.specs.Busy.{row, LeftAt}
+use Rattle.periods.specs.Renewing.{Renewing, renewing-start, renewing-skip, renewing-begins, renewing-joins, renewed-groups, renewed-sound, renewed-whole}
+use Rattle.periods.specs.Trying.{Speed, Grouped, Renewed}
 
 -- before the turn at place k of the sweep of the busy period that began at `begin`
 abbrev pub Turn : List ℕ → ℕ → List ℕ → List ℕ → List ℕ → List ℕ → ℕ → ℕ → List ℕ → List ℕ → ℕ → ℕ → ℕ → ℕ → Type 0

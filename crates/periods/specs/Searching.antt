@@ -12,10 +12,10 @@ use Rattle.rules.specs.Rows.{at}
 use Rattle.theory.specs.Tests.{by-leb, by-eqb}
 use Rattle.sweep.specs.Lowest.{lowestOf, lowest-set, lowest-from, lowest-clear}
 use Rattle.sweep.specs.Masks.{bit, bit-lt, isLeft, left-bit, zero-bit, cleared-same, cleared-other}
-use Rattle.planner.specs.Marks.{bit-and, or-left, or-right, by-or}
-use Rattle.planner.specs.Busy.{row, LeftAt, finish}
-use Rattle.planner.specs.Renewing.{Meets}
-use Rattle.planner.specs.Trying.{KnownAt, Renewed, Open, FirstIn, inTime}
+use Rattle.periods.specs.Marks.{bit-and, or-left, or-right, by-or}
+use Rattle.periods.specs.Busy.{row, LeftAt, finish}
+use Rattle.periods.specs.Renewing.{Meets}
+use Rattle.periods.specs.Trying.{KnownAt, Renewed, Open, FirstIn, inTime}
 
 module _ (queue : List ℕ) (n : ℕ) (release deadline cap entry : List ℕ) (left : ℕ) where
   abbrev q : List ℕ

@@ -10,9 +10,9 @@ use lib.ListN.{getD}
 use Rattle.rules.specs.Rows.{at}
 use Rattle.theory.specs.Tests.{by-leb}
 use Rattle.sweep.specs.Masks.{isLeft, one-shl}
-use Rattle.planner.specs.Entries.{timely, timely-none, timely-row, timely-late, timely-skip}
-use Rattle.planner.proofs.in_time.Statement.{statement}
-use Rattle.planner.proofs.in_time.Tie as tie
+use Rattle.periods.specs.Entries.{timely, timely-none, timely-row, timely-late, timely-skip}
+use Rattle.periods.proofs.in_time.Statement.{statement}
+use Rattle.periods.proofs.in_time.Tie as tie
 
 abbrev Inv-loop : tie.InvT-loop
 Inv-loop queue deadline entry left first end clock word₀ k₀ word k =

@@ -6,11 +6,11 @@ use native.Mathlib.Omega.{arith}
 use lib.ListN.{getD, take}
 use lib.Pow.{pow-pos}
 use Rattle.sweep.specs.Masks.{bit-le}
-use Rattle.planner.specs.Busy.{row}
-use Rattle.planner.specs.Trying.{KnownAt, Found, inTime, partInTime}
-use Rattle.planner.specs.LowSearch.{row-range, Asking, asking-start, asked-open, none-first, none-asked, part-found, part-failed, seat-row, seat-range}
-use Rattle.planner.proofs.first_low.Statement.{statement}
-use Rattle.planner.proofs.first_low.Tie as tie
+use Rattle.periods.specs.Busy.{row}
+use Rattle.periods.specs.Trying.{KnownAt, Found, inTime, partInTime}
+use Rattle.periods.specs.LowSearch.{row-range, Asking, asking-start, asked-open, none-first, none-asked, part-found, part-failed, seat-row, seat-range}
+use Rattle.periods.proofs.first_low.Statement.{statement}
+use Rattle.periods.proofs.first_low.Tie as tie
 
 abbrev Inv-loop : tie.InvT-loop
 Inv-loop queue n release deadline normal degraded promised part sequence entry left word changed passing period₀ asked₀ renewing₀ known₀ period asked renewing known =

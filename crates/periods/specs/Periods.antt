@@ -10,9 +10,9 @@ use Rattle.rules.specs.Rows.{at}
 use Rattle.theory.specs.Tests.{by-ltb, by-eqb}
 use Rattle.sweep.specs.Masks.{bit, bit-lt, zero-bit}
 use Rattle.sweep.specs.Padded.{zeros, zeros-entry}
-use Rattle.planner.specs.Marks.{bit-or, or-neither, one-same, one-other}
-use Rattle.planner.specs.Busy.{row, LeftAt, Rising, busyTo, finish}
-use Rattle.planner.specs.Fewer.{busy-fewer, finish-fewer, finish-after, finish-before}
+use Rattle.periods.specs.Marks.{bit-or, or-neither, one-same, one-other}
+use Rattle.periods.specs.Busy.{row, LeftAt, Rising, busyTo, finish}
+use Rattle.periods.specs.Fewer.{busy-fewer, finish-fewer, finish-after, finish-before}
 
 -- the queue has different rows of a table, by rising release, each with a cap of a slot at least and an entry of its own
 pub record Queue (rel cap entry : ℕ → ℕ) (q : List ℕ) : Type 0 where

@@ -8,9 +8,9 @@ use lib.ListN.{take}
 use Rattle.rules.specs.Rows.{at, put}
 use Rattle.sweep.specs.Trials.{trial}
 use native.Mathlib.Omega.{arith}
-use Rattle.planner.specs.Trying.{partInTime}
-use Rattle.planner.proofs.part_in_time.Statement.{statement}
-use Rattle.planner.proofs.part_in_time.Tie as tie
+use Rattle.periods.specs.Trying.{partInTime}
+use Rattle.periods.proofs.part_in_time.Statement.{statement}
+use Rattle.periods.proofs.part_in_time.Tie as tie
 
 entry-requires : tie.Need-entry-requires
 entry-requires c κs = search needs

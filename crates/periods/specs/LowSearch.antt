@@ -10,8 +10,8 @@ use Rattle.rules.specs.Rows.{at}
 use Rattle.theory.specs.Tests.{by-eqb, and-both, and-false}
 use Rattle.sweep.specs.Masks.{bit, bit-lt, zero-bit, isLeft, cleared-same, cleared-other}
 use Rattle.sweep.specs.Padded.{Rows, rows-within}
-use Rattle.planner.specs.Busy.{row, LeftAt}
-use Rattle.planner.specs.Trying.{Speed, Parts, Stands, Open, Found, FirstIn}
+use Rattle.periods.specs.Busy.{row, LeftAt}
+use Rattle.periods.specs.Trying.{Speed, Parts, Stands, Open, Found, FirstIn}
 
 module _ (first second : ℕ → Bool) (queue entry : List ℕ) (n left : ℕ) where
   abbrev both : ℕ → Bool

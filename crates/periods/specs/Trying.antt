@@ -6,20 +6,13 @@ use mathlib.Core.Logic.{_⊎_}
 use mathlib.Core.List.{List}
 use lib.Dec.{eqb, leb}
 use lib.ListN.{length, getD, take}
-use Rattle.rules.specs.declared.Table.{Table}
-use Rattle.rules.specs.Lists.{keep}
 use Rattle.rules.specs.Rows.{at, put}
-use Rattle.rules.specs.Choice.{sequence}
 use Rattle.sweep.specs.Masks.{bit, isLeft}
 use Rattle.sweep.specs.Trials.{Columns, trial}
-use Rattle.planner.specs.Busy.{row, LeftAt}
-use Rattle.planner.specs.Entries.{Entries}
-use Rattle.planner.specs.Periods.{Queue, Groups, Known}
-use Rattle.planner.specs.Renewing.{Meets}
-
--- the rows of a word, in their trial sequence
-abbrev pub leftOf : Table → ℕ → List ℕ
-leftOf t m = keep (isLeft m) (sequence t)
+use Rattle.periods.specs.Busy.{row, LeftAt}
+use Rattle.periods.specs.Entries.{Entries}
+use Rattle.periods.specs.Periods.{Queue, Groups, Known}
+use Rattle.periods.specs.Renewing.{Meets}
 
 -- the columns of one speed: the queue of n rows, their releases and their caps, in slots, and their entries in the trial sequence
 pub record Speed (queue : List ℕ) (n : ℕ) (release cap entry : List ℕ) : Type 0 where

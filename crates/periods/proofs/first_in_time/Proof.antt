@@ -5,11 +5,11 @@ use mathlib.Core.Path.{_≡_, sym, ap, _∙_}
 use lib.Pow.{pow-pos}
 use Rattle.sweep.specs.Lowest.{lowestOf, lowest-set, lowest-from, lowest-upto}
 use Rattle.sweep.specs.Masks.{bit, bit-le}
-use Rattle.planner.specs.Trying.{KnownAt}
-use Rattle.planner.specs.Sweeping.{queue-length}
-use Rattle.planner.specs.Searching.{known-renewed, search-none, search-known, search-failed, search-found}
-use Rattle.planner.proofs.first_in_time.Statement.{statement}
-use Rattle.planner.proofs.first_in_time.Tie as tie
+use Rattle.periods.specs.Trying.{KnownAt}
+use Rattle.periods.specs.Sweeping.{queue-length}
+use Rattle.periods.specs.Searching.{known-renewed, search-none, search-known, search-failed, search-found}
+use Rattle.periods.proofs.first_in_time.Statement.{statement}
+use Rattle.periods.proofs.first_in_time.Tie as tie
 
 abbrev Inv-loop : tie.InvT-loop
 Inv-loop queue n release deadline cap entry left word changed passing period₀ renewing₀ known₀ next period renewing known =

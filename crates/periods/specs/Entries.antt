@@ -13,7 +13,7 @@ use Rattle.rules.specs.Rows.{at}
 use Rattle.theory.specs.Tests.{by-bool, by-leb, by-eqb}
 use Rattle.sweep.specs.Masks.{bit, zero-bit}
 use Rattle.sweep.specs.Padded.{zeros, zeros-entry}
-use Rattle.planner.specs.Marks.{or-left, or-right, by-or, one-same, one-other}
+use Rattle.periods.specs.Marks.{or-left, or-right, by-or, one-same, one-other}
 
 -- the rows at the first k entries of a sequence know their entry
 abbrev pub entriesTo : List ℕ → ℕ → List ℕ

@@ -1,0 +1,10 @@
+pub mod Marks
+pub mod Entries
+pub mod Busy
+pub mod Fewer
+pub mod Periods
+pub mod Renewing
+pub mod Trying
+pub mod Sweeping
+pub mod Searching
+pub mod LowSearch
