@@ -11,7 +11,7 @@ use lib.IntN.{ℤ, pos, _-ℤ_}
 use lib.ListN.{length, getD, set, take, drop, replicate}
 use lib.Signed.{ltZ}
 use Rattle.rules.specs.declared.Table.{Table}
-use Rattle.rules.specs.Calls.{Call, one, forward, Said, tellAll, supplyAt}
+use Rattle.rules.specs.Calls.{Call, one, forward, Said, tellAll, supplyFrom}
 use Rattle.rules.specs.Choice.{choice, padded, word}
 use Rattle.rules.specs.Fields.{valueOf, isField}
 use Rattle.rules.specs.Lists.{count, rowsTo, sum}
@@ -24,11 +24,11 @@ use Rattle.rules.specs.Reports.{figure}
 use Rattle.rules.specs.Rows.{at}
 use Rattle.rules.specs.Sheets.{isLine, numberAt, readOf}
 use Rattle.rules.specs.Running.{runAfter}
-use Rattle.rules.specs.Slots.{fresh, chosen, after}
+use Rattle.rules.specs.Slots.{startAt, chosen, after}
 use Rattle.rules.specs.Tables.{checkTable, Accepted}
 use Rattle.rules.specs.Worst.{horizon, worstSpeed, slack}
 use Rattle.record.specs.Answers.{slotSaid, forwardSaid}
-use Rattle.record.specs.Records.{isSound, freshRun, oneSlot, forwardOver}
+use Rattle.record.specs.Records.{isSound, startRun, oneSlot, forwardOver}
 use Rattle.words.specs.Words.{tableIn, wordsOf, runIn, stateWords}
 use Rattle.conclusions.specs.declared.Again.{Again}
 use Rattle.conclusions.specs.declared.Begun.{Begun}
@@ -422,9 +422,14 @@ listWords table order (c ∷ cs) state =
     let rest = listWords table order cs (t .state) in
     record { said = t .said ∷ rest .said; state = rest .state }
 
--- each slot before row i's deadline by which some row is released supplied at least s work units (rules 9.14, 9.15)
-abbrev pub SuppliedIn : List ℕ → List Call → ℕ → ℕ → Type 0
-SuppliedIn table cs i s = (u j : ℕ) → 1 ≤ j → j ≤ getD table 0 0 → getD table (3 + j) 0 ≤ u → u < getD table (131 + i) 0 → s ≤ supplyAt cs u
+-- Each slot before row i's deadline by which some row is released supplied at least s work units, where the first call is made at clock k (rules 9.14, 9.15).
+abbrev pub SuppliedIn : List ℕ → ℕ → List Call → ℕ → ℕ → Type 0
+SuppliedIn table k cs i s = (u j : ℕ) → 1 ≤ j → j ≤ getD table 0 0 → getD table (3 + j) 0 ≤ u → u < getD table (131 + i) 0 → s ≤ supplyFrom k cs u
+
+-- each of these slots that is before clock c did (rule 9.20)
+abbrev pub SuppliedTill : List ℕ → ℕ → List Call → ℕ → ℕ → ℕ → Type 0
+SuppliedTill table k cs c i s =
+    (u j : ℕ) → 1 ≤ j → j ≤ getD table 0 0 → getD table (3 + j) 0 ≤ u → u < getD table (131 + i) 0 → u < c → s ≤ supplyFrom k cs u
 
 -- row i has got its work, and its closing slot is at least 1 and at most its deadline, in the words of a state (rule 3.1)
 pub record KeptWords (table state : List ℕ) (i : ℕ) : Type 0 where
@@ -442,34 +447,44 @@ pub record WaitedWords (table state : List ℕ) : Type 0 where
   pub done : (i : ℕ) → 1 ≤ i → i ≤ getD table 0 0 → (getD table (323 + i) 0 ≡ 0 → ⊥) → (getD table (195 + i) 0 ≡ 0 → ⊥) → 1 ≤ getD state (64 + i) 0
       → getD state (getD table (323 + i) 0) 0 ≡ getD table (67 + getD table (323 + i) 0) 0
 
--- the words of the fresh record's state (rule 8.2)
-abbrev pub startOf : List ℕ → List ℕ → List ℕ
-startOf table order = stateWords (freshRun (tableIn table) order)
+-- the words of the state at clock k with every row open and empty: at 0 slots the fresh record's, and else a committed record's (rules 8.2, 22.4)
+abbrev pub startOf : List ℕ → List ℕ → ℕ → List ℕ
+startOf table order k = stateWords (startRun (tableIn table) order k)
 
--- From the start on, the answers are those of the run on paper, and each row whose deadline the clock has reached has kept it: a HI row if its
+-- From that start on, the answers are those of the run on paper, and each row whose deadline the clock has reached has kept it: a HI row if its
 -- slots supplied at least G, a LO row if they supplied at least N (rules 9.10, 9.12); and a LO row has got its promised part if they supplied at
 -- least G (rule 9.18). Whatever they supplied, a LO row is open only while its deadline is to come and was else closed by then, a HI row is closed only
 -- when it is done (rules 19.2, 19.4), and no follower has run before the row that it follows was closed (rule 9.19).
-pub record PenEngineer (table order start : List ℕ) (cs : List Call) : Type 0 where
-  pub said : listWords table order cs start .said ≡ tellAll (tableIn table) order cs fresh .said
-  pub clock : getD (listWords table order cs start .state) 0 0 ≡ tellAll (tableIn table) order cs fresh .state .clock
-  pub high : (i : ℕ) → 1 ≤ i → i ≤ getD table 0 0 → (getD table (195 + i) 0 ≡ 0 → ⊥) → getD table (131 + i) 0 ≤ getD (listWords table order cs start .state) 0 0
-      → SuppliedIn table cs i (getD table 2 0) → KeptWords table (listWords table order cs start .state) i
-  pub low : (i : ℕ) → 1 ≤ i → i ≤ getD table 0 0 → getD table (195 + i) 0 ≡ 0 → getD table (131 + i) 0 ≤ getD (listWords table order cs start .state) 0 0
-      → SuppliedIn table cs i (getD table 1 0) → KeptWords table (listWords table order cs start .state) i
-  pub part : (i : ℕ) → 1 ≤ i → i ≤ getD table 0 0 → getD table (195 + i) 0 ≡ 0 → getD table (131 + i) 0 ≤ getD (listWords table order cs start .state) 0 0
-      → SuppliedIn table cs i (getD table 2 0) → getD table (259 + i) 0 ≤ getD (listWords table order cs start .state) i 0
+pub record PenEngineer (table order : List ℕ) (k : ℕ) (cs : List Call) : Type 0 where
+  pub said : listWords table order cs (startOf table order k) .said ≡ tellAll (tableIn table) order cs (startAt k) .said
+  pub clock : getD (listWords table order cs (startOf table order k) .state) 0 0 ≡ tellAll (tableIn table) order cs (startAt k) .state .clock
+  pub high : (i : ℕ) → 1 ≤ i → i ≤ getD table 0 0 → (getD table (195 + i) 0 ≡ 0 → ⊥) → getD table (131 + i) 0 ≤ getD (listWords table order cs (startOf table order k) .state) 0 0
+      → SuppliedIn table k cs i (getD table 2 0) → KeptWords table (listWords table order cs (startOf table order k) .state) i
+  pub low : (i : ℕ) → 1 ≤ i → i ≤ getD table 0 0 → getD table (195 + i) 0 ≡ 0 → getD table (131 + i) 0 ≤ getD (listWords table order cs (startOf table order k) .state) 0 0
+      → SuppliedIn table k cs i (getD table 1 0) → KeptWords table (listWords table order cs (startOf table order k) .state) i
+  pub part : (i : ℕ) → 1 ≤ i → i ≤ getD table 0 0 → getD table (195 + i) 0 ≡ 0 → getD table (131 + i) 0 ≤ getD (listWords table order cs (startOf table order k) .state) 0 0
+      → SuppliedIn table k cs i (getD table 2 0) → getD table (259 + i) 0 ≤ getD (listWords table order cs (startOf table order k) .state) i 0
+  -- a row that is closed has kept its deadline, and a LO row has got its promised part, if its slots up to the clock supplied as much (rule 9.20)
+  pub closed-high : (i : ℕ) → 1 ≤ i → i ≤ getD table 0 0 → (getD table (195 + i) 0 ≡ 0 → ⊥) → 1 ≤ getD (listWords table order cs (startOf table order k) .state) (128 + i) 0
+      → SuppliedTill table k cs (getD (listWords table order cs (startOf table order k) .state) 0 0) i (getD table 2 0)
+      → KeptWords table (listWords table order cs (startOf table order k) .state) i
+  pub closed-low : (i : ℕ) → 1 ≤ i → i ≤ getD table 0 0 → getD table (195 + i) 0 ≡ 0 → 1 ≤ getD (listWords table order cs (startOf table order k) .state) (128 + i) 0
+      → SuppliedTill table k cs (getD (listWords table order cs (startOf table order k) .state) 0 0) i (getD table 1 0)
+      → KeptWords table (listWords table order cs (startOf table order k) .state) i
+  pub closed-part : (i : ℕ) → 1 ≤ i → i ≤ getD table 0 0 → getD table (195 + i) 0 ≡ 0 → 1 ≤ getD (listWords table order cs (startOf table order k) .state) (128 + i) 0
+      → SuppliedTill table k cs (getD (listWords table order cs (startOf table order k) .state) 0 0) i (getD table 2 0)
+      → getD table (259 + i) 0 ≤ getD (listWords table order cs (startOf table order k) .state) i 0
   pub preview : (i : ℕ) → 1 ≤ i → i ≤ getD table 0 0 → getD table (195 + i) 0 ≡ 0
-      → (getD (listWords table order cs start .state) (128 + i) 0 ≡ 0 → getD (listWords table order cs start .state) 0 0 < getD table (131 + i) 0)
-      × (getD (listWords table order cs start .state) (128 + i) 0 ≤ getD table (131 + i) 0)
-  pub pen : (i : ℕ) → 1 ≤ i → i ≤ getD table 0 0 → (getD table (195 + i) 0 ≡ 0 → ⊥) → 1 ≤ getD (listWords table order cs start .state) (128 + i) 0
-      → getD (listWords table order cs start .state) i 0 ≡ getD table (67 + i) 0
+      → (getD (listWords table order cs (startOf table order k) .state) (128 + i) 0 ≡ 0 → getD (listWords table order cs (startOf table order k) .state) 0 0 < getD table (131 + i) 0)
+      × (getD (listWords table order cs (startOf table order k) .state) (128 + i) 0 ≤ getD table (131 + i) 0)
+  pub pen : (i : ℕ) → 1 ≤ i → i ≤ getD table 0 0 → (getD table (195 + i) 0 ≡ 0 → ⊥) → 1 ≤ getD (listWords table order cs (startOf table order k) .state) (128 + i) 0
+      → getD (listWords table order cs (startOf table order k) .state) i 0 ≡ getD table (67 + i) 0
   -- slot u of the run on paper, up to the coming one, goes to a follower only if the row that it follows was closed by clock u (rule 9.19)
-  pub slots : (i u : ℕ) → 1 ≤ i → i ≤ getD table 0 0 → (getD table (323 + i) 0 ≡ 0 → ⊥) → u ≤ getD (listWords table order cs start .state) 0 0
-      → chosen (tableIn table) order (runAfter (tableIn table) order (supplyAt cs) u) ≡ i
-      → (1 ≤ getD (listWords table order cs start .state) (128 + getD table (323 + i) 0) 0)
-      × (getD (listWords table order cs start .state) (128 + getD table (323 + i) 0) 0 ≤ u)
-  pub waits : WaitedWords table (listWords table order cs start .state)
+  pub slots : (i u : ℕ) → 1 ≤ i → i ≤ getD table 0 0 → (getD table (323 + i) 0 ≡ 0 → ⊥) → u ≤ getD (listWords table order cs (startOf table order k) .state) 0 0
+      → chosen (tableIn table) order (runAfter (tableIn table) order (supplyFrom k cs) u) ≡ i
+      → (1 ≤ getD (listWords table order cs (startOf table order k) .state) (128 + getD table (323 + i) 0) 0)
+      × (getD (listWords table order cs (startOf table order k) .state) (128 + getD table (323 + i) 0) 0 ≤ u)
+  pub waits : WaitedWords table (listWords table order cs (startOf table order k) .state)
 
 -- a number and a value as an answer (rules 9.7, 9.8)
 abbrev pub told : ℕ → ℕ → Said
@@ -480,9 +495,9 @@ told number value = record { number = number; value = value }
 pub record Drawn (table supplies : List ℕ) (said : Drawing) : Type 0 where
   pub fresh : said .planned ≡ 0 → said .fresh ≡ 0
   pub answer : said .planned ≡ 0
-      → listWords table (said .order) (forward supplies ∷ []) (startOf table (said .order)) .said ≡ told (said .forward) (said .worked) ∷ []
-  pub kept : said .planned ≡ 0 → PenEngineer table (said .order) (startOf table (said .order)) (forward supplies ∷ [])
-  pub left : said .planned ≡ 0 → said .state ≡ listWords table (said .order) (forward supplies ∷ []) (startOf table (said .order)) .state
+      → listWords table (said .order) (forward supplies ∷ []) (startOf table (said .order) 0) .said ≡ told (said .forward) (said .worked) ∷ []
+  pub kept : said .planned ≡ 0 → PenEngineer table (said .order) 0 (forward supplies ∷ [])
+  pub left : said .planned ≡ 0 → said .state ≡ listWords table (said .order) (forward supplies ∷ []) (startOf table (said .order) 0) .state
 
 -- ---- The sales desk: the verdict is exact (rule 7.2), and the figures beside it are those of the worst runs (rules 3.5 to 3.7, 3.9, 7.3, 7.5).
 

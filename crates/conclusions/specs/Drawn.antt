@@ -9,7 +9,9 @@ use lib.Dec.{ltb}
 use lib.ListN.{length, getD}
 use borrow.Author.Tests.{eq-eqb, ne-eqb}
 use Rattle.rules.specs.declared.Table.{Table}
-use Rattle.rules.specs.Calls.{lastClock, Call, one, forward, supplyAt}
+use Rattle.rules.specs.Calls.{lastClock, Call, one, forward, supplyFrom}
+use Rattle.rules.specs.Correct.{earliest}
+use Rattle.rules.specs.Days.{justRuns}
 use Rattle.rules.specs.Meaning.{Serves}
 use Rattle.rules.specs.Orders.{isOrder}
 use Rattle.rules.specs.Rows.{at}
@@ -24,17 +26,18 @@ use Rattle.rules.specs.Choice.{planOf}
 use Rattle.rules.specs.Numbers.{checkNumber, plannedNumber}
 use Rattle.record.specs.Answers.{forwardSaid}
 use Rattle.record.specs.declared.Run.{Run}
-use Rattle.record.specs.Fresh.{fresh-sized}
+use Rattle.record.specs.Fresh.{start-sized}
 use Rattle.record.specs.Kept.{Sized, sized-kept}
-use Rattle.record.specs.Records.{freshRun, freshOf, isSound, nextRun, oneSlot, workOn, forwardOver}
-use Rattle.guarantee.specs.Claim.{paper, RunRight, Claim}
-use Rattle.guarantee.specs.Concluded.{Supplied, Done, Deadlines, Waited, concluded}
+use Rattle.record.specs.Records.{startRun, freshOf, isSound, nextRun, oneSlot, workOn, forwardOver}
+use Rattle.guarantee.specs.Concluded as Concluded
+use Rattle.guarantee.specs.Concluded.{Supplied, SuppliedTo, Done, Deadlines, Closings, Waited, in-time, closings-are}
+use Rattle.guarantee.specs.Listed.{runPaper, ListRight, list-right}
 use Rattle.guarantee.specs.Playing.{make, makeAll}
 use Rattle.guarantee.specs.Proved.{demand-3}
 use Rattle.words.specs.Inverse.{words-of-table-in}
 use Rattle.words.specs.Words.{tableIn, wordsOf, runIn, stateWords}
 use Rattle.conclusions.specs.declared.Drawing.{Drawing}
-use Rattle.conclusions.specs.Conclusions.{callWords, ListTold, listWords, SuppliedIn, KeptWords, WaitedWords, startOf, PenEngineer, told, Drawn}
+use Rattle.conclusions.specs.Conclusions.{callWords, ListTold, listWords, SuppliedIn, SuppliedTill, KeptWords, WaitedWords, startOf, PenEngineer, told, Drawn}
 use Rattle.conclusions.specs.Entries.{table-words, StateWords, state-words}
 use Rattle.conclusions.specs.Firmware.{held}
 use Rattle.conclusions.specs.Forwarded.{clock-word}
@@ -89,40 +92,52 @@ module _ (table order : List ℕ) (tables : length table ≡ 388) where
   list-words [] q a = refl
   list-words (c ∷ cs) q a = simp (call-words c q a, list-words cs (make c q .run) (alike-made t order c q a))
 
-  alike-fresh : Alike t order (freshRun t order)
-  alike-fresh = record { table = refl; order = refl; sized = fresh-sized t order }
+  alike-start : (k : ℕ) → Alike t order (startRun t order k)
+  alike-start k = record { table = refl; order = refl; sized = start-sized t order k }
 
-  module _ (accepted : Accepted t) (passes : isOrder t order ≡ true) (cs : List Call) where
+  -- from the record at a clock that is not after the earliest release, every row open and empty
+  module _ (accepted : Accepted t) (passes : isOrder t order ≡ true) (k : ℕ) (early : k ≤ earliest t) (cs : List Call) where
     abbrev start : List ℕ
-    start = stateWords (freshRun t order)
+    start = startOf table order k
 
     abbrev end : Run
-    end = makeAll cs (freshRun t order) .run
+    end = makeAll cs (startRun t order k) .run
 
-    listed : listWords table order cs start ≡ record { said = makeAll cs (freshRun t order) .said; state = stateWords end }
-    listed = list-words cs (freshRun t order) alike-fresh
+    listed : listWords table order cs start ≡ record { said = makeAll cs (startRun t order k) .said; state = stateWords end }
+    listed = list-words cs (startRun t order k) (alike-start k)
 
-    claim : Claim t cs
-    claim = demand-3 t accepted cs
+    abbrev on-paper : State
+    on-paper = runPaper t order k cs .state
 
-    right : RunRight t order cs (makeAll cs (freshRun t order))
-    right = rw (claim .started order passes) at (claim .right order passes)
+    right : ListRight t order k cs (makeAll cs (startRun t order k))
+    right = list-right t cs (demand-3 t accepted (justRuns cs)) order passes k early
 
-    deadlines : Deadlines t order cs (makeAll cs (freshRun t order))
-    deadlines = rw (claim .started order passes) at (concluded demand-3 t accepted cs .deadlines order passes)
+    deadlines : Deadlines t order (supplyFrom k cs) end
+    deadlines = in-time t accepted order on-paper (supplyFrom k cs) end (right .hand)
+
+    closings : Closings t order (supplyFrom k cs) end
+    closings = closings-are t accepted order on-paper (supplyFrom k cs) end (right .hand)
 
     -- the record at the end is the one that its words hold
     end-words : (i : ℕ) → 1 ≤ i → i ≤ 64 → StateWords (stateWords end) end i
-    end-words i l h = rw (is-held end (alike-all t order cs (freshRun t order) alike-fresh)) at (state-words table order (stateWords end) i l h)
+    end-words i l h = rw (is-held end (alike-all t order cs (startRun t order k) (alike-start k))) at (state-words table order (stateWords end) i l h)
 
     few : (i : ℕ) → i ≤ t .n → i ≤ 64
     few i h = omega (arith, facts t accepted .few)
 
-    supplied : (i s : ℕ) → 1 ≤ i → i ≤ t .n → SuppliedIn table cs i s → Supplied t cs i s
+    supplied : (i s : ℕ) → 1 ≤ i → i ≤ t .n → SuppliedIn table k cs i s → Supplied t (supplyFrom k cs) i s
     unfolding tableIn
     supplied i s l h w u j lj hj a d = w u j lj hj (rw (table-words table j lj (few j hj) .release) a) (rw (table-words table i l (few i h) .deadline) d)
 
-    kept-words : (i : ℕ) → 1 ≤ i → i ≤ t .n → Done t (makeAll cs (freshRun t order)) i → KeptWords table (stateWords end) i
+    till : (i s : ℕ) → 1 ≤ i → i ≤ t .n → SuppliedTill table k cs (getD (listWords table order cs start .state) 0 0) i s → SuppliedTo t (supplyFrom k cs) (end .clock) i s
+    unfolding tableIn
+    till i s l h w u j lj hj a d b =
+        w u j lj hj (rw (table-words table j lj (few j hj) .release) a) (rw (table-words table i l (few i h) .deadline) d) (rw (listed, clock-word end) b)
+
+    shut : (i : ℕ) → 1 ≤ i → i ≤ t .n → 1 ≤ getD (listWords table order cs start .state) (128 + i) 0 → 1 ≤ at (end .closing) i
+    shut i l h c = omega (arith, rw listed at c, end-words i l (few i h) .closing)
+
+    kept-words : (i : ℕ) → 1 ≤ i → i ≤ t .n → Done t end i → KeptWords table (stateWords end) i
     kept-words i l h k =
         let w = table-words table i l (few i h) in
         let e = end-words i l (few i h) in
@@ -136,22 +151,22 @@ module _ (table order : List ℕ) (tables : length table ≡ 388) where
 
     -- the record at the end holds the state of the run by the running rule
     abbrev run-end : State
-    run-end = runAfter t order (supplyAt cs) (paper t order cs .state .clock)
+    run-end = runAfter t order (supplyFrom k cs) (on-paper .clock)
 
     closing-end : (i : ℕ) → at (end .closing) i ≡ at (run-end .closing) i
-    closing-end i = ap (λ (x : List ℕ). at x i) (right .closing) ∙ ap (λ (s : State). at (s .closing) i) (right .taken)
+    closing-end i = ap (λ (x : List ℕ). at x i) (right .hand .closing) ∙ ap (λ (s : State). at (s .closing) i) (right .hand .taken)
 
     got-end : (i : ℕ) → at (end .got) i ≡ at (run-end .got) i
-    got-end i = ap (λ (x : List ℕ). at x i) (right .got) ∙ ap (λ (s : State). at (s .got) i) (right .taken)
+    got-end i = ap (λ (x : List ℕ). at x i) (right .hand .got) ∙ ap (λ (s : State). at (s .got) i) (right .hand .taken)
 
     previewed : (i : ℕ) → 1 ≤ i → i ≤ t .n → at (t .level) i ≡ 0
         → (getD (stateWords end) (128 + i) 0 ≡ 0 → getD (stateWords end) 0 0 < getD table (131 + i) 0) × (getD (stateWords end) (128 + i) 0 ≤ getD table (131 + i) 0)
     previewed i l h z =
         let w = table-words table i l (few i h) in
         let e = end-words i l (few i h) in
-        let timely = running-low t accepted order passes i (is-row t i (record { from = l; upTo = h })) (rw (eq-eqb (at (t .level) i) 0 z)) (supplyAt cs)
-        (paper t order cs .state .clock) in (
-          λ q. omega (arith, w .deadline, clock-word end, right .clock, timely .early (sym (closing-end i) ∙ sym (e .closing) ∙ q)),
+        let timely = running-low t accepted order passes i (is-row t i (record { from = l; upTo = h })) (rw (eq-eqb (at (t .level) i) 0 z)) (supplyFrom k cs)
+        (on-paper .clock) in (
+          λ q. omega (arith, w .deadline, clock-word end, right .hand .clock, timely .early (sym (closing-end i) ∙ sym (e .closing) ∙ q)),
           omega (arith, w .deadline, e .closing, closing-end i, timely .by),
         )
 
@@ -159,13 +174,13 @@ module _ (table order : List ℕ) (tables : length table ≡ 388) where
     pens i l h n c =
         let w = table-words table i l (few i h) in
         let e = end-words i l (few i h) in
-        let done = running-high t accepted order passes i (is-row t i (record { from = l; upTo = h })) (rw (ne-eqb (at (t .level) i) 0 n)) (supplyAt cs)
-        (paper t order cs .state .clock) (omega (arith, c, e .closing, closing-end i)) in
+        let done = running-high t accepted order passes i (is-row t i (record { from = l; upTo = h })) (rw (ne-eqb (at (t .level) i) 0 n)) (supplyFrom k cs)
+        (on-paper .clock) (omega (arith, c, e .closing, closing-end i)) in
         e .got ∙ got-end i ∙ done ∙ sym (w .work)
 
     -- ---- what any order of the table keeps of waits, whether it serves or not
-    waited : Waited t order cs (makeAll cs (freshRun t order))
-    waited = rw (claim .started order passes) at (concluded demand-3 t accepted cs .waits order passes)
+    waited : Waited t order (supplyFrom k cs) end
+    waited = Concluded.waited t accepted order on-paper (supplyFrom k cs) end (right .hand)
 
     -- a follower, and the row that it follows
     module _ (i : ℕ) (l : 1 ≤ i) (h : i ≤ t .n) (n : getD table (323 + i) 0 ≡ 0 → ⊥) where
@@ -185,7 +200,7 @@ module _ (table order : List ℕ) (tables : length table ≡ 388) where
       closing-word = end-words w some (few w (row .upTo)) .closing
 
       -- a slot that goes to it
-      followed-by : (u : ℕ) → u ≤ getD (stateWords end) 0 0 → chosen t order (runAfter t order (supplyAt cs) u) ≡ i
+      followed-by : (u : ℕ) → u ≤ getD (stateWords end) 0 0 → chosen t order (runAfter t order (supplyFrom k cs) u) ≡ i
           → (1 ≤ getD (stateWords end) (128 + getD table (323 + i) 0) 0) × (getD (stateWords end) (128 + getD table (323 + i) 0) 0 ≤ u)
       followed-by u c q =
           let s = waited .slots i u l h (λ z. n (w-is ∙ z)) (omega (arith, c, clock-word end)) q in
@@ -222,17 +237,23 @@ module _ (table order : List ℕ) (tables : length table ≡ 388) where
           done = λ i l h n high used. followed-done i l h n used high;
         })
 
-    pub penned : Serves t order → PenEngineer table order start cs
+    pub penned : Serves t order → PenEngineer table order k cs
     unfolding tableIn
     penned serves =
         record {
           said = ap (λ (x : ListTold). x .said) listed ∙ right .said;
-          clock = rw listed (clock-word end ∙ right .clock);
+          clock = rw listed (clock-word end ∙ right .hand .clock);
           high = λ i l h n d w. rw listed
               (kept-words i l h (deadlines .high serves i l h (λ z. n (table-words table i l (few i h) .level ∙ z)) (reached i l h d) (supplied i _ l h w)));
           low = λ i l h n d w. rw listed
               (kept-words i l h (deadlines .low serves i l h (sym (table-words table i l (few i h) .level) ∙ n) (reached i l h d) (supplied i _ l h w)));
           part = λ i l h n d w. rw listed (part-words i l h (deadlines .part serves i l h (sym (table-words table i l (few i h) .level) ∙ n) (reached i l h d) (supplied i _ l h w)));
+          closed-high = λ i l h n c w. rw listed
+              (kept-words i l h (closings .high serves i l h (λ z. n (table-words table i l (few i h) .level ∙ z)) (shut i l h c) (till i _ l h w)));
+          closed-low = λ i l h n c w. rw listed
+              (kept-words i l h (closings .low serves i l h (sym (table-words table i l (few i h) .level) ∙ n) (shut i l h c) (till i _ l h w)));
+          closed-part = λ i l h n c w. rw listed
+              (part-words i l h (closings .part serves i l h (sym (table-words table i l (few i h) .level) ∙ n) (shut i l h c) (till i _ l h w)));
           preview = λ i l h n. rw listed (previewed i l h (sym (table-words table i l (few i h) .level) ∙ n));
           pen = λ i l h n. rw listed (pens i l h (λ z. n (table-words table i l (few i h) .level ∙ z)));
           slots = λ i u l h n. rw listed (followed-by i l h n u);
@@ -268,14 +289,14 @@ module _ (table supplies runTable runOrder runState : List ℕ) (tables : length
     serves : Serves (tableIn table) (said .order)
     serves = rw (d .order) (planned (tableIn table) .made made .2)
 
-    begun-is : freshOf (tableIn table) (said .order) ≡ record { check = Passed; run = freshRun (tableIn table) (said .order) }
+    begun-is : freshOf (tableIn table) (said .order) ≡ record { check = Passed; run = startRun (tableIn table) (said .order) 0 }
     begun-is = demand-3 (tableIn table) accepted [] .started (said .order) passes
 
-    left-is : said .state ≡ listWords table (said .order) (forward supplies ∷ []) (startOf table (said .order)) .state
+    left-is : said .state ≡ listWords table (said .order) (forward supplies ∷ []) (startOf table (said .order) 0) .state
     unfolding listWords
     left-is = d .state ∙ rw (d .run-table, d .run-order, d .start, begun-is, words-of-table-in table tables)
 
-    answer-is : listWords table (said .order) (forward supplies ∷ []) (startOf table (said .order)) .said ≡ told (said .forward) (said .worked) ∷ []
+    answer-is : listWords table (said .order) (forward supplies ∷ []) (startOf table (said .order) 0) .said ≡ told (said .forward) (said .worked) ∷ []
     unfolding listWords
     answer-is = rw (d .forward, d .worked, d .run-table, d .run-order, d .start, begun-is, words-of-table-in table tables)
 
@@ -285,6 +306,6 @@ module _ (table supplies runTable runOrder runState : List ℕ) (tables : length
       record {
         fresh = λ n. d .fresh ∙ rw (begun-is n);
         answer = answer-is;
-        kept = λ n. penned table (said .order) tables (accepted n) (passes n) (forward supplies ∷ []) (serves n);
+        kept = λ n. penned table (said .order) tables (accepted n) (passes n) 0 (omega arith) (forward supplies ∷ []) (serves n);
         left = left-is;
       }

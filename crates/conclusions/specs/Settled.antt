@@ -9,7 +9,7 @@ use native.Mathlib.Omega.{arith}
 use borrow.Author.Tests.{le-leb, lt-leb, lt-ltb, le-ltb}
 use lib.Dec.{ltb, leb}
 use lib.ListN.{getD}
-use Rattle.rules.specs.Calls.{Call, supplyAt}
+use Rattle.rules.specs.Calls.{Call, supplyFrom}
 use Rattle.rules.specs.Running.{runAfter}
 use Rattle.rules.specs.Slots.{chosen}
 use Rattle.rules.specs.Sheets.{numberAt}
@@ -18,7 +18,7 @@ use Rattle.theory.specs.Tests.{by-ltb, by-leb, by-eqb}
 use Rattle.words.specs.Words.{tableIn}
 use Rattle.conclusions.specs.declared.Begun.{Begun}
 use Rattle.conclusions.specs.declared.Slots.{Slots}
-use Rattle.conclusions.specs.Conclusions.{figureAt, WaitFits, FirstWait, NotLower, ReleasedLater, FollowsLow, RowTaken, Taken, TableAuthor, FreshRecord, PendingIn, SameRow, DueIn, RowRests, RowRuns, FirmwareWriter, listWords, PenEngineer, allowedSlots}
+use Rattle.conclusions.specs.Conclusions.{figureAt, WaitFits, FirstWait, NotLower, ReleasedLater, FollowsLow, RowTaken, Taken, TableAuthor, FreshRecord, PendingIn, SameRow, DueIn, RowRests, RowRuns, FirmwareWriter, listWords, startOf, PenEngineer, allowedSlots}
 
 -- a row that does not run has one set of figures after the slot
 pub one-rests : (table state next other : List ℕ) (j : ℕ) → RowRests table state next j → RowRests table state other j → SameRow next other j
@@ -99,9 +99,9 @@ pub follower-above : (table order : List ℕ) (said : Begun) → FreshRecord tab
 follower-above table order said f accepted p q h follower followed e = f .no-order accepted (λ k. omega (arith, k .waits q p followed follower e))
 
 -- what a pen engineer is told of a LO row: from its deadline on it is closed, and by then; and of a HI row: missing work, it is open
-module _ (table order start : List ℕ) (cs : List Call) (p : PenEngineer table order start cs) (i : ℕ) (l : 1 ≤ i) (h : i ≤ getD table 0 0) where
+module _ (table order : List ℕ) (k : ℕ) (cs : List Call) (p : PenEngineer table order k cs) (i : ℕ) (l : 1 ≤ i) (h : i ≤ getD table 0 0) where
   abbrev end : List ℕ
-  end = listWords table order cs start .state
+  end = listWords table order cs (startOf table order k) .state
 
   pub preview-closed : getD table (195 + i) 0 ≡ 0 → getD table (131 + i) 0 ≤ getD end 0 0
       → (1 ≤ getD end (128 + i) 0) × (getD end (128 + i) 0 ≤ getD table (131 + i) 0)
@@ -120,7 +120,7 @@ module _ (table order start : List ℕ) (cs : List Call) (p : PenEngineer table 
 
     -- beside a row that is open, or closed only after slot u began, no such slot goes to its follower, nor does the coming one
     pub no-slot : (u : ℕ) → u ≤ getD end 0 0 → (getD end (128 + followed) 0 ≡ 0) ⊎ (u < getD end (128 + followed) 0)
-        → chosen (tableIn table) order (runAfter (tableIn table) order (supplyAt cs) u) ≡ i → ⊥
+        → chosen (tableIn table) order (runAfter (tableIn table) order (supplyFrom k cs) u) ≡ i → ⊥
     no-slot u c (inl still) q = omega (arith, still, p .slots i u l h follows c q .0)
     no-slot u c (inr later) q = omega (arith, later, p .slots i u l h follows c q .1)
 

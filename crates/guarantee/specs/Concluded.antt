@@ -342,7 +342,7 @@ module _ (t : Table) (accepted : Accepted t) (o : List ℕ) (s : State) (σ : �
       record { got = k .done; from = k .closed; upTo = k .inTime }
 
   -- The worst speed, in work units per slot, is N at level 0 and G at any other.
-  in-time : Deadlines t o σ r
+  pub in-time : Deadlines t o σ r
   in-time =
       record {
         low = λ c i l h v d w. done c i l h d (λ u j p q a b. rw (eq-eqb (at (t .level) i) 0 v) (w u j p q a b));
@@ -351,7 +351,7 @@ module _ (t : Table) (accepted : Accepted t) (o : List ℕ) (s : State) (σ : �
             (window i (t .degraded) w);
       }
 
-  closings-are : Closings t o σ r
+  pub closings-are : Closings t o σ r
   closings-are =
       record {
         low = λ c i l h v z w. closed-done c i l h z (λ u j p q a b e. rw (eq-eqb (at (t .level) i) 0 v) (w u j p q a b e));
@@ -361,7 +361,7 @@ module _ (t : Table) (accepted : Accepted t) (o : List ℕ) (s : State) (σ : �
       }
 
   -- A row that has used a slot was not kept waiting any more.
-  waited : Waited t o σ r
+  pub waited : Waited t o σ r
   waited =
       record {
         slots = λ i u l h some. f .held i u (is-row t i (record { from = l; upTo = h })) (omega arith);
