@@ -1,3 +1,4 @@
 pub mod Commits
 pub mod Turning
 pub mod Passing
+pub mod CommitCases
