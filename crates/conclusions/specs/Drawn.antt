@@ -11,7 +11,7 @@ use borrow.Author.Tests.{eq-eqb, ne-eqb}
 use Rattle.rules.specs.declared.Table.{Table}
 use Rattle.rules.specs.Calls.{lastClock, Call, one, forward, supplyFrom}
 use Rattle.rules.specs.Correct.{earliest}
-use Rattle.rules.specs.Days.{justRuns}
+use Rattle.proposal.specs.Days.{justRuns}
 use Rattle.rules.specs.Meaning.{Serves}
 use Rattle.rules.specs.Orders.{isOrder}
 use Rattle.rules.specs.Rows.{at}

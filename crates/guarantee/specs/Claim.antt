@@ -15,7 +15,7 @@ use Rattle.rules.specs.declared.Check.the-variants.{Passed}
 use Rattle.rules.specs.Calls.{supplyFrom}
 use Rattle.rules.specs.Choice.{choice, word, planFrom, planOf}
 use Rattle.rules.specs.Correct.{KeptIn, Correct, CorrectOrder, earliest, Window, WindowTo}
-use Rattle.rules.specs.Days.{Act, InHand, begun, DayTold, tellDay, runCalls}
+use Rattle.proposal.specs.Days.{Act, InHand, begun, DayTold, tellDay, runCalls}
 use Rattle.rules.specs.Lists.{all}
 use Rattle.rules.specs.Orders.{isOrder}
 use Rattle.rules.specs.Rows.{at, isRow, isLow, isHigh, workOf, deadlineOf, promisedOf, followsOf}

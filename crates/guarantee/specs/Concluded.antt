@@ -19,7 +19,7 @@ use Rattle.rules.specs.declared.Planning.{Planning}
 use Rattle.rules.specs.Calls.{lastClock, Call, one, forward, Said, tellOne, tellForward, tell, tellAll, supplyFrom, supplyAt}
 use Rattle.rules.specs.Choice.{choice, word, padded, planOf}
 use Rattle.rules.specs.Correct.{earliest, Window, WindowTo}
-use Rattle.rules.specs.Days.{Act, InHand, begun, tellAct, tellDay, runCalls, justRuns}
+use Rattle.proposal.specs.Days.{Act, InHand, begun, tellAct, tellDay, runCalls, justRuns}
 use Rattle.rules.specs.Lists.{all, least}
 use Rattle.rules.specs.Meaning.{Serves, correct-serves, serves-correct, has-correct}
 use Rattle.rules.specs.Numbers.{plannedNumber, rowsLeft}

@@ -11,7 +11,7 @@ use Rattle.record.specs.Records.{startRun, freshOf}
 use Rattle.rules.specs.declared.Table.{Table}
 use Rattle.rules.specs.Calls.{Call, AllTold, tell, tellAll, supplyFrom}
 use Rattle.rules.specs.Correct.{earliest}
-use Rattle.rules.specs.Days.{run, InHand, DayTold, tellDay, runCalls, justRuns}
+use Rattle.proposal.specs.Days.{run, InHand, DayTold, tellDay, runCalls, justRuns}
 use Rattle.rules.specs.Lists.{all}
 use Rattle.rules.specs.Orders.{isOrder}
 use Rattle.rules.specs.Slots.{State, startAt, fresh}

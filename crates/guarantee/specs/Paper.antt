@@ -11,8 +11,8 @@ use Rattle.record.specs.Fresh.{start-sound, start-sized}
 use Rattle.record.specs.Kept.{Sized, sized-kept, sound-kept}
 use Rattle.rules.specs.declared.Table.{Table}
 use Rattle.rules.specs.Calls.{lastClock, Call, one, forward, Told, tellOne, tellForward, tell}
-use Rattle.rules.specs.Days.{Act, run, commit, InHand, ActTold, tellAct, tellDay}
-use Rattle.rules.specs.Proposals.{checkProposal}
+use Rattle.proposal.specs.Days.{Act, run, commit, InHand, ActTold, tellAct, tellDay}
+use Rattle.proposal.specs.Proposals.{checkProposal}
 use Rattle.rules.specs.Running.{runSlot}
 use Rattle.rules.specs.Slots.{State}
 use Rattle.theory.specs.Tests.{by-bool}

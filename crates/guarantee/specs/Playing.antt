@@ -4,7 +4,7 @@ use Rattle.record.specs.declared.Run.{Run}
 use Rattle.record.specs.Answers.{slotSaid, forwardSaid}
 use Rattle.record.specs.Records.{oneSlot, forwardOver}
 use Rattle.rules.specs.Calls.{Call, one, forward, Said}
-use Rattle.rules.specs.Days.{Act, run, commit}
+use Rattle.proposal.specs.Days.{Act, run, commit}
 use Rattle.rules.specs.Numbers.{checkNumber}
 use Rattle.proposal.specs.Commits.{commitOf}
 

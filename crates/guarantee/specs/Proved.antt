@@ -17,11 +17,11 @@ use Rattle.proposal.specs.declared.Committed.{Committed}
 use Rattle.rules.specs.Calls.{lastClock, Call, one, forward, Said, tellOne, tellForward, tell, supplyFrom}
 use Rattle.rules.specs.Choice.{choice, word, padded, planFrom, planOf}
 use Rattle.rules.specs.Correct.{KeptIn, Correct, CorrectOrder, earliest, Window, WindowTo}
-use Rattle.rules.specs.Days.{Act, run, commit, InHand, begun, tellAct, tellDay, runCalls}
+use Rattle.proposal.specs.Days.{Act, run, commit, InHand, begun, tellAct, tellDay, runCalls}
 use Rattle.rules.specs.Lists.{all}
 use Rattle.rules.specs.Numbers.{plannedNumber, rowsLeft}
 use Rattle.rules.specs.Orders.{isOrder}
-use Rattle.rules.specs.Proposals.{checkProposal}
+use Rattle.proposal.specs.Proposals.{checkProposal}
 use Rattle.rules.specs.Rows.{at, isRow, isLow, isHigh, workOf, deadlineOf, promisedOf, followsOf}
 use Rattle.rules.specs.Running.{runSlot, runAfter}
 use Rattle.rules.specs.Slots.{State, fresh, chosen}

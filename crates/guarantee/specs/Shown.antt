@@ -9,7 +9,7 @@ use Rattle.record.specs.Records.{freshOf}
 use Rattle.rules.specs.declared.Table.{Table}
 use Rattle.rules.specs.Calls.{Call, Said}
 use Rattle.rules.specs.Choice.{planOf}
-use Rattle.rules.specs.Days.{justRuns}
+use Rattle.proposal.specs.Days.{justRuns}
 use Rattle.rules.specs.Tables.{Accepted}
 use Rattle.guarantee.specs.declared.Turn.{Turn}
 use Rattle.guarantee.specs.declared.Played.{Played}

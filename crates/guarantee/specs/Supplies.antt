@@ -13,9 +13,9 @@ use Rattle.rules.specs.declared.Refusal.{Refusal}
 use Rattle.rules.specs.declared.Check.the-variants.{Passed, Refused}
 use Rattle.rules.specs.Calls.{lastClock, Call, one, forward, tellOne, tellForward, tell, suppliesOf, allSupplies}
 use Rattle.rules.specs.Correct.{earliest}
-use Rattle.rules.specs.Days.{Act, run, commit, InHand, begun, tellAct, tellDay, runCalls}
+use Rattle.proposal.specs.Days.{Act, run, commit, InHand, begun, tellAct, tellDay, runCalls}
 use Rattle.rules.specs.Orders.{isOrder}
-use Rattle.rules.specs.Proposals.{checkProposal}
+use Rattle.proposal.specs.Proposals.{checkProposal}
 use Rattle.rules.specs.Running.{runSlot, runAfter}
 use Rattle.rules.specs.Slots.{State}
 use Rattle.rules.specs.Tables.{Accepted}

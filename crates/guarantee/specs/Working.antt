@@ -9,7 +9,7 @@ use Rattle.record.specs.Records.{stateOf, startRun}
 use Rattle.rules.specs.declared.Table.{Table}
 use Rattle.rules.specs.Calls.{supplyFrom}
 use Rattle.rules.specs.Correct.{KeptIn, Correct, earliest}
-use Rattle.rules.specs.Days.{Act, InHand, runCalls}
+use Rattle.proposal.specs.Days.{Act, InHand, runCalls}
 use Rattle.rules.specs.Orders.{isOrder}
 use Rattle.rules.specs.Rows.{at, isRow, deadlineOf, isLow, promisedOf}
 use Rattle.rules.specs.Slots.{State}

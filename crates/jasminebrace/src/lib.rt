@@ -14,7 +14,7 @@ ghost use Rattle.rules.specs.Judge.{judgeOf, tableOf};
 ghost use Rattle.rules.specs.Numbers.{checkNumber, plannedNumber, rowsLeft, verdictNumber, verdictYes, verdictRow, verdictSlack};
 ghost use Rattle.rules.specs.Orders.{checkBoth};
 ghost use Rattle.rules.specs.Program.{programText};
-ghost use Rattle.rules.specs.Proposals.{askOf};
+ghost use Rattle.proposal.specs.Proposals.{askOf};
 ghost use Rattle.rules.specs.Reports.{reportOf};
 ghost use Rattle.rules.specs.Sheets.{readOf, writeOf};
 ghost use Rattle.rules.specs.Speeds.{searchOf, searchSheet};

@@ -12,14 +12,14 @@ use Rattle.record.specs.Records.{recordOf, startRun, rowSound, tailSound, isSou
 use Rattle.rules.specs.Calls.{one, forward, Said, tellOne, tellForward}
 use Rattle.rules.specs.Cases.{sixFigures, promising, following, job}
 use Rattle.rules.specs.Choice.{planOf, padded, unfollowed, passes, sequence, choice, fill, taker, word}
-use Rattle.rules.specs.Days.{Act, run, commit, InHand, begun, tellDay}
+use Rattle.proposal.specs.Days.{Act, run, commit, InHand, begun, tellDay}
 use Rattle.rules.specs.Fields.{digitAt, digitOf, isField, valueOf, written}
 use Rattle.rules.specs.Judge.{tableOf, judgeOf, tightest}
 use Rattle.rules.specs.Lists.{same}
 use Rattle.rules.specs.Need.{workSlots}
 use Rattle.rules.specs.Numbers.{refusalNumber, checkNumber, plannedNumber, rowsLeft, verdictYes}
 use Rattle.rules.specs.Orders.{isArrangement, isOrder, checkOrder, checkBoth}
-use Rattle.rules.specs.Proposals.{askOf, allClosed, releasedFrom, checkTurn, checkProposal}
+use Rattle.proposal.specs.Proposals.{askOf, allClosed, releasedFrom, checkTurn, checkProposal}
 use Rattle.rules.specs.Rows.{at}
 use Rattle.rules.specs.Running.{closeLate, runSlot}
 use Rattle.rules.specs.Sheets.{readOf, checkSheet, isLine, numberAt, columnOf, tableIn, rowLine, sheetOf}

@@ -8,7 +8,7 @@ use Rattle.rules.specs.declared.Refusal.the-variants.{Unsound}
 use Rattle.rules.specs.declared.Check.{Check}
 use Rattle.rules.specs.declared.Check.the-variants.{Passed, Refused}
 use Rattle.record.specs.declared.Run.{Run}
-use Rattle.rules.specs.Proposals.{checkProposal}
+use Rattle.proposal.specs.Proposals.{checkProposal}
 use Rattle.record.specs.Records.{stateOf, startRun, isSound}
 use Rattle.proposal.specs.declared.Committed.{Committed}
 

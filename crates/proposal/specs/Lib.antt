@@ -1,3 +1,5 @@
+pub mod Proposals
+pub mod Days
 pub mod Commits
 pub mod Turning
 pub mod Passing

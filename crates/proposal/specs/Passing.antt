@@ -16,7 +16,7 @@ use Rattle.rules.specs.Judge.{judgeOf}
 use Rattle.rules.specs.Lists.{all, least}
 use Rattle.rules.specs.Numbers.{refusalNumber, checkNumber, verdictYes}
 use Rattle.rules.specs.Orders.{checkOrder, isOrder, checkBoth}
-use Rattle.rules.specs.Proposals.{allClosed, releasedFrom, checkTurn, checkProposal}
+use Rattle.proposal.specs.Proposals.{allClosed, releasedFrom, checkTurn, checkProposal}
 use Rattle.rules.specs.Rows.{at, isRow, rowsOf, releaseOf, isFollower, followsOf, isHigh, isLow}
 use Rattle.rules.specs.Slots.{State}
 use Rattle.rules.specs.Tables.{countOk, speedsOk, loadingOk, rowOk, promiseOk, tailOk, andThen, checkWait, checkWaits, checkTable}

@@ -9,7 +9,7 @@ use lib.ListN.{getD}
 use borrow.Author.Tests.{le-leb, lt-leb}
 use Rattle.rules.specs.declared.Table.{Table}
 use Rattle.rules.specs.Lists.{all}
-use Rattle.rules.specs.Proposals.{allClosed, releasedFrom}
+use Rattle.proposal.specs.Proposals.{allClosed, releasedFrom}
 use Rattle.rules.specs.Rows.{at, rowsOf}
 use Rattle.rules.specs.Slots.{State}
 use Rattle.theory.specs.Agree.{all-agree}

@@ -1,5 +1,5 @@
 // A new sheet while plotting (section 22 of the rules): asking for a proposal, and committing one to a run record. What they mean stands in
-// rules/specs/Proposals and specs/Commits. Clocks, releases and closing slots are in slots.
+// specs/Proposals and specs/Commits. Clocks, releases and closing slots are in slots.
 ghost use mathlib.Core.Path.{_≡_};
 ghost use Prim.Native.Nat.{_≤_};
 ghost use lib.Dec.{leb};
@@ -7,17 +7,24 @@ ghost use Rattle.rules.specs.Choice.{planOf};
 ghost use Rattle.rules.specs.Judge.{judgeOf};
 ghost use Rattle.rules.specs.Lists.{rowsTo, all};
 ghost use Rattle.rules.specs.Numbers.{verdictYes};
-ghost use Rattle.rules.specs.Proposals.{nothingAsked, askPlanned, askOf, checkTurn};
+ghost use Rattle.proposal.specs.Proposals.{nothingAsked, askPlanned, askOf, checkTurn};
 ghost use Rattle.rules.specs.Rows.{at};
 ghost use Rattle.record.specs.Records.{stateOf};
 ghost use Rattle.proposal.specs.Commits.{checkCommit, commitOf};
 use record::Run;
-use rules::Asking;
 use rules::Check;
 use rules::Planned;
 use rules::Refusal;
 use rules::Table;
 use rules::Verdict;
+
+// What asking answers of a sheet: the reader's refusal, or what the planner answers of its table; and the table and the order proposed, both
+// all zero unless an order was made (rule 22.2).
+pub struct Asking {
+    pub answer: Planned,
+    pub table: Table,
+    pub order: [u8; 64],
+}
 
 // What is proposed to a run record (rule 22.3): a table, and an order for it, row numbers from the highest place down and zeros behind them.
 pub struct Proposal {

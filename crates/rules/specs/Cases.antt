@@ -13,7 +13,7 @@ use lib.ListN.{length, replicate}
 use Rattle.rules.specs.declared.Row.{Row}
 use Rattle.rules.specs.declared.Table.{Table}
 use Rattle.rules.specs.declared.Verdict.{Verdict}
-use Rattle.rules.specs.declared.Refusal.the-variants.{ClockOver, Unsound, NoRoom, Loading}
+use Rattle.rules.specs.declared.Refusal.the-variants.{ClockOver, Unsound, NoRoom, Loading, NotCorrect, RowOpen, ReleasedBefore}
 use Rattle.rules.specs.declared.Check.the-variants.{Passed}
 use Rattle.rules.specs.Calls.{Call, one, forward, Said, tellOne, tellForward, tellAll, allSupplies, supplyFrom, supplyAt}
 use Rattle.rules.specs.Correct.{earliest, Window}
@@ -25,7 +25,7 @@ use Rattle.rules.specs.Numbers.{refusalNumber, checkNumber, plannedNumbe
 use Rattle.rules.specs.Orders.{isArrangement, isOrder, checkOrder, checkBoth}
 use Rattle.rules.specs.Rows.{at, isRow, rowsOf, workOf, deadlineOf, isLow, isHigh}
 use Rattle.rules.specs.Running.{closeLate, runSlot}
-use Rattle.rules.specs.Slots.{State, fresh, isPending, isWaiting, isReady, chosen, isOver, brought, serve, slot, after}
+use Rattle.rules.specs.Slots.{State, startAt, fresh, isPending, isWaiting, isReady, chosen, isOver, brought, serve, slot, after}
 use Rattle.rules.specs.Tables.{rowOk, tailOk, promiseOk, checkWait, checkTable, Accepted, passed}
 use Rattle.rules.specs.Worst.{horizon, worstFinish, promisedMoment, slack, meets}
 
@@ -356,6 +356,16 @@ runs =
     ∷ yes (isOver p3 1 1 2)
     ∷ yes (not (isOver p3 2 5 9))
     ∷ lists (map (supplyAt (one 7 ∷ forward (8 ∷ 9 ∷ []) ∷ forward [] ∷ one 3 ∷ [])) (0 ∷ 1 ∷ 2 ∷ 3 ∷ 4 ∷ [])) (7 ∷ 8 ∷ 9 ∷ 3 ∷ 0 ∷ [])
+    -- from another clock on, slots before it count as 0 (rules 9.15, 22.7), and the state there has zeros for all rows
+    ∷ lists (map (supplyFrom 2 (one 7 ∷ forward (8 ∷ 9 ∷ []) ∷ [])) (0 ∷ 1 ∷ 2 ∷ 3 ∷ 4 ∷ 5 ∷ [])) (0 ∷ 0 ∷ 7 ∷ 8 ∷ 9 ∷ 0 ∷ [])
+    ∷ gives (startAt 7 .clock) 7
+    ∷ lists (startAt 7 .got) (padded [])
+    ∷ lists (startAt 7 .used) (padded [])
+    ∷ lists (startAt 7 .closing) (padded [])
+    -- the numbers of a commit (rules 10.16 to 10.18)
+    ∷ gives (refusalNumber NotCorrect) 16
+    ∷ gives (refusalNumber RowOpen) 17
+    ∷ gives (refusalNumber ReleasedBefore) 18
     ∷ []
 
 -- the small definitions that the others share

@@ -15,8 +15,6 @@ pub mod Numbers
 pub mod Fields
 pub mod Lent
 pub mod Sheets
-pub mod Proposals
-pub mod Days
 pub mod Program
 pub mod Reports
 pub mod Speeds

@@ -81,14 +81,6 @@ pub struct Planning {
     pub order: [u8; 64],
 }
 
-// What asking answers of a sheet: the reader's refusal, or what the planner answers of its table; and the table and the order proposed, both
-// all zero unless an order was made (rule 22.2).
-pub struct Asking {
-    pub answer: Planned,
-    pub table: Table,
-    pub order: [u8; 64],
-}
-
 // Which speed a search is for; the other one is kept as the table states it (rule 18.1).
 pub enum Sought {
     Degraded,

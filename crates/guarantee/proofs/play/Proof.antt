@@ -1,6 +1,6 @@
 -- The order is the planner's, the record is the fresh one, and the calls are made from there on: demand 3 is about just these.
 use borrow.Author.Needs.{needs}
-use Rattle.rules.specs.Days.{justRuns}
+use Rattle.proposal.specs.Days.{justRuns}
 use Rattle.guarantee.specs.Encoding.{callsIn}
 use Rattle.guarantee.specs.Proved.{demand-3}
 use Rattle.guarantee.proofs.play.Statement.{statement}

@@ -1,7 +1,7 @@
 -- The number, the words of the table, the order and the rows left are those of the asking.
 use borrow.Author.Needs.{needs}
 use mathlib.Core.Path.{ap, _∙_}
-use Rattle.rules.specs.declared.Asking.{Asking}
+use Rattle.proposal.specs.declared.Asking.{Asking}
 use Rattle.rules.specs.Numbers.{plannedNumber, rowsLeft}
 use Rattle.words.specs.Words.{wordsOf}
 use Rattle.jasminebrace.proofs.jb_ask.Statement.{statement}

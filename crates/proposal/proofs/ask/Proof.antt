@@ -2,7 +2,7 @@
 use borrow.Author.Needs.{needs}
 use mathlib.Core.Path.{sym, ap, _∙_}
 use Rattle.rules.specs.declared.Reading.{Reading}
-use Rattle.rules.specs.Proposals.{askOf}
+use Rattle.proposal.specs.Proposals.{askOf}
 use Rattle.proposal.proofs.ask.Statement.{statement}
 use Rattle.proposal.proofs.ask.Tie as tie
 

@@ -2,7 +2,7 @@
 use borrow.Author.Needs.{needs}
 use borrow.Author.Tests.{not-true, not-false}
 use mathlib.Core.Path.{sym, _∙_}
-use Rattle.rules.specs.Proposals.{checkProposal}
+use Rattle.proposal.specs.Proposals.{checkProposal}
 use Rattle.record.specs.Checked.{limits}
 use Rattle.record.specs.Sound.{speeds}
 use Rattle.proposal.specs.Commits.{checkCommit}

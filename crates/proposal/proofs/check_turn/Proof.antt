@@ -2,7 +2,7 @@
 use borrow.Author.Needs.{needs}
 use borrow.Author.Tests.{not-true, not-false}
 use mathlib.Core.Path.{sym, _∙_}
-use Rattle.rules.specs.Proposals.{checkTurn}
+use Rattle.proposal.specs.Proposals.{checkTurn}
 use Rattle.record.specs.Records.{stateOf}
 use Rattle.proposal.specs.Turning.{closed-least, released-least}
 use Rattle.proposal.proofs.check_turn.Statement.{statement}

@@ -1,13 +1,13 @@
 -- Lists in which commits stand among the run calls, on paper (rule 22.9): they see the sheet in hand and the calls, and no record (rule 9.6).
 use Prim.Native.Nat.{ℕ}
 use mathlib.Core.List.{List, [], _∷_}
 use Rattle.rules.specs.declared.Table.{Table}
 use Rattle.rules.specs.declared.Check.{Check}
 use Rattle.rules.specs.declared.Check.the-variants.{Passed, Refused}
 use Rattle.rules.specs.Calls.{Call, Said, tell}
 use Rattle.rules.specs.Numbers.{checkNumber}
-use Rattle.rules.specs.Proposals.{checkProposal}
+use Rattle.proposal.specs.Proposals.{checkProposal}
 use Rattle.rules.specs.Slots.{State, startAt}
 
 -- a run call, or the commit of a table and an order (rules 9.5, 22.3)
 pub data Act : Type 0 where

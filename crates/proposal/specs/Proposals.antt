@@ -4,23 +4,23 @@ use mathlib.Core.Bool.{Bool, cond, not}
 use mathlib.Core.List.{List}
 use lib.Dec.{eqb, leb}
 use lib.ListN.{replicate}
 use Rattle.rules.specs.declared.Table.{Table}
 use Rattle.rules.specs.declared.Refusal.the-variants.{NotCorrect, RowOpen, ReleasedBefore}
 use Rattle.rules.specs.declared.Check.{Check}
 use Rattle.rules.specs.declared.Check.the-variants as Checks
 use Rattle.rules.specs.declared.Planned.{Planned}
 use Rattle.rules.specs.declared.Planned.the-variants as Plans
 use Rattle.rules.specs.declared.Planning.{Planning}
-use Rattle.rules.specs.declared.Asking.{Asking}
+use Rattle.proposal.specs.declared.Asking.{Asking}
 use Rattle.rules.specs.Choice.{planOf}
 use Rattle.rules.specs.Judge.{judgeOf}
 use Rattle.rules.specs.Lists.{all}
 use Rattle.rules.specs.Numbers.{verdictYes}
 use Rattle.rules.specs.Orders.{checkBoth}
 use Rattle.rules.specs.Rows.{at, rowsOf, releaseOf}
 use Rattle.rules.specs.Sheets.{readOf}
 use Rattle.rules.specs.Slots.{State}
 use Rattle.rules.specs.Tables.{andThen, zeroTable}
 
 -- nothing is proposed: table and order are zeros (rule 22.2)
 abbrev pub nothingAsked : Planned → Asking
