@@ -1,6 +1,6 @@
 /*
  * The command tools/jasminebrace: plans, judges, lists, runs, explains and writes
- * sheets, and says their least workable speeds.
+ * sheets, plays a day of several, and says their least workable speeds.
  *
  * It has no check, no limit, no planner, no search and no writer of its own: what it
  * says of a sheet, an order or a run is what the archive answered, and a sheet, a
@@ -32,8 +32,9 @@ enum status {
 /* What the command line asks for. */
 typedef struct {
     bool plain;        /* figures alone, in fields of 8 bytes, or a report's bytes alone */
-    bool stretches;    /* run: a line for each stretch of slots */
+    bool stretches;    /* run and day: a line for each stretch of slots */
     bool slacks;       /* speeds: a line for each G under one order */
+    uint32_t sheet;    /* day: the number of the sheet that runs, first in plain lines; 0 for other commands */
     const char *order; /* run: row numbers with commas between, or NULL for the planned order */
     char **words;      /* the arguments that are no options, after the command's name */
     size_t count;      /* how many there are */
@@ -89,6 +90,13 @@ static void put_three_fields(uint32_t first, uint32_t second, uint32_t third) {
     putchar('\n');
 }
 
+/* The number of the sheet that runs, where plain lines begin with it. */
+static void put_sheet_field(const request *asked) {
+    if (asked->sheet != 0) {
+        put_field(asked->sheet);
+    }
+}
+
 /* A slack in two fields: the slots before the deadline and the slots after it; at least one is 0. */
 static void put_slack(int64_t slack) {
     put_field(slack > 0 ? (uint32_t)slack : 0);
@@ -122,6 +130,7 @@ enum {
     FIRST_LINE_FIELDS = 4,
     LOADING_FIELD = 4, /* that of K in the first line, from 1 */
     ROW_FIELDS = 6,
+    RELEASE_FIELD = 1, /* that of the release in the line of a row */
     WORK_FIELD = 2,
     LEVEL_FIELD = 4,
     PROMISED_FIELD = 5, /* that of the promised part in the line of a row */
@@ -347,7 +356,7 @@ static void find_row_fault(const uint8_t *bytes, size_t length, fault *found) {
                 return;
             }
         }
-        note_field(bytes, row, 1, found);
+        note_field(bytes, row, RELEASE_FIELD, found);
         return;
     }
 }
@@ -1369,6 +1378,7 @@ static void put_slot(const request *asked, const jb_run *before, const jb_run *r
     const uint32_t work = row == 0 ? 0 : run->table.work[row - 1];
     const uint32_t loading = loading_between(before, run, row);
     if (asked->plain) {
+        put_sheet_field(asked);
         put_field(slot);
         put_field(row);
         put_field(got);
@@ -1396,6 +1406,7 @@ static void put_stretch(const request *asked, const jb_run *before, const jb_run
     const uint32_t promised_at = promised_between(before, run, row, supplies);
     const uint32_t loading = loading_between(before, run, row);
     if (asked->plain) {
+        put_sheet_field(asked);
         put_field(first);
         put_field(length);
         put_field(row);
@@ -1443,6 +1454,7 @@ static uint32_t next_dropped(const jb_run *before, const jb_run *after, uint32_t
 /* The plain line of a row that was dropped at its deadline while another one ran. */
 static void put_plain_dropped(const request *asked, const jb_run *run, uint32_t row) {
     const uint32_t clock = run->closing[row - 1];
+    put_sheet_field(asked);
     if (asked->stretches) {
         put_field(clock);
         put_field(0);
@@ -1523,41 +1535,56 @@ static uint32_t run_slots(const request *asked, jb_run *run, const uint32_t *sup
 }
 
 static uint32_t run_stretches(const request *asked, jb_run *run, const uint32_t *supplies, size_t count) {
-    while (run->clock < count && !ferror(stdout)) {
+    while (count > 0 && !ferror(stdout)) {
         uint32_t row;
         const jb_run before = *run;
-        const uint32_t number = work_stretch(run, supplies + before.clock, count - before.clock, &row);
+        const uint32_t number = work_stretch(run, supplies, count, &row);
         if (number != JB_OK) {
             return number;
         }
-        put_stretch(asked, &before, run, row, supplies + before.clock);
+        put_stretch(asked, &before, run, row, supplies);
         put_all_dropped(asked, &before, run, row);
+        supplies += run->clock - before.clock;
+        count -= run->clock - before.clock;
     }
     return JB_OK;
 }
 
-/* Says an open row: that it is late, and for which row it waits. */
-static void put_open_row(const jb_run *run, uint32_t row) {
+/* Says of an open row that it is late, and for which row it waits. */
+static void put_lateness(FILE *to, const jb_run *run, uint32_t row) {
     const bool late = jb_is_late(run, row);
-    printf(" %" PRIu32, row);
     if (jb_is_waiting(run, row)) {
-        printf(" (%swaits for row %" PRIu32 ")", late ? "late, " : "", run->table.follows[row - 1]);
+        fprintf(to, " (%swaits for row %" PRIu32 ")", late ? "late, " : "", run->table.follows[row - 1]);
     } else if (late) {
-        fputs(" (late)", stdout);
+        fputs(" (late)", to);
     }
 }
 
-static void put_open_rows(const jb_run *run) {
+/* Says which rows are open, or that none is, and ends the line. */
+static void put_open_list(FILE *to, const jb_run *run) {
     bool any = false;
-    printf("after %" PRIu32 " %s:", run->clock, slots(run->clock));
     for (uint32_t row = 1; row <= run->table.n; row++) {
         if (jb_is_open(run, row)) {
-            fputs(any ? "," : " rows still open:", stdout);
-            put_open_row(run, row);
+            fprintf(to, "%s %" PRIu32, any ? "," : " rows still open:", row);
+            put_lateness(to, run, row);
             any = true;
         }
     }
-    puts(any ? "" : " no row is open");
+    fputs(any ? "\n" : " no row is open\n", to);
+}
+
+static void put_open_rows(const jb_run *run) {
+    printf("after %" PRIu32 " %s:", run->clock, slots(run->clock));
+    put_open_list(stdout, run);
+}
+
+/* Works a run over all supplies and says what they did. Gives FINE, or a status with everything said. */
+static int work_supplies(const request *asked, jb_run *run, const uint32_t *supplies, size_t count) {
+    const uint32_t number = asked->stretches ? run_stretches(asked, run, supplies, count) : run_slots(asked, run, supplies, count);
+    if (!asked->plain) {
+        put_open_rows(run);
+    }
+    return number == JB_OK ? FINE : refuse_call(number);
 }
 
 static int run_with(const request *asked, const uint32_t *supplies, size_t count) {
@@ -1571,16 +1598,12 @@ static int run_with(const request *asked, const uint32_t *supplies, size_t count
     if (status != FINE) {
         return status;
     }
-    uint32_t number = jb_fresh_run(&table, order.places, &run);
+    const uint32_t number = jb_fresh_run(&table, order.places, &run);
     if (number != JB_OK) {
         return refuse_order(asked, number, &table, &order);
     }
     put_heading(asked, &order, table.n);
-    number = asked->stretches ? run_stretches(asked, &run, supplies, count) : run_slots(asked, &run, supplies, count);
-    if (!asked->plain) {
-        put_open_rows(&run);
-    }
-    return number == JB_OK ? FINE : refuse_call(number);
+    return work_supplies(asked, &run, supplies, count);
 }
 
 static int run(const request *asked) {
@@ -1591,6 +1614,273 @@ static int run(const request *asked) {
     }
     const int status = run_with(asked, supplies, count);
     free(supplies);
+    return status;
+}
+
+/* ---- a day of several sheets on one clock ---- */
+
+/* A sheet of a day with the supplies of its slots. */
+typedef struct {
+    uint32_t number;    /* which of the day's sheets it is, from 1 */
+    const char *name;   /* of its file */
+    sheet_file file;
+    uint32_t *supplies; /* one for each slot, in work units per slot */
+    size_t count;       /* how many there are */
+} day_sheet;
+
+/* The word between the supplies of a sheet and the next sheet; no supply is written so. */
+static const char THEN[] = "then";
+
+/* How many words stand before the next THEN, or before the end, from the second of a sheet's words on: its own file may have any name. */
+static size_t words_of_sheet(char **words, size_t count) {
+    size_t taken = count < 1 ? count : 1;
+    while (taken < count && strcmp(words[taken], THEN) != 0) {
+        taken++;
+    }
+    return taken;
+}
+
+/* Takes a sheet of a day from its words: a file and supplies. Gives FINE, or NOT_USABLE with the reason said. */
+static int take_day_sheet(char **words, size_t count, day_sheet *taken) {
+    if (count < 2) {
+        return not_usable("sheet %" PRIu32 "%s%s has no %s", taken->number, count == 0 ? "" : ", ", count == 0 ? "" : words[0],
+                          count == 0 ? "file" : "supplies");
+    }
+    taken->name = words[0];
+    taken->supplies = read_supplies(words + 1, count - 1, &taken->count);
+    return taken->supplies == NULL ? NOT_USABLE : read_sheet(taken->name, &taken->file);
+}
+
+/* A file that is given twice is read twice, but standard input is there once. */
+static int take_standard_input(const day_sheet *taken, bool *given) {
+    const bool standard = strcmp(taken->name, "-") == 0;
+    if (standard && *given) {
+        return not_usable("sheet %" PRIu32 ": standard input is given for an earlier sheet already", taken->number);
+    }
+    *given = *given || standard;
+    return FINE;
+}
+
+/* How many sheets the words of a day have. */
+static size_t sheets_of_day(char **words, size_t count) {
+    size_t sheets = 0;
+    for (size_t at = 0; at <= count; at += words_of_sheet(words + at, count - at) + 1) {
+        sheets++;
+    }
+    return sheets;
+}
+
+/* Takes all sheets of a day before anything is worked or said. Gives FINE, or NOT_USABLE with the reason said. */
+static int take_day(char **words, size_t count, day_sheet *sheets) {
+    bool standard = false;
+    int status = FINE;
+    for (size_t at = 0; at <= count && status == FINE; sheets++) {
+        const size_t held = words_of_sheet(words + at, count - at);
+        status = take_day_sheet(words + at, held, sheets);
+        if (status == FINE) {
+            status = take_standard_input(sheets, &standard);
+        }
+        at += held + 1;
+    }
+    return status;
+}
+
+static void put_day_sheet(FILE *to, const day_sheet *of) {
+    fprintf(to, "sheet %" PRIu32 " (%s)", of->number, name_of_file(of->name));
+}
+
+/* How many rows of a run are open. */
+static uint32_t open_rows(const jb_run *run) {
+    uint32_t open = 0;
+    for (uint32_t row = 1; row <= run->table.n; row++) {
+        open += (uint32_t)jb_is_open(run, row);
+    }
+    return open;
+}
+
+/* How many rows of a table have their releases below a clock, in slots. */
+static uint32_t released_before(const jb_table *table, uint32_t clock) {
+    uint32_t before = 0;
+    for (uint32_t index = 0; index < table->n; index++) {
+        before += table->release[index] < clock;
+    }
+    return before;
+}
+
+/* A day as far as it has come. */
+typedef struct {
+    request asked;         /* with the number of the sheet in hand, 0 before the first */
+    const day_sheet *held; /* the sheet in hand, NULL before the first */
+    jb_run run;            /* its record, all zero before the first */
+} day_run;
+
+/* The plain line of a sheet: its number, the answer's number, how many rows, which row, and the clock in slots. */
+static void put_plain_sheet(const day_run *today, const day_sheet *next, uint32_t number, uint32_t count, uint32_t row) {
+    if (today->asked.plain) {
+        put_field(next->number);
+        put_field(number);
+        put_three_fields(count, row, today->run.clock);
+    }
+}
+
+/* Says where a row stands when nothing more is worked. */
+static void put_standing(const request *asked, const jb_run *run, uint32_t row) {
+    const uint32_t got = run->got[row - 1];
+    const uint32_t work = run->table.work[row - 1];
+    if (asked->plain) {
+        put_sheet_field(asked);
+        put_field(row);
+        put_field(got);
+        put_three_fields(work, closing_figure(run, row), run->closing[row - 1]);
+        return;
+    }
+    put_row(&run->table, row);
+    printf(": got %" PRIu32 " of %" PRIu32 " work units", got, work);
+    if (jb_is_open(run, row)) {
+        fputs(", open", stdout);
+        put_lateness(stdout, run, row);
+    }
+    put_closing(run, row, 0);
+    putchar('\n');
+}
+
+/* Says that a sheet is refused and the one in hand stays, and where each row of that one stands. */
+static void put_kept_record(const day_run *today, const day_sheet *next) {
+    if (!today->asked.plain) {
+        put_day_sheet(stdout, next);
+        printf(": refused at clock %" PRIu32 "; ", today->run.clock);
+        put_day_sheet(stdout, today->held);
+        puts(" stays as it was");
+    }
+    for (uint32_t row = 1; row <= today->run.table.n; row++) {
+        put_standing(&today->asked, &today->run, row);
+    }
+}
+
+/* Says which sheet is refused, before the reasons and after all that was worked. */
+static void name_refused(const day_sheet *next) {
+    fflush(stdout);
+    put_day_sheet(stderr, next);
+    fputs(" is refused\n", stderr);
+}
+
+/* Says that no proposal can be made of a sheet. */
+static int refuse_asking(const day_run *today, const day_sheet *next, uint32_t number, uint64_t left) {
+    name_refused(next);
+    put_plain_sheet(today, next, number, how_many(left), 0);
+    explain_number(stderr, number, &next->file, left);
+    return status_of(number);
+}
+
+/* Says that a row of the sheet in hand is open: which ones are. */
+static void explain_open(const day_run *today, const day_sheet *next) {
+    put_plain_sheet(today, next, JB_ROW_OPEN, open_rows(&today->run), jb_first_open(&today->run));
+    put_words(stderr, JB_ROW_OPEN);
+    fputs("where: ", stderr);
+    put_day_sheet(stderr, today->held);
+    fprintf(stderr, ", clock %" PRIu32 ":", today->run.clock);
+    put_open_list(stderr, &today->run);
+}
+
+/* Says that a release of the next sheet is below the clock: the lowest row that has one, and where it stands. */
+static void explain_early(const day_run *today, const day_sheet *next, const jb_table *table) {
+    const uint32_t clock = today->run.clock;
+    const uint32_t row = jb_first_released_before(table, clock);
+    fault found = {0, 0, 0, {0}, 0};
+    put_plain_sheet(today, next, JB_RELEASED_BEFORE, released_before(table, clock), row);
+    put_words(stderr, JB_RELEASED_BEFORE);
+    note_field(next->file.bytes, row, RELEASE_FIELD, &found);
+    put_place(stderr, next->file.bytes, &found);
+    fprintf(stderr, "allowed: %" PRIu32 " %s or more, from the clock on\n", clock, slots(clock));
+}
+
+/* Says that a proposal is not committed. */
+static int refuse_commit(const day_run *today, const day_sheet *next, uint32_t number, const jb_table *table) {
+    name_refused(next);
+    if (number == JB_ROW_OPEN) {
+        explain_open(today, next);
+    } else if (number == JB_RELEASED_BEFORE) {
+        explain_early(today, next, table);
+    } else {
+        put_plain_sheet(today, next, number, 0, 0);
+        put_words(stderr, number);
+    }
+    put_remedy(stderr, number);
+    return status_of(number);
+}
+
+/* Says that a sheet has taken its place. */
+static void put_changed(const day_run *today, const day_sheet *next, const order_list *order) {
+    put_plain_sheet(today, next, JB_OK, today->run.table.n, 0);
+    if (!today->asked.plain) {
+        put_day_sheet(stdout, next);
+        printf(": %s at clock %" PRIu32 "\n", today->held == NULL ? "begun" : "committed", today->run.clock);
+        put_order(order, today->run.table.n);
+    }
+}
+
+/*
+ * Asks for a sheet and puts it into the record: as a fresh one where no sheet is in hand,
+ * else by a commit. Gives FINE, or a status with the reason said.
+ */
+static int change_sheet(day_run *today, const day_sheet *next) {
+    jb_table table;
+    order_list order = {{0}, 0};
+    uint64_t left;
+    uint32_t number = jb_ask_sheet(next->file.bytes, next->file.length, &table, order.places, &left);
+    if (number != JB_OK) {
+        return refuse_asking(today, next, number, left);
+    }
+    number = today->held == NULL ? jb_fresh_run(&table, order.places, &today->run)
+                                 : jb_commit_sheet(&today->run, &table, order.places);
+    if (number != JB_OK) {
+        return refuse_commit(today, next, number, &table);
+    }
+    put_changed(today, next, &order);
+    today->held = next;
+    today->asked.sheet = next->number;
+    return FINE;
+}
+
+/* Plays the sheets one after another on one record, up to the first that is refused. */
+static int play_day(const request *asked, const day_sheet *sheets, size_t count) {
+    day_run today;
+    memset(&today, 0, sizeof today);
+    today.asked = *asked;
+    today.held = NULL;
+    for (size_t index = 0; index < count; index++) {
+        const day_sheet *next = &sheets[index];
+        int status = change_sheet(&today, next);
+        if (status != FINE && today.held != NULL) {
+            put_kept_record(&today, next);
+        }
+        if (status == FINE) {
+            status = work_supplies(&today.asked, &today.run, next->supplies, next->count);
+        }
+        if (status != FINE || ferror(stdout)) {
+            return status;
+        }
+    }
+    return FINE;
+}
+
+static int day(const request *asked) {
+    const size_t count = sheets_of_day(asked->words, asked->count);
+    day_sheet *sheets = (day_sheet *)calloc(count, sizeof *sheets);
+    if (sheets == NULL) {
+        return not_usable("there is no memory for %zu sheets", count);
+    }
+    for (size_t index = 0; index < count; index++) {
+        sheets[index].number = (uint32_t)(index + 1);
+    }
+    int status = take_day(asked->words, asked->count, sheets);
+    if (status == FINE) {
+        status = play_day(asked, sheets, count);
+    }
+    for (size_t index = 0; index < count; index++) {
+        free(sheets[index].supplies);
+    }
+    free(sheets);
     return status;
 }
 
@@ -1923,6 +2213,32 @@ static const char RUN_HELP[] =
     "the end of the slot; with --stretches the line has its deadline as first slot and\n"
     "0 as number of slots. Supplies are not repeated; some would not fit in 8 bytes.\n";
 
+static const char DAY_HELP[] =
+    "plays several sheets on one clock, each in its turn, and says what each slot did\n"
+    "\n"
+    "The first sheet is planned and begun at clock 0; its slots have the supplies after it,\n"
+    "given as for run. At the word 'then' the next sheet is asked for (read and planned) and\n"
+    "committed: it takes the place of the sheet before, and the clock goes on. So every row\n"
+    "of the sheet before has to be closed by then, done or dropped, and the new releases and\n"
+    "deadlines are in slots of the one clock: a release at the clock of the commit is taken,\n"
+    "one below it is not. Slots, stretches, and rows that are open at the end are said as by\n"
+    "run.\n"
+    "A sheet that is refused ends the day: with the number of the reader or of the planner,\n"
+    "explained as for plan, with 17 if rows are still open, or with 18 if a release is below\n"
+    "the clock. What was worked stays, and it is said where each row of the sheet before\n"
+    "stands. Files and supplies are looked at before the first slot.\n"
+    "\n"
+    "--plain: lines of fixed fields, of which the first is the number of the sheet, from 1.\n"
+    "A line of 5 fields for each sheet: its number, 0 or a refusal's number, a count of rows,\n"
+    "a row, the clock in slots. After 0 the count is the row count and the row is 0; after 7\n"
+    "it is that of the rows left; after 17 that of the open rows and the lowest of them; after\n"
+    "18 that of the rows with a release below the clock and the lowest of them; else both are\n"
+    "0. Then a line of 8 fields for each slot, or with --stretches of 7 fields for each\n"
+    "stretch: the sheet's number and the fields of run --plain. After a refusal a line of 6\n"
+    "fields for each row of the sheet before: that sheet's number, the row, work units that it\n"
+    "has got, its work in work units, how it closed as for run, its closing slot (0 if it is\n"
+    "open).\n";
+
 static const char EXPLAIN_HELP[] =
     "says what is wrong with a sheet, where, and what to do about it\n"
     "\n"
@@ -1985,6 +2301,7 @@ static const command COMMANDS[] = {
     {"report", report, 1, 0, "report SHEET [ROW..]", REPORT_HELP},
     {"speeds", speeds, 1, 0, "speeds {SHEET | --slacks SHEET [ROW..]}", SPEEDS_HELP},
     {"run", run, 2, 0, "run SHEET [--order ROW,ROW..] [--stretches] SUPPLY..", RUN_HELP},
+    {"day", day, 2, 0, "day [--stretches] SHEET SUPPLY.. [then SHEET SUPPLY..]..", DAY_HELP},
     {"explain", explain, 1, 1, "explain SHEET", EXPLAIN_HELP},
     {"sheet", sheet, 1, 0, "sheet {ROWS.csv | N G K RELEASE,WORK,DEADLINE,LEVEL[,PROMISED[,FOLLOWS]]..}", SHEET_HELP},
     {"rows", rows, 1, 1, "rows SHEET", ROWS_HELP},
@@ -2118,8 +2435,12 @@ static int do_line(const command_line *line) {
         not_usable("a command is missing");
         return bad_usage(NULL);
     }
-    if (of->does != run && (line->asked.stretches || line->asked.order != NULL)) {
-        not_usable("--order and --stretches belong to run");
+    if (of->does != run && line->asked.order != NULL) {
+        not_usable("--order belongs to run");
+        return bad_usage(of);
+    }
+    if (of->does != run && of->does != day && line->asked.stretches) {
+        not_usable("--stretches belongs to run and day");
         return bad_usage(of);
     }
     if (of->does != speeds && line->asked.slacks) {
@@ -2137,7 +2458,7 @@ static int do_line(const command_line *line) {
 }
 
 int main(int count, char **words) {
-    command_line line = {false, false, NULL, {false, false, false, NULL, NULL, 0}};
+    command_line line = {false, false, NULL, {false, false, false, 0, NULL, NULL, 0}};
     if (!jb_fits()) {
         return not_usable("the archive has interface %" PRIu32 " and this program was compiled for %u", jb_version(),
                           JB_VERSION);

@@ -1,5 +1,6 @@
 /*
- * An example for firmware writers: plan a sheet once, then run it slot by slot.
+ * An example for firmware writers: plan a sheet once, then run it slot by slot, and
+ * go on with the next sheet without a stop.
  * On the way the sheet is written back from the table that was read, and the
  * report of the planned order is printed. With supplies below N a LO row may be
  * dropped at its deadline, even while another row runs; with supplies of at least G it
@@ -10,14 +11,21 @@
  *     example samples/promise.sheet 2
  *     example samples/lifting.sheet 2
  *
- *     example [SHEET [SUPPLY ...]]
+ * The next sheet is asked for when the one that runs has worked its first slot. It is
+ * committed at once, which is refused (17) as long as a row is open, and again when all
+ * rows are closed. If that is too late for its releases (18), it starts so much later:
  *
- * SHEET is a file, or - for standard input, which is also taken when it is left
- * out. Each SUPPLY is what one slot supplies, in work units, from slot 0 on; the
- * last one is repeated. Without any, every slot supplies the normal speed N.
+ *     example samples/p1.sheet 5 then samples/second.sheet then samples/third.sheet
+ *     example samples/p1.sheet 2 then samples/second.sheet
+ *
+ *     example [SHEET [SUPPLY ...] [then NEXT] ...]
+ *
+ * SHEET and NEXT are files, or - for standard input, which is also taken for SHEET when
+ * it is left out. Each SUPPLY is what one slot supplies, in work units, from slot 0 on;
+ * the last one is repeated. Without any, every slot supplies the normal speed N of SHEET.
  *
  * Exit status: 0 when every row was closed, 1 after a refusal, 2 when the
- * arguments or the file cannot be used.
+ * arguments or a file cannot be used.
  */
 #include "jasminebrace.h"
 
@@ -53,7 +61,7 @@ static int no_order(uint64_t left) {
 }
 
 static void print_order(const uint8_t order[JB_ROWS]) {
-    printf("number %d: %s\norder:", JB_OK, jb_words(JB_OK));
+    printf("order:");
     for (size_t place = 0; place < JB_ROWS && order[place] != 0; place++) {
         printf(" %u", (unsigned)order[place]);
     }
@@ -72,15 +80,6 @@ static uint32_t print_report(const jb_table *table, const uint8_t order[JB_ROWS]
         fwrite(report, 1, length, stdout);
     }
     return number;
-}
-
-static bool any_open(const jb_run *run) {
-    for (uint32_t row = 1; row <= run->table.n && row <= JB_ROWS; row++) {
-        if (jb_is_open(run, row)) {
-            return true;
-        }
-    }
-    return false;
 }
 
 static const char *closing_word(const jb_run *run, uint32_t row) {
@@ -167,7 +166,7 @@ static void print_summary(const jb_run *run) {
 }
 
 static int run_until_closed(jb_run *run, const supplies *from) {
-    while (any_open(run)) {
+    while (jb_first_open(run) != 0) {
         uint32_t number = run_slot(run, from);
         if (number != JB_OK) {
             return refused(number);
@@ -175,6 +174,70 @@ static int run_until_closed(jb_run *run, const supplies *from) {
     }
     print_summary(run);
     return ALL_CLOSED;
+}
+
+/* A sheet that was asked for: firmware keeps it until it is committed. */
+typedef struct {
+    jb_table table;
+    uint8_t order[JB_ROWS];
+} proposal;
+
+/* Asks for the next sheet while another one runs, whose record is not handed over. */
+static int ask(const char *name, const uint8_t *sheet, size_t length, const jb_run *run, proposal *next) {
+    const jb_run before = *run;
+    uint64_t left;
+    uint32_t number = jb_ask_sheet(sheet, length, &next->table, next->order, &left);
+    bool same = memcmp(run, &before, sizeof before) == 0;
+    printf("clock %" PRIu32 ": asked for %s, the run is %s\n", run->clock, name, same ? "as it was" : "changed");
+    if (number == JB_NO_ORDER) {
+        return no_order(left);
+    }
+    if (number != JB_OK) {
+        return refused(number);
+    }
+    print_order(next->order);
+    return ALL_CLOSED;
+}
+
+/* Tells why a proposal is not taken: the open row, or the release that is below the clock. */
+static void print_not_taken(uint32_t number, const jb_run *run, const proposal *next) {
+    uint32_t row = jb_first_released_before(&next->table, run->clock);
+    if (number == JB_ROW_OPEN) {
+        printf(", row %" PRIu32 "\n", jb_first_open(run));
+    } else if (number == JB_RELEASED_BEFORE) {
+        printf(", row %" PRIu32 " by %" PRIu32 " slots\n", row, run->clock - next->table.release[row - 1]);
+    } else {
+        printf("\n");
+    }
+}
+
+/* Puts the proposal into the record if it can be. The record keeps its clock, and refused, it is as it was. */
+static uint32_t commit(jb_run *run, const proposal *next) {
+    uint32_t number = jb_commit_sheet(run, &next->table, next->order);
+    printf("clock %" PRIu32 ": commit, number %" PRIu32 ": %s", run->clock, number, jb_words(number));
+    print_not_taken(number, run, next);
+    return number;
+}
+
+/* The least release of a table, in slots. */
+static uint32_t least_release(const jb_table *table) {
+    uint32_t least = table->release[0];
+    for (uint32_t index = 1; index < table->n; index++) {
+        least = table->release[index] < least ? table->release[index] : least;
+    }
+    return least;
+}
+
+/* Commits the proposal when no row is open; one whose start has passed starts now, all of it so much later. */
+static uint32_t commit_now(jb_run *run, proposal *next) {
+    uint32_t number = commit(run, next);
+    if (number == JB_RELEASED_BEFORE) {
+        uint32_t later = run->clock - least_release(&next->table);
+        printf("clock %" PRIu32 ": the new sheet starts %" PRIu32 " slots later\n", run->clock, later);
+        jb_start_later(&next->table, later);
+        number = commit(run, next);
+    }
+    return number;
 }
 
 /* Writes the table's sheet, as firmware does to store or send it, and says whether it is the one that was read. */
@@ -189,10 +252,9 @@ static uint32_t write_back(const jb_table *table, const uint8_t *sheet, size_t l
     return number;
 }
 
-/* Reads, plans and runs a sheet. supplied holds count supplies in work units per slot. */
-static int plan_and_run(const uint8_t *sheet, size_t length, const uint32_t *supplied, size_t count) {
+/* Reads and plans a sheet and makes the fresh record of its run. */
+static int begin(const uint8_t *sheet, size_t length, jb_run *run) {
     static jb_table table;
-    static jb_run run;
     uint8_t order[JB_ROWS];
     uint64_t left;
     uint32_t number = jb_read_table(sheet, length, &table);
@@ -210,17 +272,14 @@ static int plan_and_run(const uint8_t *sheet, size_t length, const uint32_t *sup
     if (number != JB_OK) {
         return refused(number);
     }
+    printf("number %d: %s\n", JB_OK, jb_words(JB_OK));
     print_order(order);
     number = print_report(&table, order);
     if (number != JB_OK) {
         return refused(number);
     }
-    number = jb_fresh_run(&table, order, &run);
-    if (number != JB_OK) {
-        return refused(number);
-    }
-    supplies from = {supplied, count, table.normal};
-    return run_until_closed(&run, &from);
+    number = jb_fresh_run(&table, order, run);
+    return number == JB_OK ? ALL_CLOSED : refused(number);
 }
 
 /* Fills sheet with one byte above the longest sheet at most, which is enough to refuse a longer one. */
@@ -235,6 +294,45 @@ static bool read_file(const char *name, uint8_t sheet[JB_PROGRAM_INPUT], size_t 
         fclose(file);
     }
     return fine;
+}
+
+static int not_usable(const char *what, const char *name) {
+    fprintf(stderr, "%s: %s\nusage: example [SHEET [SUPPLY ...] [then NEXT] ...]\n", what, name);
+    return NOT_USABLE;
+}
+
+/* Works the running sheet to its end and puts the next one in its place: asked for after the first slot, committed after the last. */
+static int go_on(jb_run *run, const supplies *from, const char *name) {
+    static proposal next;
+    uint8_t sheet[JB_PROGRAM_INPUT];
+    size_t length;
+    if (!read_file(name, sheet, &length)) {
+        return not_usable("cannot be read", name);
+    }
+    uint32_t number = run_slot(run, from);
+    if (number != JB_OK) {
+        return refused(number);
+    }
+    int asked = ask(name, sheet, length, run, &next);
+    if (asked == ALL_CLOSED && jb_first_open(run) != 0) {
+        commit(run, &next); /* too early: the running sheet goes on */
+    }
+    int status = run_until_closed(run, from);
+    if (asked != ALL_CLOSED || status != ALL_CLOSED) {
+        return status > asked ? status : asked;
+    }
+    return commit_now(run, &next) == JB_OK ? ALL_CLOSED : REFUSED;
+}
+
+/* Runs a sheet, and those that follow it, whose names stand in every second word from the second on. */
+static int plot(const uint8_t *sheet, size_t length, supplies *from, char **words, size_t count) {
+    static jb_run run;
+    int status = begin(sheet, length, &run);
+    from->normal = run.table.normal;
+    for (size_t index = 1; index < count && status == ALL_CLOSED; index += 2) {
+        status = go_on(&run, from, words[index]);
+    }
+    return status == ALL_CLOSED ? run_until_closed(&run, from) : status;
 }
 
 /* A supply in work units from decimal digits, 0 to 4,294,967,295. */
@@ -256,18 +354,34 @@ static bool read_supply(const char *text, uint32_t *supply) {
     return true;
 }
 
-static int not_usable(const char *what, const char *name) {
-    fprintf(stderr, "%s: %s\nusage: example [SHEET [SUPPLY ...]]\n", what, name);
-    return NOT_USABLE;
+static bool is_then(const char *word) {
+    return strcmp(word, "then") == 0;
+}
+
+/* The words that are left after the supplies are pairs of 'then' and a name. */
+static bool are_names(char **words, size_t count) {
+    for (size_t index = 0; index < count; index += 2) {
+        if (!is_then(words[index]) || index + 1 == count) {
+            return false;
+        }
+    }
+    return true;
 }
 
 int main(int argc, char **argv) {
     uint8_t sheet[JB_PROGRAM_INPUT];
     size_t length;
-    size_t count = argc > 2 ? (size_t)argc - 2 : 0;
+    size_t words = argc > 2 ? (size_t)argc - 2 : 0;
+    size_t count = 0;
     const char *name = argc > 1 ? argv[1] : "-";
     if (!jb_fits()) {
         return not_usable("another interface than this program's has", "libjasminebrace.a");
+    }
+    while (count < words && !is_then(argv[count + 2])) {
+        count++;
+    }
+    if (!are_names(argv + 2 + count, words - count)) {
+        return not_usable("not 'then' and a sheet after the supplies of", name);
     }
     uint32_t *supplied = (uint32_t *)calloc(count + 1, sizeof *supplied);
     if (supplied == NULL) {
@@ -283,7 +397,8 @@ int main(int argc, char **argv) {
         free(supplied);
         return not_usable("cannot be read", name);
     }
-    int status = plan_and_run(sheet, length, supplied, count);
+    supplies from = {supplied, count, 0};
+    int status = plot(sheet, length, &from, argv + 2 + count, words - count);
     free(supplied);
     return status;
 }

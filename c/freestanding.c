@@ -2,7 +2,8 @@
  * The library without a C library: the two functions that the archive needs, an
  * entry of its own, and a run of case P1, with row 3 to follow row 1, from its sheet to
  * its last row, with LO rows dropped on the way; then the sheet is written back, a report
- * of its rows, and its least G is asked for. It shows what a board has to provide. Build
+ * of its rows, its least G is asked for, and the next sheet takes its place on the same
+ * clock. It shows what a board has to provide. Build
  * and run it on x86-64 Linux:
  *
  *     gcc -std=c11 -O2 -ffreestanding -nostdlib -static -fno-tree-loop-distribute-patterns \
@@ -46,7 +47,12 @@ static const char REPORT[] = "         1         1         4        10         0
                              "         4         4         1         5         0\n"
                              "        11         0\n";
 
+/* The next sheet: one row that is released when the first sheet is over, at clock 19, and done in one slot of 5 work units. */
+static const char NEXT[] = "       1       5       2       0\n"
+                           "      19       5      24       1       0       0\n";
+
 static jb_table table;
+static jb_table next;
 static jb_run run;
 static uint8_t written[JB_LONGEST_SHEET];
 static uint8_t report[JB_LONGEST_REPORT];
@@ -64,6 +70,23 @@ static int same_text(const uint8_t *bytes, uint32_t length, const char *text) {
         }
     }
     return text[length] == '\0';
+}
+
+/* The next sheet is asked for and committed when the first is over, and is refused in its own place, where a row is open. */
+static int next_sheet(void) {
+    uint8_t order[JB_ROWS];
+    uint64_t left;
+    uint32_t row;
+    if (jb_ask_sheet((const uint8_t *)NEXT, sizeof NEXT - 1, &next, order, &left) != JB_OK || left != 0) {
+        return 13;
+    }
+    if (jb_first_open(&run) != 0 || jb_commit_sheet(&run, &next, order) != JB_OK || run.clock != 19) {
+        return 14;
+    }
+    if (jb_commit_sheet(&run, &next, order) != JB_ROW_OPEN || jb_first_open(&run) != 1) {
+        return 15;
+    }
+    return jb_work_slot(&run, 5, &row) == JB_OK && row == 1 && jb_is_done(&run, 1) && run.clock == 20 ? 0 : 16;
 }
 
 static int steps(void) {
@@ -118,7 +141,7 @@ static int steps(void) {
     if (jb_least_degraded_speed(&table, &speed, order) != JB_OK || speed != table.degraded) {
         return 11;
     }
-    return 0;
+    return next_sheet();
 }
 
 /* Called by _start on an aligned stack. Leaves by the system call exit (60). */

@@ -23,7 +23,7 @@
 #include <unistd.h>
 
 enum {
-    DEFAULT_ROUNDS = 100000, /* of sixteen calls or so each */
+    DEFAULT_ROUNDS = 100000, /* of twenty calls or so each */
     NUMBERS = JB_LAST_NUMBER + 1,
     END = -1,          /* of a list of numbers */
     GUARD = 0xC5,      /* the pattern around a buffer */
@@ -355,6 +355,7 @@ enum {
     READ,
     WRITE,
     PLAN,
+    ASK,
     LEAST_DEGRADED,
     LEAST_NORMAL,
     READ_LEAST_DEGRADED,
@@ -366,6 +367,7 @@ enum {
     COMING,
     SLOT,
     FORWARD,
+    COMMIT,
     PROGRAM,
     FUNCTIONS
 };
@@ -376,6 +378,7 @@ static const struct {
     [READ] = {"read", {0, 1, 2, 3, 4, 11, 5, 12, 13, 14, 15, END}},
     [WRITE] = {"write", {0, 3, 4, 11, 5, 12, 13, 14, 15, 10, END}},
     [PLAN] = {"plan", {0, 3, 4, 11, 5, 12, 13, 14, 15, 7, END}},
+    [ASK] = {"ask", {0, 1, 2, 3, 4, 11, 5, 12, 13, 14, 15, 7, END}},
     [LEAST_DEGRADED] = {"least G", {0, 3, 4, 11, 5, 12, 13, 14, 15, 7, END}},
     [LEAST_NORMAL] = {"least N", {0, 3, 4, 11, 5, 12, 13, 14, 15, 7, END}},
     [READ_LEAST_DEGRADED] = {"sheet's G", {0, 1, 2, 3, 4, 11, 5, 12, 13, 14, 15, 7, END}},
@@ -387,6 +390,7 @@ static const struct {
     [COMING] = {"coming", {0, 8, 9, END}},
     [SLOT] = {"slot", {0, 8, 9, END}},
     [FORWARD] = {"forward", {0, 8, 9, END}},
+    [COMMIT] = {"commit", {0, 9, 3, 4, 11, 5, 12, 13, 14, 15, 6, 16, 17, 18, END}},
     [PROGRAM] = {"program", {0, 1, 2, 3, 4, 11, 5, 12, 13, 14, 15, 7, END}},
 };
 static uint64_t counts[FUNCTIONS][NUMBERS];
@@ -394,6 +398,7 @@ static uint64_t range_ends[2]; /* least speeds that are the first and the last o
 static uint64_t loading_slots, working_slots; /* slots worked one by one that brought no work by K, and other ones of a row */
 static uint64_t dropped_for_need, dropped_running, dropped_resting; /* LO rows: for their allowance, at their deadlines as they ran, and as they did not */
 static uint64_t waiting_rows, followers; /* rows that wait at a slot, and slots of rows that follow others */
+static uint64_t late_starts, idle_starts; /* commits refused for a release alone, and those with idle slots before the first release */
 static uint64_t broken_waits; /* orders that are refused for a wait alone */
 static uint64_t tight_promises, longer_allowances; /* slacks that a promised part makes smaller, and allowances that it makes longer */
 
@@ -537,6 +542,29 @@ static void try_least(void) {
     }
 }
 
+/* Asking for the sheet in its buffer, which the reader answered with this number and table, is reading and planning it. */
+static void try_ask(uint32_t number, const jb_table *table) {
+    jb_table *asked = (jb_table *)place(&one_at, sizeof *asked);
+    uint8_t *order = (uint8_t *)place(&out_at, JB_ROWS);
+    uint64_t *left = (uint64_t *)place(&left_at, sizeof *left);
+    uint8_t planned[JB_ROWS];
+    uint64_t rows = 0;
+    const uint32_t expected = number == JB_OK ? jb_plan_table(table, planned, &rows) : number;
+    const uint32_t got = jb_ask_sheet(input_at.start, input_at.size, asked, order, left);
+    count(ASK, got);
+    expect_unwritten(&input_at);
+    expect_guards(&one_at);
+    expect_guards(&out_at);
+    expect_guards(&left_at);
+    expect(got == expected && *left == rows, "asking answers as the reader and the planner do");
+    if (got == JB_OK) {
+        expect(memcmp(asked, table, sizeof *asked) == 0, "asking gives the sheet's table");
+        expect(memcmp(order, planned, JB_ROWS) == 0, "asking gives the planner's order");
+    } else {
+        expect(all_zero(asked, sizeof *asked) && all_zero(order, JB_ROWS), "a refused asking leaves zeros");
+    }
+}
+
 static void try_read(void) {
     static uint8_t input[LONGEST_INPUT];
     size_t length = fill_input(input);
@@ -552,6 +580,7 @@ static void try_read(void) {
     if (number == JB_OK) {
         expect_written_back(table, sheet, length);
     }
+    try_ask(number, table);
     if (once_in(SEARCHED)) {
         try_least_of_sheet(number, table);
     }
@@ -963,6 +992,126 @@ static void try_forward(void) {
     }
 }
 
+/* A proposal in place of the table and the order lent before: planned in most cases, and to start later in some. */
+static void fill_proposal(void) {
+    jb_table *table = (jb_table *)place(&table_at, sizeof *table);
+    uint8_t *order = (uint8_t *)place(&order_at, JB_ROWS);
+    uint64_t left;
+    fill_table(table);
+    if (once_in(4) || jb_plan_table(table, order, &left) != JB_OK) {
+        fill_order(table, order);
+    }
+    if (!once_in(3)) {
+        jb_start_later(table, once_in(8) ? any_figure() : between(0, 40));
+    }
+    lend(&table_at);
+    lend(&order_at);
+}
+
+/* A record whose rows are all done, but for one that is open in some cases; its clock is an early one, or the last. */
+static void fill_closed(jb_run *run) {
+    memset(run, 0, sizeof *run);
+    fill_accepted(&run->table);
+    fill_order(&run->table, run->order);
+    run->clock = once_in(16) ? JB_LAST_CLOCK : between(1, 40);
+    for (uint32_t index = 0; index < run->table.n; index++) {
+        run->got[index] = run->table.work[index];
+        run->used[index] = between(0, run->clock);
+        run->closing[index] = between(1, run->clock);
+    }
+    if (once_in(6)) {
+        const uint32_t index = between(0, run->table.n - 1);
+        run->got[index] = run->used[index] = run->closing[index] = 0;
+    }
+}
+
+/* A record of another table than the proposal's, whose rows are closed in most cases. */
+static jb_run *fill_held(void) {
+    jb_run *run = (jb_run *)place(&run_at, sizeof *run);
+    if (once_in(4)) {
+        fill_table(&run->table);
+        fill_order(&run->table, run->order);
+        fill_state(run);
+    } else {
+        fill_closed(run);
+    }
+    lend(&run_at);
+    return run;
+}
+
+/* What a commit has to answer, put together from other calls. */
+static uint32_t commit_number(const jb_run *run, const jb_table *table, const uint8_t *order) {
+    uint32_t yes, row;
+    int32_t slack;
+    if (jb_coming_row(run, &row) == JB_UNSOUND) {
+        return JB_UNSOUND;
+    }
+    const uint32_t number = jb_judge_order(table, order, &yes, &row, &slack);
+    if (number != JB_OK || yes == 0) {
+        return number != JB_OK ? number : JB_NOT_CORRECT;
+    }
+    if (jb_first_open(run) != 0) {
+        return JB_ROW_OPEN;
+    }
+    return jb_first_released_before(table, run->clock) != 0 ? JB_RELEASED_BEFORE : JB_OK;
+}
+
+/* A committed record is the fresh one of the same table and order after as many idle slots as the clock shows. */
+static void expect_idled(const jb_run *run) {
+    static uint32_t supplies[64];
+    jb_run fresh;
+    uint32_t worked;
+    expect(jb_fresh_run(&run->table, run->order, &fresh) == JB_OK, "a committed table and order make a fresh record");
+    if (run->clock <= sizeof supplies / sizeof *supplies) {
+        expect(jb_work_forward(&fresh, supplies, run->clock, &worked) == JB_OK, "the slots before the commit");
+        expect(memcmp(run, &fresh, sizeof fresh) == 0, "a committed record is a fresh one with idle slots before");
+        idle_starts += jb_first_released_before(&run->table, run->clock + 1) == 0;
+    }
+}
+
+static void try_commit(void) {
+    fill_proposal();
+    jb_run *run = fill_held();
+    const jb_table *table = (const jb_table *)table_at.start;
+    const uint32_t expected = commit_number(run, table, order_at.start);
+    const uint32_t number = jb_commit_sheet(run, table, order_at.start);
+    count(COMMIT, number);
+    expect_unwritten(&table_at);
+    expect_unwritten(&order_at);
+    expect_guards(&run_at);
+    expect(number == expected, "a commit answers as the coming slot, the judge, the rows and the releases say");
+    if (number != JB_OK) {
+        expect_unwritten(&run_at);
+        late_starts += number == JB_RELEASED_BEFORE;
+        return;
+    }
+    const jb_run *before = (const jb_run *)run_at.copy;
+    expect(memcmp(&run->table, table, sizeof *table) == 0, "the record has the proposal's table");
+    expect(memcmp(run->order, order_at.start, JB_ROWS) == 0, "the record has the proposal's order");
+    expect(run->clock == before->clock, "a commit keeps the clock");
+    expect(all_zero(run->got, sizeof *run - offsetof(jb_run, got)), "all rows are open and empty");
+    expect_idled(run);
+}
+
+/* A table that starts later is judged and planned as it was, as long as its deadlines are within their limit. */
+static void try_later(void) {
+    const jb_table *table = (const jb_table *)table_at.start;
+    jb_table later = *table;
+    uint32_t yes[2], row[2], number[2];
+    int32_t slack[2];
+    uint8_t order[2][JB_ROWS];
+    uint64_t left[2];
+    jb_start_later(&later, once_in(4) ? between(0, JB_LAST_CLOCK) : between(0, 1000));
+    number[0] = jb_judge_order(table, order_at.start, &yes[0], &row[0], &slack[0]);
+    number[1] = jb_judge_order(&later, order_at.start, &yes[1], &row[1], &slack[1]);
+    expect(number[0] != JB_OK || number[1] == JB_OK || number[1] == JB_ROW_LIMITS, "a later start is refused for deadlines alone");
+    if (number[0] == JB_OK && number[1] == JB_OK) {
+        expect(yes[0] == yes[1] && row[0] == row[1] && slack[0] == slack[1], "a later start is judged alike");
+        expect(jb_plan_table(table, order[0], &left[0]) == jb_plan_table(&later, order[1], &left[1]), "a later start is planned alike");
+        expect(memcmp(order[0], order[1], JB_ROWS) == 0 && left[0] == left[1], "a later start has the same order");
+    }
+}
+
 /* The planner's number for a table of n such rows with loading. */
 static uint32_t number_with(uint32_t n, uint32_t normal, uint32_t degraded, uint32_t loading, jb_row row) {
     jb_table table;
@@ -1182,6 +1331,8 @@ int main(int argc, char **argv) {
         try_fresh();
         try_slot();
         try_forward();
+        try_later();
+        try_commit();
     }
     print_counts();
     printf("slots worked one by one: %" PRIu64 " loading, %" PRIu64 " other ones of a row\n", loading_slots, working_slots);
@@ -1194,6 +1345,8 @@ int main(int argc, char **argv) {
     printf("rows that follow rows: %" PRIu64 " wait at a slot, %" PRIu64 " slots run one, %" PRIu64 " orders break a wait\n", waiting_rows,
            followers, broken_waits);
     expect(waiting_rows > 0 && followers > 0 && broken_waits > 0, "rows wait, run and stand wrong");
+    printf("commits: %" PRIu64 " refused for a release, %" PRIu64 " with idle slots before the first one\n", late_starts, idle_starts);
+    expect(late_starts > 0 && idle_starts > 0, "sheets start too early and later than they are committed");
     printf("least speeds: %" PRIu64 " the first of their range, %" PRIu64 " the last\n", range_ends[0], range_ends[1]);
     expect(range_ends[0] > 0 && range_ends[1] > 0, "both ends of the ranges come up");
     printf("%lu rounds, all held\n", rounds);

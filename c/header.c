@@ -3,8 +3,8 @@
  * the interface's number, the words for every number, lists of no entries, a
  * sheet written back, least speeds, reports, tables that are refused for K, a promised
  * part or a followed row, where a row of a run stands and how far it has loaded, LO rows
- * at their deadlines, needs, promised parts, rows that follow rows, and the packed verdict
- * taken apart. It says how many things it looked at; exit status 1 if one is not as it
+ * at their deadlines, needs, promised parts, rows that follow rows, new sheets that are
+ * asked for and committed, and the packed verdict taken apart. It says how many things it looked at; exit status 1 if one is not as it
  * should be.
  */
 #include "jasminebrace.h"
@@ -79,6 +79,17 @@ static void look_at_no_speed(const jb_table *table, const char *sheet, size_t le
     }
 }
 
+/* Asking for a sheet is refused by this number, with this word of rows left and zeros for all else. */
+static void look_at_no_proposal(const char *sheet, size_t length, uint32_t number, uint64_t left) {
+    jb_table table;
+    uint8_t order[JB_ROWS];
+    uint64_t got = 7;
+    memset(&table, 7, sizeof table);
+    memset(order, 7, sizeof order);
+    look(jb_ask_sheet((const uint8_t *)sheet, length, &table, order, &got) == number, "no proposal, number", number);
+    look(got == left && all_zero(&table, sizeof table) && all_zero(order, sizeof order), "zeros for a proposal, number", number);
+}
+
 /* Null goes with a length of 0, and the answer is that of an empty list. */
 static void look_at_empty_lists(void) {
     jb_table table;
@@ -92,6 +103,7 @@ static void look_at_empty_lists(void) {
     uint32_t length = 7;
     look(jb_read_table(NULL, 0, &table) == JB_LENGTH, "no sheet", 0);
     look_at_no_speed(NULL, NULL, 0, JB_LENGTH, "no least speed of no sheet");
+    look_at_no_proposal(NULL, 0, JB_LENGTH, 0);
     look(jb_program_text(NULL, 0, text) == 17 && memcmp(text, "       1       0\n", 17) == 0, "no input", 0);
     look(jb_judge_list(NULL, 0, 2, 1, 0, order, &yes, &row, &slack) == JB_ROW_COUNT && yes == 0 && row == 0 && slack == 0, "no rows", 0);
     look(jb_read_table((const uint8_t *)P3, sizeof P3 - 1, &table) == JB_OK, "P3", 0);
@@ -314,6 +326,28 @@ static void look_at_refused_verdicts(const jb_table *table, const uint8_t order[
     look_at_no_verdict(got, number, yes, row, slack);
 }
 
+/* A record of one LO row, which is done at clock 7. */
+static jb_run closed_run(void) {
+    const jb_row row = {0, 1, 9, JB_LO, 0, 0};
+    const uint8_t order[JB_ROWS] = {1};
+    const jb_table table = table_of_rows(1, 1, &row, 1);
+    jb_run run;
+    look(jb_fresh_run(&table, order, &run) == JB_OK, "fresh", 0);
+    run.clock = 7;
+    run.got[0] = 1;
+    run.used[0] = 1;
+    run.closing[0] = 7;
+    return run;
+}
+
+/* A commit is refused by this number, and no byte of the record changes. */
+static void look_at_no_commit(const jb_run *held, const jb_table *table, const uint8_t order[JB_ROWS], uint32_t number) {
+    jb_run run = *held;
+    const uint32_t got = jb_commit_sheet(&run, table, order);
+    look(got == number, "no commit, number", got);
+    look(memcmp(&run, held, sizeof run) == 0, "the record after a refused commit, number", number);
+}
+
 /*
  * A table is refused by this number wherever it goes in, before 6 and 10: with an order
  * that is none and with no room. What is written then is all zero, what is lent to be
@@ -335,6 +369,8 @@ static void look_at_refused_table(const jb_table *table, uint32_t number) {
     length = 7;
     look(jb_report_order(table, no_order, NULL, 0, &length) == number && length == 0, "no report, number", number);
     look(jb_fresh_run(table, no_order, &run) == number && all_zero(&run, sizeof run), "no record, number", number);
+    const jb_run closed = closed_run();
+    look_at_no_commit(&closed, table, no_order, number);
     run.table = *table;
     fill_in_turn(run.order, table->n);
     look(jb_coming_row(&run, &row) == JB_UNSOUND && row == 0, "an unsound record, number", number);
@@ -345,6 +381,7 @@ static void look_at_refused_sheet(const char *sheet, size_t length, uint32_t num
     jb_table table;
     look(jb_read_table((const uint8_t *)sheet, length, &table) == number && all_zero(&table, sizeof table), "a refused sheet, number", number);
     look_at_no_speed(NULL, sheet, length, number, "no least speed of a sheet");
+    look_at_no_proposal(sheet, length, number, 0);
 }
 
 /* K above its limit is 11, after 4 and before 5. */
@@ -769,6 +806,93 @@ static void look_at_plans_of_followers(void) {
     }
 }
 
+/* Asking for a sheet gives its table and the planner's order; of P3, which has none, it tells the rows left. */
+static void look_at_asking(void) {
+    const char sheet[] = "       2       2       1       0\n"
+                         "       7       2       9       0       0       0\n"
+                         "       7       4      12       1       0       0\n";
+    jb_table table;
+    jb_table read;
+    uint8_t order[JB_ROWS];
+    uint8_t planned[JB_ROWS];
+    uint64_t left = 7;
+    look_at_no_proposal(P3, sizeof P3 - 1, JB_NO_ORDER, 3);
+    look_at_no_proposal(P3, sizeof P3 - 2, JB_LENGTH, 0);
+    look(jb_ask_sheet((const uint8_t *)sheet, sizeof sheet - 1, &table, order, &left) == JB_OK && left == 0, "asked, rows left", (unsigned)left);
+    look(jb_read_table((const uint8_t *)sheet, sizeof sheet - 1, &read) == JB_OK, "read", 0);
+    look(memcmp(&table, &read, sizeof read) == 0, "the table asked for", table.n);
+    look(jb_plan_table(&read, planned, &left) == JB_OK && memcmp(order, planned, sizeof order) == 0, "the order asked for", order[0]);
+}
+
+/* The table of two rows that are to be committed at clock 7: a LO and a HI row of one slot at N 2, released there or later. */
+static jb_table next_table(uint32_t first_release, uint32_t second_release) {
+    const jb_row rows[] = {{first_release, 2, 9, JB_LO, 0, 0}, {second_release, 2, 20, JB_HI, 0, 0}};
+    return table_of_rows(2, 1, rows, 2);
+}
+
+/* A commit at the clock of the least release and before it: the table, the order, the clock, and all rows open and empty. */
+static void look_at_commits(void) {
+    const uint8_t order[JB_ROWS] = {1, 2};
+    for (uint32_t release = 7; release <= 8; release++) {
+        const jb_table next = next_table(release, 8);
+        jb_run run = closed_run();
+        uint32_t row;
+        look(jb_first_open(&run) == 0 && jb_first_released_before(&next, run.clock) == 0, "nothing in the way, release", release);
+        look(jb_commit_sheet(&run, &next, order) == JB_OK, "committed, release", release);
+        look(memcmp(&run.table, &next, sizeof next) == 0 && memcmp(run.order, order, sizeof order) == 0, "table and order, release", release);
+        look(run.clock == 7 && all_zero(run.got, sizeof run - offsetof(jb_run, got)), "clock and rows, release", release);
+        look(jb_first_open(&run) == 1, "the first open row, release", release);
+        look(jb_coming_row(&run, &row) == JB_OK && row == (release == 7 ? 1u : 0u), "coming after a commit, release", release);
+        look_at_no_commit(&run, &next, order, JB_ROW_OPEN);
+    }
+}
+
+/* 9, then 6, 16, 17 and 18, each before those after it; a proposal that has all of these faults loses them one by one. */
+static void look_at_refused_commits(void) {
+    const uint8_t twice[JB_ROWS] = {1, 1};
+    const uint8_t wrong_order[JB_ROWS] = {2, 1};
+    const uint8_t order[JB_ROWS] = {1, 2};
+    jb_table next = next_table(7, 6);
+    jb_run run = closed_run();
+    run.closing[0] = run.got[0] = run.used[0] = 0;
+    next.work[1] = 6; /* above row 1 it takes three slots at N, so that row 1 is late */
+    run.clock = JB_LAST_CLOCK + 1;
+    look_at_no_commit(&run, &next, twice, JB_UNSOUND);
+    run.clock = 7;
+    look_at_no_commit(&run, &next, twice, JB_NOT_AN_ORDER);
+    look_at_no_commit(&run, &next, wrong_order, JB_NOT_CORRECT);
+    look_at_no_commit(&run, &next, order, JB_ROW_OPEN);
+    look(jb_first_open(&run) == 1, "the first open row", jb_first_open(&run));
+    run = closed_run();
+    look_at_no_commit(&run, &next, order, JB_RELEASED_BEFORE);
+    look(jb_first_released_before(&next, 7) == 2, "the row released before", jb_first_released_before(&next, 7));
+    jb_start_later(&next, 1);
+    look(next.release[0] == 8 && next.release[1] == 7 && next.deadline[0] == 10 && next.deadline[1] == 21, "a start later by", 1);
+    look(next.release[2] == 0 && next.deadline[2] == 0, "no row is moved after the last one, row", 3);
+    look(jb_commit_sheet(&run, &next, order) == JB_OK && run.clock == 7, "committed at", run.clock);
+}
+
+/* The same sheet again, from copies of the record's own table and order; the latest deadline, and a slot more. */
+static void look_at_sheet_again(void) {
+    jb_run run = closed_run();
+    jb_table again = run.table;
+    uint8_t order[JB_ROWS];
+    memcpy(order, run.order, sizeof order);
+    look_at_no_commit(&run, &again, order, JB_RELEASED_BEFORE);
+    jb_start_later(&again, JB_LAST_DEADLINE - 9);
+    look(jb_commit_sheet(&run, &again, order) == JB_OK && run.table.deadline[0] == JB_LAST_DEADLINE, "the latest deadline", run.table.deadline[0]);
+    run = closed_run();
+    jb_start_later(&again, 1);
+    look_at_no_commit(&run, &again, order, JB_ROW_LIMITS);
+    /* A count that no table has does not lead out of the columns. */
+    again.n = run.table.n = UINT32_MAX;
+    memset(run.closing, 1, sizeof run.closing);
+    memset(again.release, 1, sizeof again.release);
+    jb_start_later(&again, 1);
+    look(again.release[JB_ROWS - 1] == 0x01010102u && again.work[0] == 1, "moved up to row", JB_ROWS);
+    look(jb_first_open(&run) == 0 && jb_first_released_before(&again, 2) == 0, "no row beyond", JB_ROWS);
+}
+
 /* The list's verdict taken apart is the table's, slacks below zero too. */
 static void look_at_lists(void) {
     const jb_row rows[] = {{0, 2, 2, JB_LO, 0, 0}, {0, 4, 4, JB_HI, 0, 0}};
@@ -810,6 +934,10 @@ int main(void) {
     look_at_followers();
     look_at_orders_of_followers();
     look_at_plans_of_followers();
+    look_at_asking();
+    look_at_commits();
+    look_at_refused_commits();
+    look_at_sheet_again();
     look_at_lists();
     printf("header: %u things looked at, %u not as they should be\n", looked_at, wrong);
     return wrong == 0 ? 0 : 1;

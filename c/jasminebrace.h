@@ -42,6 +42,17 @@
  * order never waits, so that no slot is lost by waiting, and nothing has to be called
  * for it.
  *
+ * New sheets. The next sheet takes the place of the one that runs without a stop: the
+ * clock goes on. Asking (jb_ask_sheet) makes a proposal of a sheet, which is its table
+ * and an order of it; no record is handed in, so that a run may go on meanwhile.
+ * Committing (jb_commit_sheet) puts the proposal into a run record in which every row
+ * is closed: all rows of the new table are then open and empty, and the clock is the one
+ * that the record had. Releases and deadlines of the new sheet are in slots of that same
+ * clock, whose slot 0 is that of the fresh record: a release below the clock is refused
+ * (18). jb_start_later moves a table whose slots were counted from its own beginning.
+ * What is promised of rows from a fresh record on is promised of the new ones from the
+ * committed record on, by the supplies from their own least release on.
+ *
  * Memory. Every pointer points to memory of the size that its parameter names,
  * aligned for its type. It is not null, but for one case: the functions of the
  * last part take null for a list, or for bytes to write to, where their length is
@@ -65,6 +76,7 @@
  *     jb_write                 5,120
  *     jb_field                   512
  *     jb_plan                 10,240
+ *     jb_ask                  12,032
  *     jb_least_degraded       13,824
  *     jb_least_normal         13,824
  *     jb_read_least_degraded  13,824
@@ -77,6 +89,7 @@
  *     jb_coming               14,848
  *     jb_slot                 17,920
  *     jb_forward              16,896
+ *     jb_commit               26,880
  *     jb_program              16,128
  *     jb_version                 512
  * The functions of the last part add the few words of their own frame. But jb_need,
@@ -93,7 +106,7 @@
  * A handler that calls these functions saves and restores whatever the
  * convention lets a call change: all xmm registers too. Each call needs a stack
  * aligned to 16 bytes and a clear direction flag, as the convention asks: a
- * handler sees to both before it calls. The calls that plan (jb_plan,
+ * handler sees to both before it calls. The calls that plan (jb_plan, jb_ask,
  * jb_least_degraded, jb_least_normal, jb_read_least_degraded,
  * jb_read_least_normal and jb_program) use the red zone, the 128 bytes below the
  * stack pointer: a handler that interrupts one of them needs a stack of its own;
@@ -128,6 +141,7 @@
  * 5: rows may follow rows: follows, last in jb_row and last in jb_table. A table, and so
  *    a record, is again 256 bytes longer, the line of a row in a sheet 8 bytes; 13, 14
  *    and 15 are new, and 6 is given for a row that stands above the one it follows too.
+ *    Its first archives have no jb_ask and no jb_commit, which alone give 16, 17 and 18.
  */
 #define JB_VERSION 5u
 
@@ -162,7 +176,7 @@ enum jb_limit {
     JB_LONGEST_REPORT = 3285,  /* bytes in a report of 64 rows: 51 for each row + 21 */
     JB_PROGRAM_INPUT = 3170,   /* bytes of its input that the planning program looks at */
     JB_PROGRAM_TEXT = 1617,    /* most bytes that the planning program writes */
-    JB_LAST_NUMBER = 15        /* largest number that a call returns */
+    JB_LAST_NUMBER = 18        /* largest number that a call returns */
 };
 
 /* Levels of a row. */
@@ -176,7 +190,8 @@ enum jb_level {
  * what to do about it. A table is checked for 3, 4 and 11, for 5 in every row, for 12 in
  * every row, then for 13, 14 and 15 row by row, and the first that is found is returned;
  * 6 comes after these, 10 last. A record whose table or order is refused by one of them
- * is unsound (9). jb_field, jb_program, jb_program_text and jb_version return no such
+ * is unsound (9). A commit is checked for 9, then for these in its proposal, then for 16,
+ * 17 and 18. jb_field, jb_program, jb_program_text and jb_version return no such
  * number, and jb_judge_rows returns a word in which it is packed.
  */
 enum jb_number {
@@ -200,7 +215,10 @@ enum jb_number {
     JB_PROMISED = 12,    /* a promised part is above its row's work, or stands on a HI row */
     JB_NOT_LOWER = 13,   /* a row follows what is not a row above it in the table */
     JB_RELEASED_LATER = 14, /* a row follows one that is released later than itself */
-    JB_FOLLOWS_LOW = 15     /* a row is HI and the row that it follows LO */
+    JB_FOLLOWS_LOW = 15,    /* a row is HI and the row that it follows LO */
+    JB_NOT_CORRECT = 16,    /* the order to be committed is not correct */
+    JB_ROW_OPEN = 17,       /* a row of the running sheet is open: neither done nor dropped */
+    JB_RELEASED_BEFORE = 18 /* a row to be committed has its release below the clock */
 };
 
 /* What a number means, in words. The text lasts as long as the program. */
@@ -225,6 +243,9 @@ static inline const char *jb_words(uint32_t number) {
     case JB_NOT_LOWER: return "a row follows what is not a row above it in the table";
     case JB_RELEASED_LATER: return "a row follows one that is released later than itself";
     case JB_FOLLOWS_LOW: return "a row is HI and the row that it follows LO";
+    case JB_NOT_CORRECT: return "the order to be committed is not correct";
+    case JB_ROW_OPEN: return "a row of the running sheet is open";
+    case JB_RELEASED_BEFORE: return "a row of the new sheet has its release below the clock";
     default: return "this number is never returned";
     }
 }
@@ -258,6 +279,11 @@ static inline const char *jb_remedy(uint32_t number) {
     case JB_FOLLOWS_LOW:
         return "make the followed row HI or its follower LO, or let the row follow none (0): a HI job must not wait for one "
                "that may be dropped";
+    case JB_NOT_CORRECT: return "commit the table and the order that asking for the sheet has answered";
+    case JB_ROW_OPEN: return "work on until every row is done or dropped, and commit then";
+    case JB_RELEASED_BEFORE:
+        return "count releases and deadlines in slots of the running clock: let the new sheet start at the clock of its "
+               "commit or later";
     default: return "compare the header with the archive by jb_fits()";
     }
 }
@@ -350,6 +376,7 @@ uint32_t jb_write(const uint32_t table[388], uint8_t *sheet, size_t room, uint32
 uint32_t jb_field(uint32_t figure, uint8_t field[8]);
 
 uint32_t jb_plan(const uint32_t table[388], uint8_t order[64], uint64_t *left);
+uint32_t jb_ask(const uint8_t *sheet, size_t length, uint32_t table[388], uint8_t order[64], uint64_t *left);
 uint32_t jb_least_degraded(const uint32_t table[388], uint32_t *speed, uint8_t order[64]);
 uint32_t jb_least_normal(const uint32_t table[388], uint32_t *speed, uint8_t order[64]);
 uint32_t jb_read_least_degraded(const uint8_t *sheet, size_t length, uint32_t *speed, uint8_t order[64]);
@@ -370,6 +397,8 @@ uint32_t jb_coming(const uint32_t table[388], const uint8_t order[64], const uin
 uint32_t jb_slot(const uint32_t table[388], const uint8_t order[64], uint32_t state[193], uint32_t supply, uint32_t *row);
 uint32_t jb_forward(const uint32_t table[388], const uint8_t order[64], uint32_t state[193], const uint32_t *supplies,
                     size_t count, uint32_t *worked);
+uint32_t jb_commit(const uint32_t table[388], const uint8_t order[64], uint32_t run_table[388], uint8_t run_order[64],
+                   uint32_t run_state[193]);
 uint32_t jb_program(const uint8_t *input, size_t length, uint8_t text[1617]);
 
 /* The number of the archive's interface, for jb_fits. */
@@ -456,6 +485,25 @@ static inline uint32_t jb_program_text(const uint8_t *input, size_t length, uint
  */
 static inline uint32_t jb_plan_table(const jb_table *table, uint8_t order[JB_ROWS], uint64_t *left) {
     return jb_plan(jb_table_words(table), order, left);
+}
+
+/*
+ * Asks for a proposal of a sheet: its table and the planner's order of it, to be
+ * committed by jb_commit_sheet, or to begin a run with by jb_fresh_run. It is
+ * jb_read_table and jb_plan_table in one call. No record is handed in and none is
+ * changed: a run may go on before, meanwhile and afterwards.
+ * In:      sheet, length bytes; any bytes, any length; null is allowed with 0.
+ * Out:     0; table holds the sheet's table, order holds row numbers from the highest
+ *          place down, then zeros; left is 0.
+ * Refused: 1, 2, 3, 4, 11, 5 or 12 to 15 as jb_read_table refuses the sheet: table and
+ *          order are all zero and left is 0.
+ *          7 as jb_plan_table: table and order are all zero, and left holds the rows left
+ *          to place, row 1 in the lowest bit.
+ */
+static inline uint32_t jb_ask_sheet(const uint8_t *sheet, size_t length, jb_table *table, uint8_t order[JB_ROWS],
+                                    uint64_t *left) {
+    const uint8_t none = 0;
+    return jb_ask(length == 0 ? &none : sheet, length, (uint32_t *)(void *)table, order, left);
 }
 
 /*
@@ -647,6 +695,53 @@ static inline uint32_t jb_work_forward(jb_run *run, const uint32_t *supplies, si
 }
 
 /*
+ * Commits a proposal: its table and order take the place of those that run, at the clock
+ * that the run shows. The slots up to the least release of the new rows are idle.
+ * In:      run, table and order, any values; the last two are the proposal, which need
+ *          not come from jb_ask_sheet. Neither is run's own, since run is written: to
+ *          begin the same sheet again, hand in copies of run->table and run->order.
+ * Out:     0, and run holds table and order, the clock that it had, and zeros for all
+ *          rows: all are open, and none has got work or used a slot.
+ * Refused: 9 if the record is unsound; then for the proposal 3, 4, 11, 5 or 12 to 15 for
+ *          the table, 6 for the order, 16 if the order is not correct; then 17 if a row
+ *          of run is open (jb_first_open names it), and 18 if a row of table has its
+ *          release below run->clock (jb_first_released_before names it). run is then as
+ *          it was, every byte of it; it is written again as it stood. Of a proposal as
+ *          jb_ask_sheet answered it with 0 only 9, 17 and 18 come.
+ */
+static inline uint32_t jb_commit_sheet(jb_run *run, const jb_table *table, const uint8_t order[JB_ROWS]) {
+    return jb_commit(jb_table_words(table), order, (uint32_t *)(void *)&run->table, run->order, jb_state_words(run));
+}
+
+/*
+ * Lets a table start later by so many slots, 0 to 2,000,000 slots: they are added to the
+ * release and to the deadline of each row. An order that was correct stays so, since all
+ * times move together; this is tested and not proved, and a commit judges the order in any
+ * case. So plan first, and move the table when the clock is known at which it is committed.
+ * It is meant for tables that pass the checks; a deadline that comes to lie after 1,000,000
+ * slots is refused (5) where the table goes in.
+ */
+static inline void jb_start_later(jb_table *table, uint32_t slots) {
+    for (uint32_t index = 0; index < table->n && index < JB_ROWS; index++) {
+        table->release[index] += slots;
+        table->deadline[index] += slots;
+    }
+}
+
+/*
+ * The lowest row of a table with a release below this clock (in slots), 0 if there is
+ * none: with run->clock, the row for which a commit is refused by 18.
+ */
+static inline uint32_t jb_first_released_before(const jb_table *table, uint32_t clock) {
+    for (uint32_t row = 1; row <= table->n && row <= JB_ROWS; row++) {
+        if (table->release[row - 1] < clock) {
+            return row;
+        }
+    }
+    return 0;
+}
+
+/*
  * Where a row of a run stands: 1 for yes, 0 for no. A row that the table has is
  * exactly one of open, done and dropped, and may be late besides; an open one may
  * be loading or wait. All answer 0 for a row that the table does not have: for row 0, for a
@@ -659,6 +754,16 @@ static inline int jb_has_row(const jb_run *run, uint32_t row) {
 /* The row is not closed: it has neither got its work nor been dropped. */
 static inline int jb_is_open(const jb_run *run, uint32_t row) {
     return jb_has_row(run, row) && run->closing[row - 1] == 0;
+}
+
+/* The lowest open row of a run, 0 if all are closed: the row for which a commit is refused by 17. */
+static inline uint32_t jb_first_open(const jb_run *run) {
+    for (uint32_t row = 1; jb_has_row(run, row); row++) {
+        if (jb_is_open(run, row)) {
+            return row;
+        }
+    }
+    return 0;
 }
 
 /* The row is closed and has got all its work, before its deadline or after it. */

@@ -78,6 +78,11 @@ refused_at() {
     [ "$(uniq -c out)" = "$(printf '%7s %8s%8s%8s' 2 "$number" 0 0)" ] || complain "speeds --plain $file: not the number in two lines"
     case_is "$status" "$(printf '%8s%8s' "$number" 0)" "$place" speeds --slacks --plain "$file"
     case_is "$status" '' "$place" run "$file" 5
+    case_is "$status" '' "$place" day "$file" 5
+    case_is "$status" "$(printf '%8s%8s%8s%8s%8s' 1 "$number" 0 0 0)" "$place" day --plain "$file" 5
+    case_is "$status" "sheet 2 ($file): refused at clock 11; sheet 1 (p1.sheet) stays as it was" "$place" day p1.sheet 11x5 then "$file" 5
+    also_err "sheet 2 ($file) is refused"
+    also_err "$words"
     case_is "$status" '' "$place" rows --plain "$file"
     case_is "$status" '' "$place" rows "$file"
     also_err "$words"
@@ -767,6 +772,162 @@ case_is 1 'remedy: give the rows left later deadlines, less work, smaller promis
 # The clock of a promised part under waits, of a LO row that follows a LO row.
 "$command" sheet 4 2 0 0,8,20,LO 0,18,30,LO,12,1 >wait-promise.sheet
 case_is 0 'row 2 (LO, follows row 1): worst finish 7 slots, promised part at 8 slots, deadline 30 slots, slack 22 slots' '' finishes wait-promise.sheet
+
+# ---- a day of several sheets on one clock ----
+# day_is STATUS ARGUMENTS..: standard output is the text on standard input; what goes to standard error is left in err.
+day_is() {
+    local status=$1
+    shift
+    cat >expected
+    case_is "$status" '*' '*' day "$@"
+    cmp -s out expected || { diff out expected >err || true; complain "day $*: not as it should be"; }
+}
+# plain_day_is STATUS ARGUMENTS..: the same in figures.
+plain_day_is() {
+    local status=$1 figures
+    shift
+    while read -r -a figures; do line "${figures[@]}"; done >expected.figures
+    day_is "$status" --plain "$@" <expected.figures
+}
+day_is 0 --stretches p1.sheet 12x5 then second.sheet 3x5 9x2 then third.sheet 10x4 <<'DAY'
+sheet 1 (p1.sheet): begun at clock 0
+order: 1 2 3 4
+from slot 0, 4 slots: row 1, done at clock 4
+from slot 4, 1 slot: row 4, done at clock 5
+from slot 5, 3 slots: row 2, done at clock 8
+from slot 8, 3 slots: row 3, done at clock 11
+from slot 11, 1 slot: idle
+after 12 slots: no row is open
+sheet 2 (second.sheet): committed at clock 12
+order: 1 2 3
+from slot 12, 2 slots: idle
+from slot 14, 2 slots: row 1, done at clock 16
+from slot 16, 4 slots: row 2, done at clock 20
+from slot 20, 2 slots: row 3, promised 4 work units got at clock 22, dropped at clock 22, its slots used up
+from slot 22, 2 slots: idle
+after 24 slots: no row is open
+sheet 3 (third.sheet): committed at clock 24
+order: 1 2
+from slot 24, 2 slots: idle
+from slot 26, 3 slots (1 loading): row 1, done at clock 29
+from slot 29, 3 slots (1 loading): row 2, done at clock 32
+from slot 32, 2 slots: idle
+after 34 slots: no row is open
+DAY
+[ ! -s err ] || complain "a day without a refusal: standard error is not empty"
+lines '1 0 4 0 0' '1 0 4 1 1 0 0' '1 4 1 4 1 0 0' '1 5 3 2 1 0 0' '1 8 3 3 1 0 0' '1 11 1 0 0 0 0' '2 0 3 0 12' '2 12 2 0 0 0 0' '2 14 2 1 1 0 0' \
+    '2 16 4 2 1 0 0' '2 20 2 3 2 0 22' '2 22 2 0 0 0 0' '3 0 2 0 24' '3 24 2 0 0 0 0' '3 26 3 1 1 1 0' '3 29 3 2 1 1 0' '3 32 2 0 0 0 0' |
+    plain_day_is 0 --stretches p1.sheet 12x5 then second.sheet 3x5 9x2 then third.sheet 10x4
+# A day of one sheet is its run.
+for sheet in p1 loading late-preview promise lifting; do
+    for form in '' --stretches; do
+        # shellcheck disable=SC2086 # the form may be no word
+        "$command" run $form "$sheet.sheet" 3x4 8x2 2x0 9x1 >one
+        # shellcheck disable=SC2086
+        { echo "sheet 1 ($sheet.sheet): begun at clock 0" && cat one; } | day_is 0 $form "$sheet.sheet" 3x4 8x2 2x0 9x1
+        # shellcheck disable=SC2086
+        "$command" run --plain $form "$sheet.sheet" 3x4 8x2 2x0 9x1 | sed 1d >one
+        # shellcheck disable=SC2086
+        { line 1 0 "$(head -c 8 "$sheet.sheet" | tr -d ' ')" 0 0 && sed 's/^/       1/' one; } | day_is 0 --plain $form "$sheet.sheet" 3x4 8x2 2x0 9x1
+    done
+done
+# A later sheet does in each slot what it would do if the slots before its commit had been idle, whatever the sheet before it did with them.
+for supplies in 12x5 9x2 '5 1 3 2x0 7x2'; do
+    # shellcheck disable=SC2086 # several supplies
+    "$command" day --plain p1.sheet 13x5 then second.sheet $supplies | sed -n 's/^       2//p' | sed 1d >later
+    # shellcheck disable=SC2086
+    "$command" run --plain second.sheet 13x9 $supplies | sed 1,14d >alone
+    cases=$((cases + 1))
+    cmp -s later alone || complain "second.sheet after p1.sheet with $supplies: not its run with idle slots before"
+done
+# A release at the clock is taken, one below it is not: the row, its figure, where it stands, and the record as it was.
+case_is 0 'sheet 2 (second.sheet): committed at clock 14' '' day p1.sheet 14x5 then second.sheet 5
+also_out 'slot 14: row 1, supply 5 work units, got 5 of 6 work units'
+case_is 2 'sheet 2 (second.sheet): refused at clock 15; sheet 1 (p1.sheet) stays as it was' 'number 18: a row of the new sheet has its release below the clock' \
+    day p1.sheet 6x5 4 3 7x2 then second.sheet 5
+also_out 'slot 14: idle, supply 2 work units'
+also_out 'after 15 slots: no row is open'
+also_out 'row 1 (HI): got 20 of 20 work units, done at clock 4'
+also_out 'row 2 (LO): got 12 of 15 work units, dropped at clock 8, its slots used up'
+also_out 'row 3 (HI): got 11 of 11 work units, done at clock 14'
+also_out 'row 4 (LO): got 5 of 5 work units, done at clock 5'
+also_err 'sheet 2 (second.sheet) is refused'
+also_err 'where: row 1, release, byte 34 (line 2, byte 1 of it): the figure is 14'
+also_err 'allowed: 15 slots or more, from the clock on'
+also_err 'remedy: count releases and deadlines in slots of the running clock: let the new sheet start at the clock of its commit or later'
+[ "$(wc -l <err)" -eq 5 ] || complain "18: not five lines"
+lines '1 0 4 0 0' '1 0 4 1 1 0 0' '1 4 1 4 1 0 0' '1 5 3 2 1 0 0' '1 8 3 3 1 0 0' '1 11 4 0 0 0 0' '2 18 3 1 15' '1 1 20 20 1 4' '1 2 15 15 1 8' '1 3 11 11 1 11' '1 4 5 5 1 5' |
+    plain_day_is 2 --stretches p1.sheet 15x5 then second.sheet 5
+# Of the rows below the clock the lowest is named, and they are counted.
+{ line 3 5 2 0 && line 15 1 20 1 0 0 && line 13 1 20 1 0 0 && line 12 1 20 1 0 0; } >early.sheet
+case_is 2 '       2      18       2       2      14' 'where: row 2, release, byte 83 (line 3, byte 1 of it): the figure is 13' day --plain p1.sheet 14x5 then early.sheet 5
+case_is 2 '       2      18       1       3      13' 'where: row 3, release, byte 132 (line 4, byte 1 of it): the figure is 12' day --plain p1.sheet 13x5 then early.sheet 5
+case_is 0 '       2       0       3       0      12' '' day --plain p1.sheet 12x5 then early.sheet 5
+# 17: which rows are open, late or waiting, and where each stands; 17 comes before 18.
+case_is 2 'row 2 (LO): got 5 of 15 work units, open' 'where: sheet 1 (p1.sheet), clock 6: rows still open: 2, 3' day p1.sheet 6x5 then second.sheet 5
+also_err 'number 17: a row of the running sheet is open'
+also_err 'remedy: work on until every row is done or dropped, and commit then'
+[ "$(wc -l <err)" -eq 4 ] || complain "17: not four lines"
+case_is 2 'row 1 (HI): got 0 of 20 work units, open (late)' 'where: sheet 1 (p1.sheet), clock 15: rows still open: 1 (late), 3' day p1.sheet 15x0 then p2.sheet 5
+also_out 'row 2 (LO): got 0 of 15 work units, dropped at clock 10, its deadline'
+also_err 'number 17: a row of the running sheet is open'
+case_is 2 '       2      17       2       1      15' '*' day --plain p1.sheet 15x0 then p2.sheet 5
+also_out '       1       1       0      20       0       0'
+also_out '       1       2       0      15       4      10'
+case_is 2 'row 2 (HI, follows row 1): got 0 of 8 work units, open (waits for row 1)' \
+    'where: sheet 2 (second.sheet), clock 15: rows still open: 1, 2 (waits for row 1), 3' day p1.sheet 12x5 then second.sheet 2x5 5 then third.sheet 5
+also_out 'sheet 3 (third.sheet): refused at clock 15; sheet 2 (second.sheet) stays as it was'
+also_err 'sheet 3 (third.sheet) is refused'
+# A promised part of a row that was dropped is told in the record that stays.
+case_is 2 'row 3 (LO): got 4 of 10 work units, dropped at clock 23, its slots used up, promised 4 work units got' '*' day p1.sheet 14x5 then second.sheet 13x2 then p1.sheet 5
+# No order, and bytes that are no sheet: status and reasons are those of plan, and the day ends with the record as it was.
+case_is 1 'sheet 2 (p3.sheet): refused at clock 11; sheet 1 (p1.sheet) stays as it was' 'rows left: 1 2' day p1.sheet 11x5 then p3.sheet 5 then second.sheet 5
+also_err 'sheet 2 (p3.sheet) is refused'
+also_err 'number 7: no correct order exists'
+also_err "$not_said"
+also_out 'row 3 (HI): got 11 of 11 work units, done at clock 11'
+[ "$(grep -c committed out)" -eq 0 ] || complain "a day goes on after a refusal"
+case_is 1 '       2       7       2       0      11' 'rows left: 1 2' day --plain p1.sheet 11x5 then p3.sheet 5
+case_is 1 '' 'sheet 1 (p3.sheet) is refused' day p3.sheet 5
+case_is 1 '       1       7       2       0       0' 'rows left: 1 2' day --plain p3.sheet 5 then p1.sheet 5
+[ "$(wc -l <out)" -eq 1 ] || complain "a first sheet that is refused: more than one line"
+case_is 2 '       2       2       0       0      11' "hint: this is a rows file; 'jasminebrace sheet ROWS.csv' makes a sheet of it" day --plain p1.sheet 11x5 then p1.csv 5
+# A sheet is asked for before it is committed: its own refusal is told though rows are open.
+case_is 1 'sheet 2 (p3.sheet): refused at clock 2; sheet 1 (p1.sheet) stays as it was' 'number 7: no correct order exists' day p1.sheet 2x5 then p3.sheet 5
+# The clock ends in a later sheet too; from 1,000,000 slots on none is taken.
+"$command" sheet 1 1 0 999999,1,1000000,LO >last.sheet
+case_is 0 'from slot 999999, 1 slot: row 1, done at clock 1000000' '' day --stretches p1.sheet 11x5 999988x0 then last.sheet 1
+case_is 2 'sheet 2 (last.sheet): refused at clock 1000000; sheet 1 (p1.sheet) stays as it was' 'allowed: 1000000 slots or more, from the clock on' \
+    day --stretches p1.sheet 11x5 999989x0 then last.sheet 1
+case_is 2 'after 2000000 slots: no row is open' 'number 8: the clock is 2,000,000 slots, and no further slot is worked' \
+    day --stretches p1.sheet 11x5 then second.sheet 1999989x5 5 then third.sheet 4
+[ "$(grep -c '^sheet' out)" -eq 2 ] || complain "a day goes on after the end of the clock"
+# Any file name, 'then' too; standard input once; options anywhere.
+cp p1.sheet then && cp second.sheet 5
+day_is 0 then 11x5 then 5 9x5 --stretches <<'DAY'
+sheet 1 (then): begun at clock 0
+order: 1 2 3 4
+from slot 0, 4 slots: row 1, done at clock 4
+from slot 4, 1 slot: row 4, done at clock 5
+from slot 5, 3 slots: row 2, done at clock 8
+from slot 8, 3 slots: row 3, done at clock 11
+after 11 slots: no row is open
+sheet 2 (5): committed at clock 11
+order: 1 2 3
+from slot 11, 3 slots: idle
+from slot 14, 2 slots: row 1, done at clock 16
+from slot 16, 2 slots: row 2, done at clock 18
+from slot 18, 2 slots: row 3, promised 4 work units got at clock 19, done at clock 20
+after 20 slots: no row is open
+DAY
+case_in=second.sheet
+case_is 0 'sheet 2 (standard input): committed at clock 11' '' day p1.sheet 11x5 then - 5
+case_is 2 'sheet 2 (standard input): refused at clock 5; sheet 1 (p1.sheet) stays as it was' 'sheet 2 (standard input) is refused' day p1.sheet 5x5 then - 5
+case_in=/dev/null
+# A refusal comes after what was worked, also where both go to one place, and before the record that stays.
+cases=$((cases + 1))
+"$command" day p1.sheet 2x5 then second.sheet 5 >both 2>&1 || true
+[ "$(sed -n 's/^\(after\|number\|sheet 2 ([^)]*):\).*/\1/p' both | paste -sd ' ')" = 'after number sheet 2 (second.sheet):' ] || complain "a refusal stands elsewhere"
 
 # ---- a million slots by stretches, over 64 rows and over one ----
 rows=()
@@ -1605,10 +1766,26 @@ also_err 'usage: jasminebrace sheet {ROWS.csv | N G K RELEASE,WORK,DEADLINE,LEVE
 case_is 3 '' 'jasminebrace: finishes takes at least 1 argument; 0 given' finishes
 case_is 3 '' 'jasminebrace: report takes at least 1 argument; 0 given' report
 also_err 'usage: jasminebrace report SHEET [ROW..]'
-case_is 3 '' 'jasminebrace: --order and --stretches belong to run' plan p1.sheet --stretches
-case_is 3 '' 'jasminebrace: --order and --stretches belong to run' judge p1.sheet --order 1,2,3,4 1
-case_is 3 '' 'jasminebrace: --order and --stretches belong to run' report p1.sheet --order 1,2,3,4
-case_is 3 '' 'jasminebrace: --order and --stretches belong to run' speeds p1.sheet --slacks --order 1,2,3,4
+case_is 3 '' 'jasminebrace: --stretches belongs to run and day' plan p1.sheet --stretches
+case_is 3 '' 'jasminebrace: --order belongs to run' judge p1.sheet --order 1,2,3,4 1
+case_is 3 '' 'jasminebrace: --order belongs to run' report p1.sheet --order 1,2,3,4
+case_is 3 '' 'jasminebrace: --order belongs to run' speeds p1.sheet --slacks --order 1,2,3,4
+case_is 3 '' 'jasminebrace: --order belongs to run' day p1.sheet --order 1,2,3,4 5
+case_is 3 '' 'jasminebrace: --slacks belongs to speeds' day p1.sheet --slacks 5
+case_is 3 '' 'jasminebrace: day takes at least 2 arguments; 1 given' day p1.sheet
+also_err 'usage: jasminebrace day [--stretches] SHEET SUPPLY.. [then SHEET SUPPLY..]..'
+# Of a day everything is looked at before the first slot.
+case_is 3 '' 'jasminebrace: sheet 2 has no file' day p1.sheet 11x5 then
+case_is 3 '' 'jasminebrace: sheet 2, second.sheet has no supplies' day p1.sheet 11x5 then second.sheet
+case_is 3 '' 'jasminebrace: sheet 2, second.sheet has no supplies' day p1.sheet 11x5 then second.sheet then third.sheet 5
+case_is 3 '' 'jasminebrace: sheet 1, p1.sheet has no supplies' day p1.sheet then second.sheet 5
+case_is 3 '' 'jasminebrace: nowhere.sheet cannot be opened: No such file or directory' day p1.sheet 11x5 then nowhere.sheet 5
+case_is 3 '' 'jasminebrace: the name of the sheet is empty' day p1.sheet 11x5 then '' 5
+case_is 3 '' "jasminebrace: not a supply from 0 to 4294967295, nor a count from 1 and a supply as 1000x5: 'x5'" day p1.sheet 11x5 then second.sheet 5 x5
+case_is 3 '' "jasminebrace: not a supply from 0 to 4294967295, nor a count from 1 and a supply as 1000x5: 'second.sheet'" day p1.sheet 11x5 second.sheet 5
+case_in=p1.sheet
+case_is 3 '' 'jasminebrace: sheet 2: standard input is given for an earlier sheet already' day - 11x5 then - 5
+case_in=/dev/null
 case_is 3 '' 'jasminebrace: --order needs row numbers with commas between' run p1.sheet 5 --order
 for bad in x -1 1.5 '' '1,' ',1' '1,,2' ' 1' '1 2' 0x1 99999999999999999999; do
     case_is 3 '' "jasminebrace: not a row number: '$bad'" judge p1.sheet 1 2 "$bad"
@@ -1631,7 +1808,7 @@ if [ "$(id -u)" -ne 0 ]; then
     case_is 3 '' 'jasminebrace: shut.sheet cannot be opened: Permission denied' plan shut.sheet
 fi
 for words in 'plan p1.sheet' 'plan --plain p1.sheet' 'judge p1.sheet 1 2 3 4' 'finishes p1.sheet' 'report p1.sheet' \
-    'report --plain rows64.sheet' 'speeds p1.sheet' 'speeds --slacks --plain p1.sheet' 'run p1.sheet 5' 'run p1.sheet 2000000x5' 'explain p1.sheet' 'explain p3.sheet' \
+    'report --plain rows64.sheet' 'speeds p1.sheet' 'speeds --slacks --plain p1.sheet' 'run p1.sheet 5' 'run p1.sheet 2000000x5' 'day p1.sheet 11x5 then second.sheet 9x5' 'day p1.sheet 5 then second.sheet 5' 'explain p1.sheet' 'explain p3.sheet' \
     'sheet 5 2 0 0,20,10,1' 'sheet p1.csv' 'rows p1.sheet' '--help' '--version'; do
     cases=$((cases + 1))
     for full in /dev/full closed; do
@@ -1648,7 +1825,7 @@ done
 # ---- help and version ----
 case_is 0 'usage: jasminebrace COMMAND [--plain] ARGUMENTS' '' --help
 case_is 0 "jasminebrace, interface $(sed -n 's/^#define JB_VERSION \([0-9]*\)u$/\1/p' "$root/c/jasminebrace.h")" '' --version
-for name in plan judge finishes report speeds run explain sheet rows; do
+for name in plan judge finishes report speeds run day explain sheet rows; do
     case_is 0 '*' '' "$name" --help
     grep -q "^usage: jasminebrace $name " out || complain "$name --help: no usage"
     grep -q -- '--plain' out || complain "$name --help: nothing on --plain"

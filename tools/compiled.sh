@@ -89,7 +89,50 @@ grep -qx 'slot 4: row 2, supply 4 work units, got 4 of 8 work units' "$built/our
 same_text "$built/follows-dropped.sheet" 2 # row 1 is dropped at 4, and row 2 runs all the same
 grep -qx 'slot 4: row 2, supply 2 work units, got 2 of 20 work units' "$built/ours" || { echo "a follower waits for a row that was dropped"; exit 1; }
 same_text samples/p1.sheet 0 # runs to the last clock and ends with 8
-echo "example: same text and status as on paper"
+# Sheets that follow without a stop: what is asked for, refused and committed is the text on standard input, and slots and closings of each sheet
+# are those of its own run on paper from the clock of its commit on, moved as far as it was.
+moved() { awk -v by="$2" 'NR == 1 { print; next } { printf "%8d%8d%8d%8d%8d%8d\n", $1 + by, $2, $3 + by, $4, $5, $6 }' "$1"; } # SHEET BY, in slots
+worked_from() { awk -v from="$1" '/^slot/ { if ($2 + 0 >= from) print; next } /^row/ || /^clock .* dropped/'; }
+day_text() { # STATUS SUPPLY [SHEET CLOCK BY]..: each sheet with the clock at which it is committed and by how many slots it is moved
+    local status=$1 supply=$2 got=0 words=()
+    shift 2
+    cat >"$built/said"
+    : >"$built/paper"
+    while [ $# -gt 0 ]; do
+        words+=(then "$1")
+        moved "$1" "$3" >"$built/moved"
+        { model/target/release/paper "$built/moved" "$supply" || true; } | worked_from "$2" >>"$built/paper"
+        shift 3
+    done
+    "$built/example" "${words[1]}" "$supply" "${words[@]:2}" >"$built/ours" || got=$?
+    [ "$got" -eq "$status" ] || { echo "example ${words[*]:1}: status $got"; return 1; }
+    { grep '^clock' "$built/ours" | grep -v dropped; } | cmp - "$built/said"
+    worked_from 0 <"$built/ours" | cmp - "$built/paper"
+}
+day_text 0 5 samples/p1.sheet 0 0 samples/second.sheet 11 0 samples/third.sheet 20 0 <<'DAY'
+clock 1: asked for samples/second.sheet, the run is as it was
+clock 1: commit, number 17: a row of the running sheet is open, row 1
+clock 11: commit, number 0: success
+clock 12: asked for samples/third.sheet, the run is as it was
+clock 12: commit, number 17: a row of the running sheet is open, row 1
+clock 20: commit, number 0: success
+DAY
+day_text 0 2 samples/p1.sheet 0 0 samples/second.sheet 16 2 samples/third.sheet 25 0 <<'DAY'
+clock 1: asked for samples/second.sheet, the run is as it was
+clock 1: commit, number 17: a row of the running sheet is open, row 1
+clock 16: commit, number 18: a row of the new sheet has its release below the clock, row 1 by 2 slots
+clock 16: the new sheet starts 2 slots later
+clock 16: commit, number 0: success
+clock 17: asked for samples/third.sheet, the run is as it was
+clock 17: commit, number 17: a row of the running sheet is open, row 1
+clock 25: commit, number 0: success
+DAY
+# A sheet that is refused when it is asked for: the running one goes on to its end, and nothing is committed.
+day_text 1 5 samples/p1.sheet 0 0 samples/p3.sheet 0 0 <<'DAY'
+clock 1: asked for samples/p3.sheet, the run is as it was
+DAY
+grep -qx 'number 7: no correct order exists, rows left: 1 2' "$built/ours" || { echo "a 7 is not told when a sheet is asked for"; exit 1; }
+echo "example: same text and status as on paper, sheet after sheet"
 
 # The command: its words, statuses and places, its memory watched; few calls for a million slots; always that of its sources.
 gcc -std=c11 "${warned[@]}" "${watched[@]}" -o "$built/watched" c/command.c "$archive"

@@ -1,5 +1,5 @@
 #!/usr/bin/env bash
-# Tests that a run by stretches asks the archive a few times and not once a slot, whatever the sheet.
+# Tests that a run by stretches, and a day of them, asks the archive a few times and not once a slot, whatever the sheet.
 # Usage: tools/few_calls.sh COMMAND    COMMAND: the command linked with c/counted.c
 set -euo pipefail
 command=$(realpath "$1")
@@ -45,3 +45,8 @@ for ((row = 0; row < 64; row++)); do promised+=("$((15000 * row)),18000,1000000,
 "$command" sheet 2 1 16 "${promised[@]}" >promised.sheet 2>err
 few 64 1000000 run promised.sheet --stretches --order "$order" 500000x1 500000x2
 [ "$(grep -c ', promised [0-9]* work units got at clock ' out)" -gt 32 ] || { echo "NOT AS IT SHOULD BE: few promised parts are got"; exit 1; }
+# Each sheet of a day has stretches of its own.
+"$command" sheet 1 1 0 400000,300000,900000,HI 700000,1,1000000,LO >later.sheet 2>err
+"$command" sheet 1 1 0 0,300000,400000,HI >first.sheet 2>err
+few 3 2000000 day --stretches first.sheet 400000x1 then later.sheet 1600000x1
+[ "$(grep -c '^sheet' out)" -eq 2 ] || { echo "NOT AS IT SHOULD BE: not two sheets"; exit 1; }

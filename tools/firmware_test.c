@@ -21,6 +21,7 @@
 /* The listing's functions. */
 uint32_t one_slot(jb_run *run);
 uint32_t plot(const jb_table *table, jb_run *run);
+uint32_t plot_next(const jb_table *next, const uint8_t order[JB_ROWS], jb_run *run);
 
 enum {
     COURSE = 4096, /* slots that a played board has supplies for; the last one is repeated */
@@ -63,6 +64,8 @@ static struct {
     int damage;              /* whether the record is damaged when a row is told closed, */
     uint32_t damaged_n;      /* so that its row count is this and every closing slot is set */
     int starts_over;         /* whether the job of the next slot, and its counter, begin again from 0 in it */
+    const jb_table *next;    /* the sheet whose jobs come with the next board_new_sheet */
+    uint32_t sheets;         /* how often a new sheet was told */
     int to_last_slot;        /* whether slots that supply nothing pass up to the clock's last slot before a tick comes */
 } board;
 
@@ -76,6 +79,7 @@ uint32_t board_units(uint32_t row);
 int board_ended(uint32_t row);
 void board_closed(uint32_t row, int done, int in_time, int promised);
 void board_work_over_c(uint32_t row);
+void board_new_sheet(void);
 
 /* Slots that supply nothing, up to the last slot of the clock. */
 static void pass_to_last_slot(jb_run *run) {
@@ -151,6 +155,21 @@ void board_work_over_c(uint32_t row) {
     board.jobs[row].over_c = 1;
 }
 
+/* The jobs of a table, at their beginning: they load K slots and take c work units. */
+static void new_jobs(const jb_table *table) {
+    memset(board.jobs, 0, sizeof board.jobs);
+    for (uint32_t row = 1; row <= table->n; row++) {
+        board.jobs[row].real_work = table->work[row - 1];
+        board.jobs[row].real_loading = table->loading;
+    }
+}
+
+void board_new_sheet(void) {
+    must(board.started && board.next != NULL, "a new sheet is told before the board has started, or though none was committed");
+    board.sheets++;
+    new_jobs(board.next);
+}
+
 /* ---- tables and courses of speed, from a fixed seed ---- */
 
 static uint64_t seed = 1;
@@ -219,9 +238,10 @@ static void new_board(const jb_table *table, uint32_t least, uint32_t most, int 
     for (size_t slot = 0; slot < COURSE; slot++) {
         board.supply[slot] = least + below(most - least + 1);
     }
-    for (uint32_t row = 1; row <= table->n; row++) {
-        board.jobs[row].real_work = less ? 1 + below(table->work[row - 1]) : table->work[row - 1];
-        board.jobs[row].real_loading = less ? below(table->loading + 1) : table->loading;
+    new_jobs(table);
+    for (uint32_t row = 1; less && row <= table->n; row++) {
+        board.jobs[row].real_work = 1 + below(table->work[row - 1]);
+        board.jobs[row].real_loading = below(table->loading + 1);
     }
 }
 
@@ -231,13 +251,18 @@ static jb_run fresh_run(const jb_table *table, const uint8_t order[JB_ROWS]) {
     return run;
 }
 
+/* The run from a record on over the board's true supplies, up to this clock. */
+static jb_run true_run_from(jb_run run, uint32_t clock) {
+    uint32_t worked;
+    const uint32_t slots = clock - run.clock;
+    must(clock <= COURSE, "%u slots are more than the board has supplies for", clock);
+    must(jb_work_forward(&run, board.supply + run.clock, slots, &worked) == JB_OK && worked == slots, "the slots are not worked");
+    return run;
+}
+
 /* The run over so many of the board's true supplies. */
 static jb_run true_run(const jb_table *table, const uint8_t order[JB_ROWS], uint32_t slots) {
-    uint32_t worked;
-    jb_run run = fresh_run(table, order);
-    must(slots <= COURSE, "%u slots are more than the board has supplies for", slots);
-    must(jb_work_forward(&run, board.supply, slots, &worked) == JB_OK && worked == slots, "the slots are not worked");
-    return run;
+    return true_run_from(fresh_run(table, order), slots);
 }
 
 static int same(const jb_run *one, const jb_run *other) {
@@ -1072,6 +1097,182 @@ static void least_speeds(void) {
     puts("least speeds: one less is answered 7, with more the order stays correct; with every number but 0, speed 0 and an order of zeros");
 }
 
+/* ---- new sheets ---- */
+
+/* A table that has a correct order, and what asking for its sheet answers: this table and that order. */
+static jb_table asked_table(uint8_t order[JB_ROWS]) {
+    uint8_t sheet[JB_LONGEST_SHEET];
+    uint32_t length;
+    uint64_t left = 7;
+    jb_table table = planned_table(order), asked;
+    uint8_t planned[JB_ROWS];
+    must(jb_write_table(&table, sheet, sizeof sheet, &length) == JB_OK, "the table has no sheet");
+    must(jb_ask_sheet(sheet, length, &asked, planned, &left) == JB_OK && left == 0, "a sheet with an order is not answered 0");
+    must(memcmp(&asked, &table, sizeof table) == 0 && memcmp(planned, order, JB_ROWS) == 0, "asking gives another table or order");
+    return asked;
+}
+
+/* Asking refuses as reading and planning do, with zeros, and with 7 the rows left. */
+static void asking_refused(void) {
+    static const char no_order[] = "       2       2       1       0\n"
+                                   "       0       2       2       0       0       0\n"
+                                   "       0       4       4       1       0       0\n";
+    static const uint8_t zeros[sizeof(jb_table)];
+    const size_t lengths[] = {sizeof no_order - 1, sizeof no_order - 2};
+    const uint32_t numbers[] = {JB_NO_ORDER, JB_LENGTH};
+    for (int index = 0; index < 2; index++) {
+        jb_table table;
+        uint8_t order[JB_ROWS];
+        uint64_t left = 7;
+        must(jb_ask_sheet((const uint8_t *)no_order, lengths[index], &table, order, &left) == numbers[index], "a refused sheet is asked for");
+        must(left == (numbers[index] == JB_NO_ORDER ? 3u : 0u), "other rows are left");
+        must(memcmp(&table, zeros, sizeof table) == 0 && memcmp(order, zeros, JB_ROWS) == 0, "a refused asking leaves more than zeros");
+    }
+}
+
+/* A commit that is refused: the record is as it was, no slot is run, and the board is told nothing. */
+static void not_committed(const jb_table *next, const uint8_t order[JB_ROWS], jb_run *run, uint32_t number) {
+    const jb_run before = *run;
+    const uint32_t slots = board.slots, sheets = board.sheets, got = plot_next(next, order, run);
+    must(got == number, "a commit is answered %u and not %u", got, number);
+    must(same(run, &before) && board.slots == slots && board.sheets == sheets, "a refused commit leaves something behind");
+}
+
+/* Works a few slots of a sheet on the board; while a row is open a commit is answered 17, and asking changes nothing. */
+static void too_early(jb_run *run) {
+    uint8_t order[JB_ROWS];
+    for (uint32_t slot = 0; slot < 3; slot++) {
+        const jb_run before = *run;
+        const jb_table next = asked_table(order);
+        must(same(run, &before), "asking changes a record");
+        if (jb_first_open(run) != 0) {
+            not_committed(&next, order, run, JB_ROW_OPEN);
+            must(jb_is_open(run, jb_first_open(run)), "the row named is not open");
+        }
+        must(one_slot(run) == JB_OK, "a slot is refused");
+    }
+}
+
+/* The rows of the sheet in the record were told once each, and their jobs have ended in time: all at N, HI at G. */
+static void sheet_is_over(const jb_run *run, int normal) {
+    for (uint32_t row = 1; row <= run->table.n; row++) {
+        must(board.jobs[row].calls == 1, "row %u of a new sheet is not told closed once", row);
+        if (normal || run->table.level[row - 1] == JB_HI) {
+            must(ended_in_time(&run->table, row) && board.jobs[row].in_time, "row %u of a new sheet is late at %s", row, normal ? "N" : "G");
+        }
+        must(run->table.promised[row - 1] == 0 || jb_has_promised(run, row), "row %u of a new sheet lacks its promised part", row);
+    }
+}
+
+/* Idle slots between two sheets: the clock goes on, and nothing else changes. */
+static void idle_between(jb_run *run, uint32_t slots) {
+    jb_run before = *run;
+    for (uint32_t slot = 0; slot < slots; slot++) {
+        must(one_slot(run) == JB_OK && board.rows[board.slots - 1] == 0, "a slot between two sheets is not idle");
+    }
+    before.clock += slots;
+    must(same(run, &before), "an idle slot between two sheets changes more than the clock");
+}
+
+/* Supplies of at least N or G for the new sheet, from its earliest release on, and nothing before that from this clock on. */
+static void supply_next(const jb_table *next, uint32_t clock, int normal) {
+    const uint32_t least = normal ? next->normal : next->degraded;
+    for (uint32_t slot = clock; slot < COURSE; slot++) {
+        board.supply[slot] = slot < earliest_release(next) ? 0 : least + below(next->normal);
+    }
+}
+
+/*
+ * A new sheet on the running clock, from its first release on: it is moved there from its own beginning, stays correct, is committed there or
+ * some slots before, and is worked as from a fresh record after idle slots; its rows keep what is promised by supplies from its own earliest
+ * release on.
+ */
+static void next_on_the_clock(jb_run *run, uint32_t later, int normal) {
+    uint8_t order[JB_ROWS];
+    jb_table next = asked_table(order);
+    const uint32_t clock = run->clock, sheets = board.sheets, start = earliest_release(&next);
+    for (uint32_t row = 1; row <= next.n; row++) {
+        next.release[row - 1] -= start; /* its slots are counted from its own beginning */
+        next.deadline[row - 1] -= start;
+    }
+    must(clock > 0, "the first sheet takes no slot");
+    not_committed(&next, order, run, JB_RELEASED_BEFORE);
+    must(next.release[jb_first_released_before(&next, clock) - 1] < clock, "the row named is not released before the clock");
+    jb_start_later(&next, clock - 1);
+    not_committed(&next, order, run, JB_RELEASED_BEFORE);
+    jb_start_later(&next, 1 + later);
+    must(is_correct(&next, order), "an order is no longer correct when its table starts later");
+    must(earliest_release(&next) == clock + later && jb_first_released_before(&next, clock) == 0, "the start is another one");
+    supply_next(&next, clock, normal);
+    board.next = &next;
+    jb_run paper = true_run(&next, order, clock); /* whatever the slots before have supplied */
+    must(plot_next(&next, order, run) == JB_OK, "a sheet is not committed and worked to its end");
+    must(board.sheets == sheets + 1 && run->clock == board.slots, "a new sheet is not told once, or its clock is not that of the ticks");
+    paper = true_run_from(paper, run->clock);
+    must(same(run, &paper), "the record is not that of a run whose slots before the commit were idle");
+    sheet_is_over(run, normal);
+}
+
+/* Drawing after drawing on one record: asked for early, committed when no row is open, each with what is promised of it. */
+static void new_sheets(void) {
+    asking_refused();
+    for (int trial = 0; trial < TABLES; trial++) {
+        uint8_t order[JB_ROWS];
+        jb_table table = planned_table(order);
+        jb_run run = fresh_run(&table, order);
+        new_board(&table, 1, table.normal, 0);
+        board_start();
+        too_early(&run);
+        while (jb_first_open(&run) != 0) {
+            must(one_slot(&run) == JB_OK, "a slot is refused");
+        }
+        for (int sheet = 0; sheet < 3; sheet++) {
+            idle_between(&run, below(4));
+            next_on_the_clock(&run, below(3), below(2) == 0);
+        }
+    }
+    puts("new sheets: asking changes no record; 17 while a row is open, 18 for a release below the clock, and then nothing changes");
+    puts("new sheets: moved to the clock and committed there, each is worked as if the slots before had been idle, and keeps what is promised");
+}
+
+/* An order that is one of the table and not correct is 16; a proposal of two sheets is 6 or 16, and is never taken. */
+static void wrong_proposals(void) {
+    static const uint8_t kept[JB_ROWS] = {1, 2}, wrong[JB_ROWS] = {2, 1}, none[JB_ROWS] = {1, 2, 3};
+    jb_table table = empty_table(5, 2, 0);
+    add_row(&table, 0, 5, 1, JB_LO);
+    add_row(&table, 0, 5, 9, JB_LO);
+    jb_run run = fresh_run(&table, kept);
+    new_board(&table, 5, 5, 0);
+    board_start();
+    not_committed(&table, none, &run, JB_NOT_AN_ORDER);
+    not_committed(&table, wrong, &run, JB_NOT_CORRECT);
+    not_committed(&table, kept, &run, JB_ROW_OPEN);
+    run.clock = JB_LAST_CLOCK + 1;
+    not_committed(&table, none, &run, JB_UNSOUND);
+    puts("a proposal whose order is not correct is answered 16, before 17 and 18; 6 before it, and 9 before all");
+}
+
+/* The last sheet of a clock: released at 999,999 slots and committed there; a slot later none is taken. */
+static void last_sheet(void) {
+    static const uint8_t order[JB_ROWS] = {1};
+    jb_table table = empty_table(5, 2, 0), last = table;
+    add_row(&table, 0, 5, 1, JB_LO);
+    add_row(&last, JB_LAST_DEADLINE - 1, 2, JB_LAST_DEADLINE, JB_HI);
+    new_board(&table, 5, 5, 0);
+    board.next = &last;
+    jb_run run;
+    must(plot(&table, &run) == JB_OK && run.clock == 1, "the first sheet");
+    run.clock = JB_LAST_DEADLINE - 1; /* as after so many idle slots */
+    jb_run later = run;
+    must(plot_next(&last, order, &run) == JB_OK && run.clock == JB_LAST_DEADLINE && jb_is_done(&run, 1), "the last sheet is not taken");
+    later.clock = JB_LAST_DEADLINE;
+    not_committed(&last, order, &later, JB_RELEASED_BEFORE);
+    jb_start_later(&last, 1);
+    not_committed(&last, order, &later, JB_ROW_LIMITS);
+    must(jb_fresh_run(&table, order, &run) == JB_OK && run.clock == 0, "a new run does not begin at 0");
+    puts("the last sheet of a clock is released at 999,999 slots; after that 18, or 5 for a deadline that was moved too far");
+}
+
 /* The end of the clock: 8, nothing changes, and the loop begins no slot. Missed slots reported as 0 drop a LO row. */
 static void clock_end(void) {
     static const uint8_t order[JB_ROWS] = {2, 1};
@@ -1256,6 +1457,9 @@ int main(void) {
     sheet_of_record();
     list_of_jobs();
     least_speeds();
+    new_sheets();
+    wrong_proposals();
+    last_sheet();
     clock_end();
     started();
     fallen_counter();

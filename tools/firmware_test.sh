@@ -63,7 +63,7 @@ spoil '            tell_closing(run, row);
         }'
 spoil '        tell_closings(run);' '        if (row != 0 && !jb_is_open(run, row)) { tell_closing(run, row); }'
 spoil 'if (run->closing[row - 1] == run->clock) {' 'if (run->closing[row - 1] != 0) {'
-spoil '        if (jb_is_open(run, row)) {' '        if (row == 1 && jb_is_open(run, row)) {'
+spoil 'jb_first_open(run) != 0' 'jb_is_open(run, 1)'
 spoil '    if (number != JB_OK) {
         return number;
     }
@@ -83,10 +83,15 @@ spoil '    if (number != JB_OK) {
         return number; /* nothing was begun */
     }
     board_start();' '    board_start();'
-# Endless on a damaged row count, 0 for a damaged record, 8 where every row is closed.
-spoil ' && row <= JB_ROWS; row++) {
-        if (jb_is_open(run, row)) {' '; row++) {
-        if (jb_is_open(run, row)) {'
+# A new sheet as a new run, worked though it is refused, or with the jobs of the sheet before.
+spoil 'jb_commit_sheet(run, next, order)' 'jb_fresh_run(next, order, run)'
+spoil '    if (number != JB_OK) {
+        return number; /* the sheet before stays */
+    }
+' ''
+spoil '    board_new_sheet();
+' ''
+# 0 for a damaged record, 8 where every row is closed.
 spoil 'if (number == JB_OK && jb_coming_row(run, &row) == JB_UNSOUND) {' 'if (0) {'
 spoil 'if (number == JB_OK && jb_coming_row(run, &row) == JB_UNSOUND) {
         number = JB_UNSOUND;

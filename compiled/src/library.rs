@@ -10,6 +10,7 @@ use crate::raw::{
 use model::judge::Verdict;
 use model::order::Order;
 use model::plan::Plan;
+use model::proposal::{Asked, Committed};
 use model::record::{Forward, OneSlot, Record};
 use model::report::LONGEST_REPORT;
 use model::speeds::{Least, Sought};
@@ -59,7 +60,7 @@ pub fn field(number: u32) -> (bool, [u8; 8]) {
 pub fn plan(table: &Table) -> Plan {
     let lent = Lent::new(table, &[0; ROWS]);
     let mut order: Order = [RUBBISH_BYTE; ROWS];
-    let mut left = u64::from(RUBBISH);
+    let mut left = twice(RUBBISH);
     // SAFETY: as in `read`.
     let number = unsafe { raw::jb_plan(&lent.table, &mut order, &mut left) };
     lent.assert_unwritten(table, &[0; ROWS]);
@@ -67,6 +68,40 @@ pub fn plan(table: &Table) -> Plan {
         number,
         order,
         left,
+    }
+}
+
+/// Asking: the reader and then the planner (rule 22.2). It is asked twice, with other rubbish
+/// where the answer goes.
+pub fn ask(sheet: &[u8]) -> Asked {
+    let before = sheet.to_vec();
+    let answer = ask_over(RUBBISH, sheet);
+    let again = ask_over(!RUBBISH, sheet);
+    assert_eq!(answer, again, "it matters what stood there before");
+    assert_eq!(sheet, before, "the sheet was written");
+    answer
+}
+
+fn ask_over(rubbish: u32, sheet: &[u8]) -> Asked {
+    let mut table: Between<TableWords> = Between::new([rubbish; TABLE_WORDS], rubbish);
+    let mut order: Between<Order> = Between::new([rubbish as u8; ROWS], rubbish);
+    let mut left = Between::new(twice(rubbish), rubbish);
+    let (bytes, length) = (sheet.as_ptr(), sheet.len());
+    // SAFETY: as in `read`.
+    let number = unsafe {
+        raw::jb_ask(
+            bytes,
+            length,
+            &mut table.lent,
+            &mut order.lent,
+            &mut left.lent,
+        )
+    };
+    Asked {
+        number,
+        table: raw::table_of(&table.looked_around()),
+        order: order.looked_around(),
+        left: left.looked_around(),
     }
 }
 
@@ -233,6 +268,33 @@ pub fn forward(record: &Record, supplies: &[u32]) -> Forward {
     }
 }
 
+/// A commit of this table and this order, on a record that the library may write.
+pub fn commit(record: &Record, table: &Table, order: &Order) -> Committed {
+    let lent = Lent::new(table, order);
+    let mut run_table = Between::new(raw::table_words(&record.table), RUBBISH);
+    let mut run_order = Between::new(record.order, RUBBISH);
+    let mut run_state = Between::new(raw::state_words(record), RUBBISH);
+    // SAFETY: as in `read`.
+    let number = unsafe {
+        raw::jb_commit(
+            &lent.table,
+            &lent.order,
+            &mut run_table.lent,
+            &mut run_order.lent,
+            &mut run_state.lent,
+        )
+    };
+    lent.assert_unwritten(table, order);
+    Committed {
+        number,
+        record: raw::record_of(
+            &run_table.looked_around(),
+            &run_order.looked_around(),
+            &run_state.looked_around(),
+        ),
+    }
+}
+
 /// What the planning program writes for this input.
 pub fn program(input: &[u8]) -> Vec<u8> {
     let before = input.to_vec();
@@ -353,34 +415,56 @@ fn find_least(call: FindLeast) -> Least {
     answer
 }
 
-/// A speed and an order with words of rubbish on either side of both.
-#[repr(C)]
-struct SpeedAndOrder {
-    before: [u32; 64],
-    speed: u32,
-    between: [u32; 64],
-    order: Order,
-    behind: [u32; 64],
-}
-
 fn find_between_guards(rubbish: u32, call: FindLeast) -> Least {
-    let guard = [rubbish; 64];
-    let mut memory = SpeedAndOrder {
-        before: guard,
-        speed: rubbish,
-        between: guard,
-        order: [rubbish as u8; ROWS],
-        behind: guard,
-    };
-    let number = call(&mut memory.speed, &mut memory.order);
-    assert_eq!(memory.before, guard, "a word before the speed was written");
-    assert_eq!(memory.between, guard, "a word behind the speed was written");
-    assert_eq!(memory.behind, guard, "a word behind the order was written");
+    let mut speed = Between::new(rubbish, rubbish);
+    let mut order: Between<Order> = Between::new([rubbish as u8; ROWS], rubbish);
+    let number = call(&mut speed.lent, &mut order.lent);
     Least {
         number,
-        speed: memory.speed,
-        order: memory.order,
+        speed: speed.looked_around(),
+        order: order.looked_around(),
     }
+}
+
+/// Lent memory of a fixed size that the library may write, with words of rubbish on either
+/// side.
+#[repr(C)]
+struct Between<Words> {
+    before: [u32; 64],
+    lent: Words,
+    behind: [u32; 64],
+    rubbish: u32,
+}
+
+impl<Words: Copy> Between<Words> {
+    fn new(lent: Words, rubbish: u32) -> Between<Words> {
+        let guard = [rubbish; 64];
+        Between {
+            before: guard,
+            lent,
+            behind: guard,
+            rubbish,
+        }
+    }
+
+    /// What the library has left there, after a look at the guards.
+    fn looked_around(&self) -> Words {
+        let guard = [self.rubbish; 64];
+        assert_eq!(
+            self.before, guard,
+            "a word before the lent ones was written"
+        );
+        assert_eq!(
+            self.behind, guard,
+            "a word behind the lent ones was written"
+        );
+        self.lent
+    }
+}
+
+/// This rubbish in both halves of a word of rows left.
+fn twice(rubbish: u32) -> u64 {
+    u64::from(rubbish) << 32 | u64::from(rubbish)
 }
 
 /// A row number as the model has it; the library never gives one above 64.

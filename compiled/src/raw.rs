@@ -31,6 +31,13 @@ extern "C" {
         -> u32;
     pub fn jb_field(figure: u32, field: *mut [u8; 8]) -> u32;
     pub fn jb_plan(table: *const TableWords, order: *mut Order, left: *mut u64) -> u32;
+    pub fn jb_ask(
+        sheet: *const u8,
+        length: usize,
+        table: *mut TableWords,
+        order: *mut Order,
+        left: *mut u64,
+    ) -> u32;
     pub fn jb_least_degraded(table: *const TableWords, speed: *mut u32, order: *mut Order) -> u32;
     pub fn jb_least_normal(table: *const TableWords, speed: *mut u32, order: *mut Order) -> u32;
     pub fn jb_read_least_degraded(
@@ -99,6 +106,13 @@ extern "C" {
         supplies: *const u32,
         count: usize,
         worked: *mut u32,
+    ) -> u32;
+    pub fn jb_commit(
+        table: *const TableWords,
+        order: *const Order,
+        run_table: *mut TableWords,
+        run_order: *mut Order,
+        run_state: *mut StateWords,
     ) -> u32;
     pub fn jb_program(input: *const u8, length: usize, text: *mut [u8; TEXT]) -> u32;
     pub fn jb_version() -> u32;

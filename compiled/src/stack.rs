@@ -7,10 +7,11 @@ use crate::sheets::{
     chain, easy, easy_loading, grouped, hard, largest, late_promises, longest_windows, promising,
 };
 use model::order::{order_of, Order};
+use model::plain;
 use model::record::Record;
 use model::report::LONGEST_REPORT;
 use model::sheet::{sheet_of, LONGEST_SHEET};
-use model::table::{Row, Table};
+use model::table::{earliest_release, Row, Table, LATEST_DEADLINE};
 use std::ffi::{c_int, c_void};
 use std::hint::black_box;
 use std::ptr;
@@ -121,29 +122,71 @@ struct Inputs {
     figures: [u32; 3],
     order: Order,
     state: StateWords,
+    /// What is committed: the table released later, with the planner's order or, if there is
+    /// none, with this one.
+    next: (TableWords, Order),
 }
 
 impl Inputs {
     /// The table with its rows in order, and its run after some slots at N.
     fn of(table: &Table, slots: usize) -> Inputs {
-        let rows: Vec<u8> = (1..=table.n as u8).collect();
-        let order = order_of(&rows);
+        let order = in_order(table);
         let record = Record::fresh(table, &order).1;
         let reached = record.forward(&vec![table.normal; slots]).record;
+        Inputs::with(table, &reached)
+    }
+
+    /// The table with its rows in order, all of them closed at clock 1, so that the next one
+    /// can be committed.
+    fn over(table: &Table) -> Inputs {
+        let mut over = Record::starting(table, &in_order(table), 1);
+        over.got = table.work;
+        over.closing[..table.n as usize].fill(1);
+        Inputs::with(table, &over)
+    }
+
+    fn with(table: &Table, reached: &Record) -> Inputs {
+        let order = in_order(table);
+        let planned = plain::plan(table);
+        let next = if planned.number == 0 {
+            planned.order
+        } else {
+            order
+        };
         Inputs {
             sheet: sheet_of(table),
             table: raw::table_words(table),
             rows: table.rows().iter().map(Row::figures).collect(),
             figures: [table.normal, table.degraded, table.loading],
             order,
-            state: raw::state_words(&reached),
+            state: raw::state_words(reached),
+            next: (raw::table_words(&released_later(table)), next),
         }
     }
 }
 
+fn in_order(table: &Table) -> Order {
+    let rows: Vec<u8> = (1..=table.n as u8).collect();
+    order_of(&rows)
+}
+
+/// The table a slot later, up to the latest deadline there is; as it is if no row is released
+/// at 0.
+fn released_later(table: &Table) -> Table {
+    if earliest_release(table) > 0 {
+        return *table;
+    }
+    let mut later = table.later(1);
+    for deadline in &mut later.deadline {
+        *deadline = LATEST_DEADLINE.min(*deadline);
+    }
+    later
+}
+
 /// Most bytes of stack that each export took, without what the caller lends:
 /// the most over easy, hard and large tables of 64 rows, some of which load, promise parts
-/// or have waits, one row, and tables and orders that are refused.
+/// or have waits, one row, and tables and orders that are refused. Their records are fresh,
+/// after some slots, or over, where a correct order is committed.
 pub fn peaks() -> Vec<(&'static str, usize)> {
     let mut refused = hard(64);
     refused.level[63] = 2;
@@ -161,7 +204,13 @@ pub fn peaks() -> Vec<(&'static str, usize)> {
     ];
     let inputs: Vec<Inputs> = tables
         .iter()
-        .flat_map(|table| [Inputs::of(table, 0), Inputs::of(table, 70)])
+        .flat_map(|table| {
+            [
+                Inputs::of(table, 0),
+                Inputs::of(table, 70),
+                Inputs::over(table),
+            ]
+        })
         .collect();
     CALLS
         .iter()
@@ -185,7 +234,7 @@ type Call = fn(&Inputs);
 
 /// Every export with the memory that it is lent. What is written lies outside
 /// the measured stack, in `Results`.
-const CALLS: [(&str, Call); 18] = [
+const CALLS: [(&str, Call); 20] = [
     ("jb_read", |on| {
         with_results(|out| unsafe {
             raw::jb_read(on.sheet.as_ptr(), on.sheet.len(), &mut out.table);
@@ -205,6 +254,13 @@ const CALLS: [(&str, Call); 18] = [
     ("jb_plan", |on| {
         with_results(|out| unsafe {
             raw::jb_plan(&on.table, &mut out.order, &mut out.left);
+        })
+    }),
+    ("jb_ask", |on| {
+        with_results(|out| unsafe {
+            let (sheet, length) = (on.sheet.as_ptr(), on.sheet.len());
+            let (table, order) = (&mut out.table, &mut out.order);
+            raw::jb_ask(sheet, length, table, order, &mut out.left);
         })
     }),
     ("jb_least_degraded", |on| {
@@ -283,6 +339,16 @@ const CALLS: [(&str, Call); 18] = [
                 count,
                 worked,
             );
+        })
+    }),
+    ("jb_commit", |on| {
+        with_results(|out| unsafe {
+            out.table = on.table;
+            out.order = on.order;
+            out.state = on.state;
+            let (table, order) = &on.next;
+            let (run_table, run_order) = (&mut out.table, &mut out.order);
+            raw::jb_commit(table, order, run_table, run_order, &mut out.state);
         })
     }),
     ("jb_program", |on| {

@@ -60,22 +60,37 @@ pub fn forward_on_paper(
     (0, worked)
 }
 
+/// One call on paper: what it answers, and the state as it leaves it.
+pub fn call_on_paper(table: &Table, order: &Order, state: &mut State, call: &Call) -> Answer {
+    match call {
+        Call::OneSlot(supply) => {
+            let (number, row) = one_slot_on_paper(table, order, state, *supply);
+            Answer::OneSlot { number, row }
+        }
+        Call::Forward(supplies) => {
+            let (number, worked) = forward_on_paper(table, order, state, supplies);
+            Answer::Forward { number, worked }
+        }
+    }
+}
+
 /// The whole list of calls on paper from the fresh state: every answer in turn
 /// and the state at the end (rules 9.5 and 9.6).
 pub fn play_on_paper(table: &Table, order: &Order, calls: &[Call]) -> (Vec<Answer>, State) {
-    let mut state = State::FRESH;
-    let mut answers = Vec::new();
-    for call in calls {
-        answers.push(match call {
-            Call::OneSlot(supply) => {
-                let (number, row) = one_slot_on_paper(table, order, &mut state, *supply);
-                Answer::OneSlot { number, row }
-            }
-            Call::Forward(supplies) => {
-                let (number, worked) = forward_on_paper(table, order, &mut state, supplies);
-                Answer::Forward { number, worked }
-            }
-        });
-    }
+    play_on_paper_from(table, order, 0, calls)
+}
+
+/// The same from this clock (slots) with zeros for all rows (rules 9.6 and 22.8).
+pub fn play_on_paper_from(
+    table: &Table,
+    order: &Order,
+    clock: u32,
+    calls: &[Call],
+) -> (Vec<Answer>, State) {
+    let mut state = State::at(clock);
+    let answers = calls
+        .iter()
+        .map(|call| call_on_paper(table, order, &mut state, call))
+        .collect();
     (answers, state)
 }

@@ -1,7 +1,8 @@
 //! The tables and answers of cases P1 to P4 (section 13 of the rules), and cases,
 //! runs and reports worked out by hand, for tests here and of the compiled library. Those
-//! in which rows follow rows are in `waits`.
+//! in which rows follow rows are in `waits`, and commits in `commits`.
 
+pub mod commits;
 pub mod waits;
 
 use crate::order::{order_of, Order, NO_ORDER};

@@ -21,6 +21,7 @@
 //! | `record`   | the run record, check 9, one slot and forward on a record    |
 //! | `plan`     | worst finish, promised moment, slack, the planner's choice   |
 //! | `judge`    | the judge of orders                                          |
+//! | `proposal` | asking, committing, and days of run calls and commits        |
 //! | `speeds`   | the least workable speeds, by a scan over all of the range   |
 //! | `sheet`    | the sheet's fields, its reader and its writer                |
 //! | `place`    | where a refused sheet is at fault                            |
@@ -28,7 +29,7 @@
 //! | `program`  | the planning program from input bytes to output bytes        |
 //! | `cases`    | cases worked out by hand, P1 to P4 among them                |
 //! | `before`   | answers from before loading times, promises and waits        |
-//! | `random`   | a fixed-seed generator of numbers and tables for tests       |
+//! | `random`   | a fixed-seed generator of numbers, tables, proposals, days   |
 //! | `plain`    | the same answers by sweeps, for large tables and measures    |
 //! | `planners` | planning with a sweep for each trial, and for each place     |
 
@@ -42,6 +43,7 @@ pub mod plain;
 pub mod plan;
 pub mod planners;
 pub mod program;
+pub mod proposal;
 pub mod random;
 pub mod record;
 pub mod report;

@@ -11,11 +11,12 @@ use crate::judge::Verdict;
 use crate::order::Order;
 use crate::plan::Plan;
 use crate::planners::left::{sweep_speed, Left};
+use crate::proposal::Asked;
 use crate::record::Record;
 use crate::report::{figure, LAST_LINE, PLACE_LINE};
 use crate::sheet::{read_sheet, write_field, write_line, FIRST_LINE, LINE_END, ROW_LINE};
 use crate::speeds::{Least, Sought};
-use crate::table::{check_table, need, promised_need, Table, HI, ROWS};
+use crate::table::{check_table, earliest_release, need, promised_need, Table, HI, ROWS};
 
 /// The planner: of the two, the one that is faster on hard sheets.
 pub use crate::planners::each_place::{plan, plan_and_trials};
@@ -319,6 +320,46 @@ pub fn forward(record: &mut Record, supplies: &[u32]) -> (u32, u32) {
         worked += 1;
     }
     (0, worked)
+}
+
+/// Asking: the model's reader and this planner.
+pub fn ask(bytes: &[u8]) -> Asked {
+    let (refusal, table) = read_sheet(bytes);
+    if refusal != 0 {
+        return Asked::refused(refusal, 0);
+    }
+    let made = plan(&table);
+    match made.number {
+        0 => Asked {
+            number: 0,
+            table,
+            order: made.order,
+            left: 0,
+        },
+        number => Asked::refused(number, made.left),
+    }
+}
+
+/// A commit on a record by reference: its number.
+pub fn commit(record: &mut Record, table: &Table, order: &Order) -> u32 {
+    if !is_sound(record) {
+        return 9;
+    }
+    let verdict = judge(table, order);
+    if verdict.number != 0 {
+        return verdict.number;
+    }
+    let rows = record.table.n as usize;
+    if !verdict.yes {
+        16
+    } else if record.closing[..rows].contains(&0) {
+        17
+    } else if earliest_release(table) < record.clock {
+        18
+    } else {
+        *record = Record::starting(table, order, record.clock);
+        0
+    }
 }
 
 /// The writer: number and length of the sheet in bytes. It allocates nothing.

@@ -1,5 +1,9 @@
-//! A small generator with fixed seeds, so that every test run is the same.
+//! A small generator with fixed seeds, so that every test run is the same. Proposals and days
+//! are in `commits`.
 
+pub mod commits;
+
+use crate::calls::Call;
 use crate::order::{order_of, Order};
 use crate::plan::slack;
 use crate::table::{check_wait, Row, Table, HI, LO, MOST_LOADING};
@@ -228,4 +232,34 @@ pub fn loading_table_in(random: &mut Random, n: u32, loading: u32, ranges: Range
     let rows: Vec<Row> = (0..n).map(|_| row(random)).collect();
     let promising = with_promises(random, &Table::of(normal, degraded, loading, &rows));
     with_waits(random, &promising)
+}
+
+/// Supplies of every kind, in work units per slot: none, about the two speeds,
+/// the largest there is.
+pub fn supplies(random: &mut Random, slots: u32) -> Vec<u32> {
+    (0..slots)
+        .map(|_| match random.between(0, 9) {
+            0..=1 => 0,
+            2 => u32::MAX,
+            3 => random.word() as u32,
+            _ => random.between(0, 5),
+        })
+        .collect()
+}
+
+/// These supplies cut into calls, some of them forward over an empty list.
+pub fn calls_for(random: &mut Random, supplies: &[u32]) -> Vec<Call> {
+    let mut calls = Vec::new();
+    let mut rest = supplies;
+    while !rest.is_empty() {
+        if random.once_in(2) {
+            calls.push(Call::OneSlot(rest[0]));
+            rest = &rest[1..];
+        } else {
+            let count = random.between(0, rest.len().min(7) as u32) as usize;
+            calls.push(Call::Forward(rest[..count].to_vec()));
+            rest = &rest[count..];
+        }
+    }
+    calls
 }

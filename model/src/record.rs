@@ -93,6 +93,12 @@ impl Record {
         }
     }
 
+    /// The record with this table, this order, this clock (slots) and zeros for all rows
+    /// (rule 22.8). With clock 0 it is the fresh one.
+    pub fn starting(table: &Table, order: &Order, clock: u32) -> Record {
+        Record::holding(table, order, &State::at(clock))
+    }
+
     /// The clock and the entries of all rows, as the run on paper has them.
     pub fn state(&self) -> State {
         State {
@@ -209,30 +215,37 @@ impl Record {
         }
     }
 
+    /// One call of either kind: its answer and the record as it leaves it.
+    pub fn call(self, call: &Call) -> (Answer, Record) {
+        match call {
+            Call::OneSlot(supply) => {
+                let OneSlot {
+                    number,
+                    row,
+                    record,
+                } = self.one_slot(*supply);
+                (Answer::OneSlot { number, row }, record)
+            }
+            Call::Forward(supplies) => {
+                let Forward {
+                    number,
+                    worked,
+                    record,
+                } = self.forward(supplies);
+                (Answer::Forward { number, worked }, record)
+            }
+        }
+    }
+
     /// A whole list of calls, each on the record the last one left: every
     /// answer in turn and the record at the end (rule 9.5).
     pub fn play(self, calls: &[Call]) -> (Vec<Answer>, Record) {
         let mut record = self;
         let mut answers = Vec::new();
         for call in calls {
-            answers.push(match call {
-                Call::OneSlot(supply) => {
-                    let done = record.one_slot(*supply);
-                    record = done.record;
-                    Answer::OneSlot {
-                        number: done.number,
-                        row: done.row,
-                    }
-                }
-                Call::Forward(supplies) => {
-                    let done = record.forward(supplies);
-                    record = done.record;
-                    Answer::Forward {
-                        number: done.number,
-                        worked: done.worked,
-                    }
-                }
-            });
+            let (answer, after) = record.call(call);
+            answers.push(answer);
+            record = after;
         }
         (answers, record)
     }

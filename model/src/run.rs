@@ -4,7 +4,8 @@
 //! at the waits and not at how the order stands to them.
 
 use crate::order::Order;
-use crate::table::{allowance, Table, LO, ROWS};
+use crate::table::{allowance, earliest_release, Table, LO, ROWS};
+use std::ops::Range;
 
 /// The state of a run (rule 2.13). The entry of row i stands at index i - 1.
 #[derive(Clone, Copy, Debug, PartialEq, Eq, Hash)]
@@ -27,6 +28,14 @@ impl State {
         used: [0; ROWS],
         closing: [0; ROWS],
     };
+
+    /// The state at this clock (slots) with zeros for all rows (rules 22.4 and 22.7).
+    pub fn at(clock: u32) -> State {
+        State {
+            clock,
+            ..State::FRESH
+        }
+    }
 }
 
 /// The ready row with the highest place, 0 if no row is ready (rule 2.3). It has no
@@ -158,4 +167,11 @@ pub fn kept_deadline(table: &Table, state: &State, row: u8) -> bool {
     let index = row as usize - 1;
     let job = table.row(row);
     state.got[index] == job.work && (1..=job.deadline).contains(&state.closing[index])
+}
+
+/// The slots of a row's window that a run has worked when the clock shows so many slots: from
+/// the earliest release of the row's own table on, up to the row's deadline at most (rules
+/// 9.14, 9.20 and 22.8).
+pub fn window(table: &Table, row: u8, clock: u32) -> Range<u32> {
+    earliest_release(table)..table.row(row).deadline.min(clock)
 }

@@ -142,6 +142,16 @@ impl Table {
         Table { loading, ..self }
     }
 
+    /// The same table with every release and every deadline so many slots later.
+    pub fn later(self, slots: u32) -> Table {
+        let mut later = self;
+        for index in 0..self.n as usize {
+            later.release[index] += slots;
+            later.deadline[index] += slots;
+        }
+        later
+    }
+
     /// The same table without a promise.
     pub fn without_promises(self) -> Table {
         Table {
@@ -178,6 +188,13 @@ impl Table {
             follows: self.follows[index],
         }
     }
+}
+
+/// The earliest release of all rows of an accepted table, in slots: the window of each row
+/// begins with it (rule 9.14).
+pub fn earliest_release(table: &Table) -> u32 {
+    let releases = &table.release[..table.n as usize];
+    *releases.iter().min().expect("an accepted table has a row")
 }
 
 /// The need of so much work (work units) at a speed, in slots: those in which a row

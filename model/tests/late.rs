@@ -8,14 +8,11 @@ mod common;
 use common::correct::{
     correct_by_every_course, correct_by_slacks, kept_in_its_window, survives_random_courses, TINY,
 };
-use common::{
-    all_rows, calls_for, fresh, rows_at_level, slots_with_loading, supplies, table_and_order,
-    Kinds, SMALL,
-};
+use common::{all_rows, fresh, rows_at_level, slots_with_loading, table_and_order, Kinds, SMALL};
 use model::cases::row;
 use model::order::{orders, Order};
 use model::plan::plan;
-use model::random::{table_in, with_waits, Random};
+use model::random::{calls_for, supplies, table_in, with_waits, Random};
 use model::run::{kept_deadline, running_step, step, State};
 use model::table::{allowance, Table, HI, LO};
 

@@ -1,17 +1,19 @@
 //! Every number of section 10 of the rules: its example there, its neighbours,
 //! and the order of the checks on a table (rules 11.4 and 11.6). Number 7 is
-//! case P3.
+//! case P3. The order of the checks of a commit is in `commits`.
 
 mod common;
 
 use common::{p3_at, refused_verdict, rubbish, TOO_LONG};
+use model::cases::commits::drawn;
 use model::cases::waits::{checked_wait_orders, checked_waits};
-use model::cases::{checked_promises, p1, p3, table};
+use model::cases::{checked_promises, p1, p2, p3, table};
 use model::judge::{judge, judge_table};
 use model::order::{check_order, order_of, Order, NO_ORDER};
 use model::plain;
 use model::plan::{plan, Plan};
 use model::program::planning_program;
+use model::proposal::{ask, Asked};
 use model::record::{Record, Unsound};
 use model::report::{report, LONGEST_REPORT};
 use model::run::State;
@@ -96,17 +98,35 @@ fn assert_refused(table: &Table, order: &Order, number: u32) {
     for sought in BOTH {
         assert_eq!(least(table, sought), Least::refused(number));
     }
+    // A commit of it hands the record back as it was.
+    assert_eq!(commit(drawn(7), table, order), number);
     let record = Record::holding(table, order, &State::FRESH);
     assert_eq!(record.reasons(), [Unsound::TableOrOrder(number)]);
+    assert_eq!(commit(record, table, order), 9);
     assert_eq!(record.one_slot(1).number, 9);
     assert_eq!(record.forward(&[]).number, 9);
 }
 
-/// The reader's number for such a sheet; a refusal comes with a table of zeros.
+/// The reader's number for such a sheet; a refusal comes with a table of zeros, and asking
+/// answers it with an order of zeros too.
 fn read_sheet_number(table: &Table) -> u32 {
     let (number, read) = read_sheet(&cut_sheet(table));
     assert!(number == 0 || read == Table::ZERO);
+    let asked = ask(&cut_sheet(table));
+    assert!(number == 0 || asked == Asked::refused(number, 0));
     number
+}
+
+/// The number of a commit; a refusal leaves the record as it was, and after 0 it has zeros for
+/// all rows and the clock that it had (rules 22.4 and 22.5).
+fn commit(record: Record, table: &Table, order: &Order) -> u32 {
+    let done = record.commit(table, order);
+    let after = match done.number {
+        0 => Record::starting(table, order, record.clock),
+        _ => record,
+    };
+    assert_eq!(done.record, after);
+    done.number
 }
 
 /// It is answered as 5 is (rule 10.11).
@@ -274,6 +294,7 @@ fn number_9_clock_above_two_million() {
             (9, 0, broken)
         );
     }
+    assert_eq!(commit(broken, &p1(), &order_of(&[1, 2, 3, 4])), 9);
 }
 
 /// The writer's answer for lent bytes that it must leave as they are.
@@ -359,4 +380,40 @@ fn checks_on_a_table_come_in_their_order() {
     limited.follows[0] = 0;
     assert_eq!(judge_table(&limited, &order).number, 6);
     assert_eq!(judge_table(&limited, &order_of(&[1])).number, 0);
+}
+
+/// P1 with the order of P2, and with its own (rule 10.16).
+#[test]
+fn number_16_an_order_of_another_table() {
+    let p1 = p1().later(7);
+    assert_eq!(commit(drawn(7), &p1, &plan(&p2()).order), 16);
+    assert_eq!(commit(drawn(7), &p1, &plan(&p1).order), 0);
+}
+
+/// The fresh record of P1, in which all rows are open, and its run until the last is closed
+/// (rule 10.17).
+#[test]
+fn number_17_an_open_row() {
+    let order = order_of(&[1, 2, 3, 4]);
+    let (_, mut record) = Record::fresh(&p1(), &order);
+    let next = p1().later(30);
+    for clock in 0..30 {
+        assert_eq!(record.clock, clock);
+        let open = record.closing[..4].contains(&0);
+        let number = if open { 17 } else { 0 };
+        assert_eq!(commit(record, &next, &order), number, "clock {clock}");
+        record = record.one_slot(2).record;
+    }
+    // Rows 2 and 4 were dropped at their deadlines.
+    assert_eq!(record.closing[..4], [10, 10, 16, 5]);
+}
+
+/// A release of 6 at clock 7, and one of 7, which is accepted (rule 10.18).
+#[test]
+fn number_18_a_release_before_the_clock() {
+    let order = order_of(&[1]);
+    for (release, number) in [(0, 18), (6, 18), (7, 0), (8, 0), (999_999, 0)] {
+        let next = table(1, 1, &[[release, 1, release + 1, 0]]);
+        assert_eq!(commit(drawn(7), &next, &order), number, "release {release}");
+    }
 }

@@ -4,17 +4,15 @@
 
 mod common;
 
-use common::{
-    all_rows, calls_for, fresh, slots_with_loading, supplies, table_and_order, Kinds, RULES, SMALL,
-};
+use common::{all_rows, fresh, slots_with_loading, table_and_order, Kinds, RULES, SMALL};
 use model::calls::{play_on_paper, Answer, LAST_CLOCK};
 use model::cases::{p1, p3, table};
 use model::order::order_of;
 use model::plan::plan;
-use model::random::{table_in, Random};
+use model::random::{calls_for, supplies, table_in, Random};
 use model::record::Record;
 use model::run::{chosen, kept_deadline, run, run_by, running_step, step, State};
-use model::table::{allowance, HI, LO, MOST_LOADING};
+use model::table::{allowance, earliest_release, HI, LO, MOST_LOADING};
 
 #[test]
 fn calls_on_a_record_answer_as_on_paper() {
@@ -309,7 +307,7 @@ fn planned_rows_keep_their_deadlines_in_their_windows() {
         }
         kinds.saw(&table);
         let slots = slots_with_loading(&table, 30);
-        let earliest = table.rows().iter().map(|job| job.release).min().unwrap();
+        let earliest = earliest_release(&table);
         let watched = random.between(1, table.n) as u8;
         let job = table.row(watched);
         let least = if job.level == HI {

@@ -3,11 +3,11 @@
 
 mod common;
 
-use common::{all_rows, fresh, slots_with_loading, supplies, table_and_order, Kinds, TOO_LONG};
+use common::{all_rows, fresh, slots_with_loading, table_and_order, Kinds, TOO_LONG};
 use model::calls::LAST_CLOCK;
 use model::cases::table;
 use model::order::order_of;
-use model::random::Random;
+use model::random::{supplies, Random};
 use model::record::{Record, Unsound};
 use model::run::running_step;
 use model::table::{allowance, LO, MOST_LOADING};

@@ -7,7 +7,7 @@
 mod common;
 
 use common::correct::{correct_by_every_course, correct_by_slacks, TINY};
-use common::{all_rows, fresh, rows_in_word, slots_with_loading, supplies, Kinds, RULES, SMALL};
+use common::{all_rows, fresh, rows_in_word, slots_with_loading, Kinds, RULES, SMALL};
 use model::judge::judge_table;
 use model::order::{
     check_order, check_table_and_order, every_arrangement, keeps_waits, orders, Order, NO_ORDER,
@@ -18,7 +18,7 @@ use model::plan::{
 };
 use model::planners::{each_place, each_trial};
 use model::random::{
-    random_order, spoil_promise, spoil_wait, table_in, tight_under, wait, Random, Ranges,
+    random_order, spoil_promise, spoil_wait, supplies, table_in, tight_under, wait, Random, Ranges,
 };
 use model::run::{is_waiting, step, Rule, State};
 use model::speeds::{least, BOTH};

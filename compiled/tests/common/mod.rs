@@ -4,6 +4,7 @@
 
 pub mod periods;
 pub mod planning;
+pub mod proposals;
 pub mod records;
 pub mod sheets;
 

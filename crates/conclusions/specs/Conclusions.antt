@@ -32,6 +32,10 @@ use Rattle.record.specs.Records.{isSound, startRun, oneSlot, forwardOver}
 use Rattle.words.specs.Words.{tableIn, wordsOf, runIn, stateWords}
 use Rattle.conclusions.specs.declared.Again.{Again}
 use Rattle.conclusions.specs.declared.Begun.{Begun}
+use Rattle.conclusions.specs.declared.Proposed.{Proposed}
+use Rattle.record.specs.declared.Run.{Run}
+use Rattle.proposal.specs.Asked.{ForTheRecord}
+use Rattle.proposal.specs.Commits.{commitOf}
 use Rattle.conclusions.specs.declared.Drawing.{Drawing}
 use Rattle.conclusions.specs.declared.Forwards.{Forwards}
 use Rattle.conclusions.specs.declared.Opinion.{Opinion}
@@ -498,6 +502,37 @@ pub record Drawn (table supplies : List ℕ) (said : Drawing) : Type 0 where
       → listWords table (said .order) (forward supplies ∷ []) (startOf table (said .order) 0) .said ≡ told (said .forward) (said .worked) ∷ []
   pub kept : said .planned ≡ 0 → PenEngineer table (said .order) 0 (forward supplies ∷ [])
   pub left : said .planned ≡ 0 → said .state ≡ listWords table (said .order) (forward supplies ∷ []) (startOf table (said .order) 0) .state
+
+-- ---- A new sheet while plotting: what a firmware writer gets who asks for a proposal and commits it (section 22 of the rules).
+
+-- Asking (rules 22.2, 22.6): with 0 a table that is accepted and an order of it that serves, and whatever the record that they are committed to, the commit's number is
+-- 0, 9, 17 or 18; with any other number zeros, and rows left with 7 alone.
+pub record Proposing (sheet : List ℕ) (said : Proposed) : Type 0 where
+  pub read : said .number ≡ 0 → said .table ≡ wordsOf (readOf sheet .table)
+  pub good : said .number ≡ 0 → Accepted (tableIn (said .table)) × (isOrder (tableIn (said .table)) (said .order) ≡ true) × Serves (tableIn (said .table)) (said .order)
+  pub own : said .number ≡ 0 → (r : Run) → ForTheRecord (checkNumber (commitOf r (tableIn (said .table)) (said .order) .check))
+  pub none : (said .number ≡ 0 → ⊥) → (said .table ≡ replicate 388 0) × (said .order ≡ replicate 64 0)
+  pub left : (said .number ≡ 7 → ⊥) → said .left ≡ 0
+
+-- Committing (rules 22.3 to 22.5, 22.8): what the words of a record were, and what they are afterwards.
+pub record Committing (table order runTable runOrder runState : List ℕ) (said : Begun) : Type 0 where
+  -- on a refusal nothing has changed (rule 22.5)
+  pub refused : (said .number ≡ 0 → ⊥) → (said .table ≡ runTable) × (said .order ≡ runOrder) × (said .state ≡ runState)
+  -- with 0 the record has the table and the order, at the clock that it had, and every row is open and empty (rule 22.4)
+  pub taken : said .number ≡ 0 → (said .table ≡ table) × (said .order ≡ order) × (said .state ≡ startOf table order (getD runState 0 0))
+  pub clock : said .number ≡ 0 → getD (said .state) 0 0 ≡ getD runState 0 0
+  -- then the record was sound, every row of it closed, and no row proposed is released before its clock (rules 10.9, 10.17, 10.18)
+  pub sound : said .number ≡ 0 → isSound (runIn runTable runOrder runState) ≡ true
+  pub closed : said .number ≡ 0 → (i : ℕ) → 1 ≤ i → i ≤ getD runTable 0 0 → 1 ≤ getD runState (128 + i) 0
+  pub later : said .number ≡ 0 → (j : ℕ) → 1 ≤ j → j ≤ getD table 0 0 → getD runState 0 0 ≤ getD table (3 + j) 0
+  -- the table is accepted, and the order is one of it and serves (rule 10.16)
+  pub good : said .number ≡ 0 → Accepted (tableIn table) × (isOrder (tableIn table) order ≡ true) × Serves (tableIn table) order
+  -- and that is all that is asked for
+  pub passes : isSound (runIn runTable runOrder runState) ≡ true → Accepted (tableIn table) → isOrder (tableIn table) order ≡ true → Serves (tableIn table) order
+      → ((i : ℕ) → 1 ≤ i → i ≤ getD runTable 0 0 → 1 ≤ getD runState (128 + i) 0) → ((j : ℕ) → 1 ≤ j → j ≤ getD table 0 0 → getD runState 0 0 ≤ getD table (3 + j) 0)
+      → said .number ≡ 0
+  -- from there on, whatever calls are made: deadlines are kept by the slots from the new sheet's own earliest release on (rule 22.8)
+  pub pens : said .number ≡ 0 → (cs : List Call) → PenEngineer table order (getD runState 0 0) cs
 
 -- ---- The sales desk: the verdict is exact (rule 7.2), and the figures beside it are those of the worst runs (rules 3.5 to 3.7, 3.9, 7.3, 7.5).
 

@@ -24,3 +24,4 @@ pub mod Begins
 pub mod Settled
 pub mod Previews
 pub mod Soundness
+pub mod Renewals

@@ -3,7 +3,7 @@
 ghost use mathlib.Core.Path.{_≡_};
 ghost use lib.ListN.{getD};
 ghost use Rattle.words.specs.Words.{tableIn};
-ghost use Rattle.conclusions.specs.Conclusions.{TableAuthor, SheetBack, SheetAgain, NumberField, Text, Planner, LeastFound, LeastRead, FreshRecord, FirmwareWriter, Forwarding, Drawn, SalesDesk, Listing};
+ghost use Rattle.conclusions.specs.Conclusions.{TableAuthor, SheetBack, SheetAgain, NumberField, Text, Planner, LeastFound, LeastRead, FreshRecord, Proposing, Committing, FirmwareWriter, Forwarding, Drawn, SalesDesk, Listing};
 
 // What reading a sheet and writing its table back said: both numbers, and the length in bytes.
 pub struct Again {
@@ -18,6 +18,14 @@ pub struct Begun {
     pub table: [u32; 388],
     pub order: [u8; 64],
     pub state: [u32; 193],
+}
+
+// What asking answered: its number, the rows left as a word, and the words of the table and the order proposed.
+pub struct Proposed {
+    pub number: u32,
+    pub left: u64,
+    pub table: [u32; 388],
+    pub order: [u8; 64],
 }
 
 // What the coming slot was said to be, what the slot itself said, numbers and rows, and the state's words after it.
@@ -166,6 +174,50 @@ pub fn firmware_fresh(table: [u32; 388], order: [u8; 64]) -> Begun
         table: run_table,
         order: run_order,
         state,
+    }
+}
+
+// A firmware writer asks for the next sheet while another one is plotted.
+pub fn next_sheet(sheet: &[u8]) -> Proposed
+    ensures { λ r. ⌜ Proposing (now (sheet .entry)) r ⌝ }
+{
+    let mut table = [0u32; 388];
+    let mut order = [0u8; 64];
+    let mut left: u64 = 0;
+    let number = jasminebrace::jb_ask(sheet, &mut table, &mut order, &mut left);
+    Proposed {
+        number,
+        left,
+        table,
+        order,
+    }
+}
+
+// A firmware writer commits a table and an order to the words of a record.
+pub fn firmware_commit(
+    table: [u32; 388],
+    order: [u8; 64],
+    run_table: [u32; 388],
+    run_order: [u8; 64],
+    run_state: [u32; 193],
+) -> Begun
+    ensures { λ r. ⌜ Committing table order «run_table» «run_order» «run_state» r ⌝ }
+{
+    let mut held_table = run_table;
+    let mut held_order = run_order;
+    let mut held_state = run_state;
+    let number = jasminebrace::jb_commit(
+        &table,
+        &order,
+        &mut held_table,
+        &mut held_order,
+        &mut held_state,
+    );
+    Begun {
+        number,
+        table: held_table,
+        order: held_order,
+        state: held_state,
     }
 }
 

@@ -3,4 +3,5 @@ pub mod Days
 pub mod Commits
 pub mod Turning
 pub mod Passing
+pub mod Asked
 pub mod CommitCases

@@ -5,7 +5,7 @@ use mathlib.Core.List.{List, [], _∷_}
 use mathlib.Core.Path.{_≡_, refl, sym, subst, _∙_}
 use native.Mathlib.Omega.{arith}
 use lib.Dec.{eqb, ltb, leb}
-use borrow.Author.Tests.{leb-true, eqb-false}
+use borrow.Author.Tests.{leb-true, eqb-false, ne-eqb, le-leb}
 use Rattle.rules.specs.declared.Table.{Table}
 use Rattle.rules.specs.declared.Refusal.{Refusal}
 use Rattle.rules.specs.declared.Refusal.the-variants.{NotAnOrder, NotLower, ReleasedLater, FollowsLow, NotCorrect, RowOpen, ReleasedBefore}
@@ -23,7 +23,7 @@ use Rattle.rules.specs.Tables.{countOk, speedsOk, loadingOk, rowOk, promiseOk, 
 use Rattle.theory.specs.Counts.{In, in-head, in-tail}
 use Rattle.theory.specs.Facts.{row-is, in-rows, rows-in, is-row, TableFacts}
 use Rattle.theory.specs.Tests.{by-bool, not-both, not-is}
-use Rattle.columns.specs.AllRows.{all-each}
+use Rattle.columns.specs.AllRows.{all-each, all-of}
 use Rattle.record.specs.Checked.{limits}
 use Rattle.judge.specs.Promise.{exactly}
 
@@ -97,6 +97,21 @@ module _ (t : Table) (s : State) (p : Table) (o : List ℕ) where
         closed = closed-row (all-closed turn);
         early = clock-early (limits p o both) (from-clock turn);
       }
+
+-- and the other way round: such a proposal passes
+module _ (t : Table) (s : State) (p : Table) (o : List ℕ) where
+  is-closed : ((i : ℕ) → 1 ≤ i → i ≤ t .n → 1 ≤ at (s .closing) i) → allClosed t s ≡ true
+  unfolding allClosed
+  is-closed h = all-of (λ i. not (eqb (at (s .closing) i) 0)) (t .n) (λ i l m. let q = h i l m in rw (ne-eqb (at (s .closing) i) 0 (λ z. omega arith)))
+
+  is-released : ((j : ℕ) → 1 ≤ j → j ≤ p .n → s .clock ≤ releaseOf p j) → releasedFrom p (s .clock) ≡ true
+  unfolding releasedFrom
+  is-released h = all-of (λ j. leb (s .clock) (releaseOf p j)) (p .n) (λ j l m. le-leb (s .clock) (releaseOf p j) (h j l m))
+
+  pub turns : checkBoth p o ≡ Passed → Correct p o → ((i : ℕ) → 1 ≤ i → i ≤ t .n → 1 ≤ at (s .closing) i)
+      → ((j : ℕ) → 1 ≤ j → j ≤ p .n → s .clock ≤ releaseOf p j) → checkProposal t s p o ≡ Passed
+  unfolding checkProposal checkTurn
+  turns both correct closed later = rw (both, exactly p o both .1 correct, is-closed closed, is-released later)
 
 -- the number of a check's answer is not 9
 abbrev NotNine : Check → Type 0

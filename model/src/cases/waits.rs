@@ -28,7 +28,7 @@ pub fn preempted() -> Table {
 
 /// Row 2 has time for itself alone, and follows this row. Row 1 could wait, and row 3, if
 /// there are three, has time for all.
-fn urgent(rows: usize, follows: u32) -> Table {
+pub fn urgent(rows: usize, follows: u32) -> Table {
     let all = [
         [0, 1, 9, 0, 0, 0],
         [0, 1, 1, 0, 0, follows],

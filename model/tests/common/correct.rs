@@ -6,7 +6,7 @@ use super::{all_rows, rows_at_level};
 use model::order::Order;
 use model::plan::{slack, worst_speed};
 use model::random::{Random, Ranges};
-use model::run::{has_promised, kept_deadline, run_by, Rule, State};
+use model::run::{has_promised, kept_deadline, run_by, window, Rule, State};
 use model::table::{Table, HI};
 use std::collections::HashSet;
 use std::ops::RangeInclusive;
@@ -66,8 +66,22 @@ fn every_state(
     supplies: &dyn Fn(u32) -> RangeInclusive<u32>,
     is_so: &dyn Fn(&State) -> bool,
 ) -> bool {
-    let mut states = HashSet::from([State::FRESH]);
-    for slot in 0..slots {
+    every_state_from(0, rule, table, order, slots, supplies, is_so)
+}
+
+/// The same of a run that starts at this clock with zeros for all rows (rule 22.8), up to the
+/// clock that shows `end` slots.
+pub fn every_state_from(
+    clock: u32,
+    rule: Rule,
+    table: &Table,
+    order: &Order,
+    end: u32,
+    supplies: &dyn Fn(u32) -> RangeInclusive<u32>,
+    is_so: &dyn Fn(&State) -> bool,
+) -> bool {
+    let mut states = HashSet::from([State::at(clock)]);
+    for slot in clock..end {
         let stepped = |state: &State, supply| {
             let mut after = *state;
             rule(table, order, &mut after, supply);
@@ -83,7 +97,7 @@ fn every_state(
 }
 
 /// The largest work, in work units: a supply above it brings no more than it does.
-fn largest_work(table: &Table) -> u32 {
+pub fn largest_work(table: &Table) -> u32 {
     table.work.iter().copied().max().unwrap()
 }
 
@@ -145,14 +159,29 @@ fn in_its_window(
     least: u32,
     is_so: impl Fn(&State) -> bool,
 ) -> bool {
-    let (deadline, largest) = (table.row(row).deadline, largest_work(table));
-    let earliest = table.rows().iter().map(|job| job.release).min().unwrap();
-    let supplies = |slot| match slot {
-        slot if slot < earliest || slot >= deadline => 0..=largest,
-        _ => least..=largest.max(least),
-    };
+    let deadline = table.row(row).deadline;
     let from_deadline = |state: &State| state.clock < deadline || is_so(state);
-    every_state(rule, table, order, deadline + 2, &supplies, &from_deadline)
+    in_its_window_from(0, rule, table, order, row, least, &from_deadline)
+}
+
+/// Is this so of every state of a run that starts at this clock with zeros for all rows, up to
+/// two slots after the row's deadline, under every such course?
+pub fn in_its_window_from(
+    clock: u32,
+    rule: Rule,
+    table: &Table,
+    order: &Order,
+    row: u8,
+    least: u32,
+    is_so: &dyn Fn(&State) -> bool,
+) -> bool {
+    let (deadline, largest) = (table.row(row).deadline, largest_work(table));
+    let in_window = window(table, row, deadline);
+    let supplies = |slot| match slot {
+        slot if in_window.contains(&slot) => least..=largest.max(least),
+        _ => 0..=largest,
+    };
+    every_state_from(clock, rule, table, order, deadline + 2, &supplies, is_so)
 }
 
 /// A course with every supply at least `least`: often exactly that, sometimes a

@@ -3,7 +3,6 @@
 
 pub mod correct;
 
-use model::calls::Call;
 use model::cases::p3;
 use model::judge::Verdict;
 use model::order::{order_of, orders, Order};
@@ -103,36 +102,6 @@ pub fn table_and_order(random: &mut Random) -> (Table, Order) {
     let table = table_in(random, SMALL);
     let order = random.one_of(&orders(&table));
     (table, order)
-}
-
-/// Supplies of every kind, in work units per slot: none, about the two speeds,
-/// the largest there is.
-pub fn supplies(random: &mut Random, slots: u32) -> Vec<u32> {
-    (0..slots)
-        .map(|_| match random.between(0, 9) {
-            0..=1 => 0,
-            2 => u32::MAX,
-            3 => random.word() as u32,
-            _ => random.between(0, 5),
-        })
-        .collect()
-}
-
-/// These supplies cut into calls, some of them forward over an empty list.
-pub fn calls_for(random: &mut Random, supplies: &[u32]) -> Vec<Call> {
-    let mut calls = Vec::new();
-    let mut rest = supplies;
-    while !rest.is_empty() {
-        if random.once_in(2) {
-            calls.push(Call::OneSlot(rest[0]));
-            rest = &rest[1..];
-        } else {
-            let count = random.between(0, rest.len().min(7) as u32) as usize;
-            calls.push(Call::Forward(rest[..count].to_vec()));
-            rest = &rest[count..];
-        }
-    }
-    calls
 }
 
 /// The record of P3 under the order 1, 2 at this clock, in slots: row 1 was dropped

@@ -3,9 +3,10 @@
 //! the true one differ. `sweeps` has faults of planners whose trials share sweeps,
 //! `speeds` faults in the search for the least workable speed, `late` those of runs
 //! that drop late previews and of check 9, `promises` those in promised parts and of
-//! check 12, `waits` those in rows that follow rows and of checks 6 and 13 to 15. Run with
-//! `--nocapture` to read the tables.
+//! check 12, `waits` those in rows that follow rows and of checks 6 and 13 to 15, `commits`
+//! those of commits. Run with `--nocapture` to read the tables.
 
+mod commits;
 mod late;
 mod planners;
 mod promises;

@@ -3,14 +3,17 @@
 //!     cargo run --offline --release --bin bench
 //!     cargo run --offline --release --bin bench -- plans
 //!     cargo run --offline --release --bin bench -- slots
+//!     cargo run --offline --release --bin bench -- commits
 //!     cargo run --offline --release --bin bench -- searches
 //!
 //! The headline is the ratio: the library's time divided by plain Rust's, both
 //! from this run, this machine and the same inputs. No time is asserted. With the
-//! word `plans` planning alone is timed, with the word `slots` one slot and forward.
+//! word `plans` planning alone is timed, with the word `slots` one slot and forward, with
+//! the word `commits` asking and committing.
 //! With the word `searches` nothing is timed: each search for a least speed is made
 //! once, for tools/plannings.sh, which counts its plannings.
 
+mod commits;
 mod pairs;
 mod plans;
 mod searches;
@@ -35,6 +38,7 @@ fn main() {
         Some("searches") => searches::make_each_once(),
         Some("plans") => measure_plans(),
         Some("slots") => measure_slots(),
+        Some("commits") => measure_commits(),
         _ => measure_all(),
     }
 }
@@ -52,14 +56,22 @@ fn measure_slots() {
     slots::measure();
 }
 
+/// Asking and committing alone.
+fn measure_commits() {
+    print_conditions();
+    pairs::print_head();
+    commits::measure();
+}
+
 fn print_conditions() {
     println!("Ratio: time of the library divided by time of plain Rust, same run and inputs.");
     println!("Buffers for results are not cleared before a call, on either side; both sides");
     println!("write them whole, but of a sheet's or a report's buffer just the text. Run");
     println!("records stay in place from slot to slot; a forward call starts from a copy of a");
-    println!("fresh record, and one slot about a deadline from a copy of its record, which is");
-    println!("in the time of both. K is 0 slots, and no row promises a part or follows another,");
-    println!("where it is not named.");
+    println!("fresh record, and one slot about a deadline and a commit from a copy of their");
+    println!("record, which is in the time of both. Plain Rust asks with the model's reader.");
+    println!("K is 0 slots, and no row promises a part or follows another, where it is not");
+    println!("named.");
     println!("Times are the best of several batches that take turns.\n");
 }
 
@@ -70,6 +82,7 @@ fn measure_all() {
     for_each_count(|n| measure_write(&hard(n)));
     for_each_count(|n| measure_report(&hard(n)));
     slots::measure();
+    commits::measure();
     println!("Searches for the least workable speed, which is the last figure of their names,");
     println!("from 1 to 1,000 work units per slot; at the end one planning at that speed, and");
     println!("the ratio of the search to it.\n");
