@@ -1,11 +1,12 @@
 #!/usr/bin/env python3
-"""Tells which must-fail edits were refused because they do not fit, and not because a fact fails.
+"""Tells which must-fail edits were refused by a message that no wrong value gives: because they do not fit.
 
     refusals.py [FOLDER]    reads what the last `rt ci` or `rt must-fail` left in FOLDER, else in target/must-fail
     refusals.py --self-test checks that such a refusal is told from the others
 
 An edit shows something only if the prover refuses it for a fact: two types that differ, a goal that does not follow, a case that
-comes out otherwise. An edit whose text no longer belongs to the file, as one that makes a table without a field that tables have,
+comes out otherwise. (Two types that differ may also be a proof that no longer fits a statement which is still true; this goes by the
+kind of message alone, and only reading tells the two apart.) An edit whose text no longer belongs to the file, as one that makes a table without a field that tables have,
 is refused as well and shows nothing. Of each edit the first error counts that is more than a consequence of another one. It
 is a misfit unless it is of a kind in FACTS.
 
@@ -47,7 +48,7 @@ def tell(folder):
     found, edits = misfits(folder)
     for line in found:
         print(f"refusals: {line}")
-    print(f"refusals: {edits} edits, {len(found)} refused for another reason than a fact")
+    print(f"refusals: {edits} edits, {len(found)} refused by a message that no wrong value gives")
     return 1 if found or edits == 0 else 0
 
 
