@@ -12,12 +12,12 @@ use lib.ListN.{length, getD, set, take, drop, replicate}
 use lib.Signed.{ltZ}
 use Rattle.rules.specs.declared.Table.{Table}
 use Rattle.rules.specs.Calls.{Call, one, forward, Said, tellAll, supplyFrom}
-use Rattle.rules.specs.Choice.{choice, padded, word}
+use Rattle.rules.specs.Choice.{choice, padded, word, planOf}
 use Rattle.rules.specs.Fields.{valueOf, isField}
 use Rattle.rules.specs.Lists.{count, rowsTo, sum}
 use Rattle.rules.specs.Meaning.{Serves}
 use Rattle.rules.specs.Need.{need}
-use Rattle.rules.specs.Numbers.{checkNumber}
+use Rattle.rules.specs.Numbers.{checkNumber, plannedNumber, rowsLeft}
 use Rattle.rules.specs.Orders.{isOrder, checkBoth}
 use Rattle.rules.specs.Program.{programText}
 use Rattle.rules.specs.Reports.{figure}
@@ -468,15 +468,15 @@ pub record PenEngineer (table order : List ℕ) (k : ℕ) (cs : List Call) : Typ
       → SuppliedIn table k cs i (getD table 1 0) → KeptWords table (listWords table order cs (startOf table order k) .state) i
   pub part : (i : ℕ) → 1 ≤ i → i ≤ getD table 0 0 → getD table (195 + i) 0 ≡ 0 → getD table (131 + i) 0 ≤ getD (listWords table order cs (startOf table order k) .state) 0 0
       → SuppliedIn table k cs i (getD table 2 0) → getD table (259 + i) 0 ≤ getD (listWords table order cs (startOf table order k) .state) i 0
-  -- a row that is closed has kept its deadline, and a LO row has got its promised part, if its slots up to the clock supplied as much (rule 9.20)
+  -- a row that is closed has kept its deadline, and a LO row has got its promised part, if its slots before its closing slot supplied as much (rule 9.20)
   pub closed-high : (i : ℕ) → 1 ≤ i → i ≤ getD table 0 0 → (getD table (195 + i) 0 ≡ 0 → ⊥) → 1 ≤ getD (listWords table order cs (startOf table order k) .state) (128 + i) 0
-      → SuppliedTill table k cs (getD (listWords table order cs (startOf table order k) .state) 0 0) i (getD table 2 0)
+      → SuppliedTill table k cs (getD (listWords table order cs (startOf table order k) .state) (128 + i) 0) i (getD table 2 0)
       → KeptWords table (listWords table order cs (startOf table order k) .state) i
   pub closed-low : (i : ℕ) → 1 ≤ i → i ≤ getD table 0 0 → getD table (195 + i) 0 ≡ 0 → 1 ≤ getD (listWords table order cs (startOf table order k) .state) (128 + i) 0
-      → SuppliedTill table k cs (getD (listWords table order cs (startOf table order k) .state) 0 0) i (getD table 1 0)
+      → SuppliedTill table k cs (getD (listWords table order cs (startOf table order k) .state) (128 + i) 0) i (getD table 1 0)
       → KeptWords table (listWords table order cs (startOf table order k) .state) i
   pub closed-part : (i : ℕ) → 1 ≤ i → i ≤ getD table 0 0 → getD table (195 + i) 0 ≡ 0 → 1 ≤ getD (listWords table order cs (startOf table order k) .state) (128 + i) 0
-      → SuppliedTill table k cs (getD (listWords table order cs (startOf table order k) .state) 0 0) i (getD table 2 0)
+      → SuppliedTill table k cs (getD (listWords table order cs (startOf table order k) .state) (128 + i) 0) i (getD table 2 0)
       → getD table (259 + i) 0 ≤ getD (listWords table order cs (startOf table order k) .state) i 0
   pub preview : (i : ℕ) → 1 ≤ i → i ≤ getD table 0 0 → getD table (195 + i) 0 ≡ 0
       → (getD (listWords table order cs (startOf table order k) .state) (128 + i) 0 ≡ 0 → getD (listWords table order cs (startOf table order k) .state) 0 0 < getD table (131 + i) 0)
@@ -505,9 +505,14 @@ pub record Drawn (table supplies : List ℕ) (said : Drawing) : Type 0 where
 
 -- ---- A new sheet while plotting: what a firmware writer gets who asks for a proposal and commits it (section 22 of the rules).
 
--- Asking (rules 22.2, 22.6): with 0 a table that is accepted and an order of it that serves, and whatever the record that they are committed to, the commit's number is
--- 0, 9, 17 or 18; with any other number zeros, and rows left with 7 alone.
+-- Asking (rules 22.2, 22.6): the reader's number if that is not 0, else the planner's, with its order and rows left. With 0 the table that was read is accepted, and the order
+-- is one of it and serves; and whatever the record that they are committed to, the commit's number is 0, 9, 17 or 18. With any other number table and order are zeros, and
+-- rows are left with 7 alone.
 pub record Proposing (sheet : List ℕ) (said : Proposed) : Type 0 where
+  pub reader : (checkNumber (readOf sheet .check) ≡ 0 → ⊥) → said .number ≡ checkNumber (readOf sheet .check)
+  pub planner : checkNumber (readOf sheet .check) ≡ 0 → said .number ≡ plannedNumber (planOf (readOf sheet .table) .answer)
+  pub rows : checkNumber (readOf sheet .check) ≡ 0 → said .left ≡ rowsLeft (planOf (readOf sheet .table) .answer)
+  pub made : said .number ≡ 0 → said .order ≡ planOf (readOf sheet .table) .order
   pub read : said .number ≡ 0 → said .table ≡ wordsOf (readOf sheet .table)
   pub good : said .number ≡ 0 → Accepted (tableIn (said .table)) × (isOrder (tableIn (said .table)) (said .order) ≡ true) × Serves (tableIn (said .table)) (said .order)
   pub own : said .number ≡ 0 → (r : Run) → ForTheRecord (checkNumber (commitOf r (tableIn (said .table)) (said .order) .check))
@@ -527,6 +532,17 @@ pub record Committing (table order runTable runOrder runState : List ℕ) (said 
   pub later : said .number ≡ 0 → (j : ℕ) → 1 ≤ j → j ≤ getD table 0 0 → getD runState 0 0 ≤ getD table (3 + j) 0
   -- the table is accepted, and the order is one of it and serves (rule 10.16)
   pub good : said .number ≡ 0 → Accepted (tableIn table) × (isOrder (tableIn table) order ≡ true) × Serves (tableIn table) order
+  -- else the first of these that fails gives the number (rule 11.10): 9 for the record, the proposal's own, 16, 17 and 18
+  pub nine : (isSound (runIn runTable runOrder runState) ≡ true → ⊥) → said .number ≡ 9
+  pub own : isSound (runIn runTable runOrder runState) ≡ true → (checkNumber (checkBoth (tableIn table) order) ≡ 0 → ⊥)
+      → said .number ≡ checkNumber (checkBoth (tableIn table) order)
+  pub sixteen : isSound (runIn runTable runOrder runState) ≡ true → Accepted (tableIn table) → isOrder (tableIn table) order ≡ true
+      → (Serves (tableIn table) order → ⊥) → said .number ≡ 16
+  pub seventeen : isSound (runIn runTable runOrder runState) ≡ true → Accepted (tableIn table) → isOrder (tableIn table) order ≡ true → Serves (tableIn table) order
+      → (i : ℕ) → 1 ≤ i → i ≤ getD runTable 0 0 → getD runState (128 + i) 0 ≡ 0 → said .number ≡ 17
+  pub eighteen : isSound (runIn runTable runOrder runState) ≡ true → Accepted (tableIn table) → isOrder (tableIn table) order ≡ true → Serves (tableIn table) order
+      → ((i : ℕ) → 1 ≤ i → i ≤ getD runTable 0 0 → 1 ≤ getD runState (128 + i) 0) → (j : ℕ) → 1 ≤ j → j ≤ getD table 0 0 → getD table (3 + j) 0 < getD runState 0 0
+      → said .number ≡ 18
   -- and that is all that is asked for
   pub passes : isSound (runIn runTable runOrder runState) ≡ true → Accepted (tableIn table) → isOrder (tableIn table) order ≡ true → Serves (tableIn table) order
       → ((i : ℕ) → 1 ≤ i → i ≤ getD runTable 0 0 → 1 ≤ getD runState (128 + i) 0) → ((j : ℕ) → 1 ≤ j → j ≤ getD table 0 0 → getD runState 0 0 ≤ getD table (3 + j) 0)

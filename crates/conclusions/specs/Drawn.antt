@@ -129,10 +129,10 @@ module _ (table order : List ℕ) (tables : length table ≡ 388) where
     unfolding tableIn
     supplied i s l h w u j lj hj a d = w u j lj hj (rw (table-words table j lj (few j hj) .release) a) (rw (table-words table i l (few i h) .deadline) d)
 
-    till : (i s : ℕ) → 1 ≤ i → i ≤ t .n → SuppliedTill table k cs (getD (listWords table order cs start .state) 0 0) i s → SuppliedTo t (supplyFrom k cs) (end .clock) i s
+    till : (i s : ℕ) → 1 ≤ i → i ≤ t .n → SuppliedTill table k cs (getD (listWords table order cs start .state) (128 + i) 0) i s → SuppliedTo t (supplyFrom k cs) (at (end .closing) i) i s
     unfolding tableIn
     till i s l h w u j lj hj a d b =
-        w u j lj hj (rw (table-words table j lj (few j hj) .release) a) (rw (table-words table i l (few i h) .deadline) d) (rw (listed, clock-word end) b)
+        w u j lj hj (rw (table-words table j lj (few j hj) .release) a) (rw (table-words table i l (few i h) .deadline) d) (rw (listed, end-words i l (few i h) .closing) b)
 
     shut : (i : ℕ) → 1 ≤ i → i ≤ t .n → 1 ≤ getD (listWords table order cs start .state) (128 + i) 0 → 1 ≤ at (end .closing) i
     shut i l h c = omega (arith, rw listed at c, end-words i l (few i h) .closing)

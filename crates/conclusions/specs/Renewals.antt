@@ -1,5 +1,5 @@
 -- The conclusions about asking and committing, from their definitions and from demand 3.
-use Prim.Native.Nat.{ℕ, _+_, _-_, _≤_}
+use Prim.Native.Nat.{ℕ, _+_, _-_, _≤_, _<_}
 use mathlib.Core.Bool.{true}
 use mathlib.Core.List.{List}
 use mathlib.Core.Path.{_≡_, refl, sym, ap, subst, _∙_}
@@ -7,6 +7,7 @@ use native.Mathlib.Omega.{arith}
 use lib.ListN.{length, getD, replicate}
 use Rattle.rules.specs.declared.Table.{Table}
 use Rattle.rules.specs.declared.Refusal.{Refusal}
+use Rattle.rules.specs.declared.Refusal.the-variants.{Unsound, NotCorrect, RowOpen, ReleasedBefore}
 use Rattle.rules.specs.declared.Check.{Check}
 use Rattle.rules.specs.declared.Check.the-variants.{Passed, Refused}
 use Rattle.record.specs.declared.Run.{Run}
@@ -14,7 +15,7 @@ use Rattle.proposal.specs.declared.Asking.{Asking}
 use Rattle.proposal.specs.declared.Committed.{Committed}
 use Rattle.rules.specs.Calls.{Call}
 use Rattle.rules.specs.Meaning.{Serves, correct-serves, serves-correct}
-use Rattle.rules.specs.Numbers.{checkNumber, plannedNumber, rowsLeft}
+use Rattle.rules.specs.Numbers.{refusalNumber, checkNumber, plannedNumber, rowsLeft}
 use Rattle.rules.specs.Orders.{isOrder, checkBoth}
 use Rattle.rules.specs.Rows.{at, isRow}
 use Rattle.rules.specs.Sheets.{readOf}
@@ -30,7 +31,8 @@ use Rattle.proposal.specs.Asked as Asked
 use Rattle.proposal.specs.Asked.{asked-good, good-commits}
 use Rattle.proposal.specs.Commits.{checkCommit, commitOf}
 use Rattle.proposal.specs.Proposals.{askOf, checkProposal}
-use Rattle.proposal.specs.Passing.{by-check, Turned, turned, turns, refused-not}
+use Rattle.proposal.specs.Passing.{by-check, Turned, turns, refused-not, own-refusal, not-correct, row-open, released-before}
+use Rattle.proposal.specs.Renewing.{check-renews}
 use Rattle.words.specs.Words.{tableIn, wordsOf, runIn, stateWords}
 use Rattle.words.specs.Inverse.{words-of-table-in, table-in-words-of, state-words-of-run-in}
 use Rattle.conclusions.specs.declared.Begun.{Begun}
@@ -57,6 +59,10 @@ module _ (sheet : List ℕ) where
   pub proposing : Proposing sheet (saidAsking (askOf sheet))
   proposing =
       record {
+        reader = Asked.answered sheet .reader;
+        planner = λ z. ap plannedNumber (Asked.answered sheet .planner z);
+        rows = λ z. ap rowsLeft (Asked.answered sheet .planner z);
+        made = Asked.answered sheet .made;
         read = λ z. ap wordsOf (Asked.answered sheet .read z);
         good = λ z. let g = asked-good sheet z in rw (proposed-words z) (g .accepted, g .passes, correct-serves (askOf sheet .table) (askOf sheet .order) (g .correct));
         own = λ z r. rw (proposed-words z) (good-commits (askOf sheet .table) (askOf sheet .order) (asked-good sheet z) r);
@@ -127,6 +133,11 @@ module _ (table order runTable runOrder runState : List ℕ) (tables : length ta
           closed = λ _. closed-word;
           later = λ _. later-word;
           good = λ _. (accepted, passes, serves);
+          nine = λ n. absurd (n sound);
+          own = λ _ n. absurd (n (ap checkNumber (w .checked)));
+          sixteen = λ _ _ _ n. absurd (n serves);
+          seventeen = λ _ _ _ _ i l h z. absurd (omega (arith, z, closed-word i l h));
+          eighteen = λ _ _ _ _ _ j l h z. absurd (omega (arith, z, later-word j l h));
           passes = λ _ _ _ _ _ _. refl;
           pens = λ _. pen-words;
         })
@@ -148,8 +159,35 @@ module _ (table order runTable runOrder runState : List ℕ) (tables : length ta
       let f : j ≤ 64 = omega (arith, m, facts t a .few) in
       omega (arith, h j l m, table-words table j l f .release)
 
+  -- which number it is
+  number-of : (w v : Refusal) → checkCommit r t order ≡ Refused w → isSound r ≡ true → checkProposal (r .table) (stateOf r) t order ≡ Refused v → checkNumber (Refused w) ≡ checkNumber (Refused v)
+  unfolding checkCommit
+  number-of w v e sound p = ap checkNumber (sym e ∙ rw (sound, p))
+
+  own-number : (w : Refusal) → checkCommit r t order ≡ Refused w → isSound r ≡ true → (checkNumber (checkBoth t order) ≡ 0 → ⊥) → checkNumber (Refused w) ≡ checkNumber (checkBoth t order)
+  unfolding checkNumber
+  own-number w e sound n =
+      by-check (checkBoth t order)
+      (λ b. absurd (n (rw b)))
+      (λ v b. number-of w v e sound (own-refusal (r .table) (stateOf r) t order v b) ∙ ap checkNumber (sym b))
+
+  unsound-number : (w : Refusal) → checkCommit r t order ≡ Refused w → (isSound r ≡ true → ⊥) → checkNumber (Refused w) ≡ 9
+  unfolding checkCommit checkNumber refusalNumber
+  unsound-number w e n =
+      by-bool (isSound r) (λ s. absurd (n s)) (λ s. let q : Refused w ≡ Refused Unsound = sym e ∙ rw s in ap checkNumber q)
+
+  later-clock : (j : ℕ) → 1 ≤ j → j ≤ 64 → getD table (3 + j) 0 < getD runState 0 0 → at (t .release) j < r .clock
+  unfolding runIn
+  later-clock j l h q = omega (arith, q, table-words table j l h .release)
+
+  open-row : isSound r ≡ true → (i : ℕ) → 1 ≤ i → i ≤ getD runTable 0 0 → getD runState (128 + i) 0 ≡ 0 → (isRow (r .table) i ≡ true) × (at (r .closing) i ≡ 0)
+  unfolding runIn tableIn
+  open-row sound i l h z =
+      (is-row (r .table) i (record { from = l; upTo = h }),
+      omega (arith, z, state-words runTable runOrder runState i l (omega (arith, h, speeds r sound .few)) .closing))
+
   refused-commit : (w : Refusal) → checkCommit r t order ≡ Refused w → commitOf r t order ≡ record { check = Refused w; run = r } → After
-  unfolding checkNumber runIn
+  unfolding checkNumber refusalNumber runIn tableIn
   refused-commit w c e =
       let n = refusal-number w .0 in
       rw e
@@ -161,22 +199,22 @@ module _ (table order runTable runOrder runState : List ℕ) (tables : length ta
         closed = λ z. absurd (n z);
         later = λ z. absurd (n z);
         good = λ z. absurd (n z);
+        nine = unsound-number w c;
+        own = own-number w c;
+        sixteen = λ sound a o n'. number-of w NotCorrect c sound (not-correct (r .table) (stateOf r) t order (both-pass t order a o) (λ k. n' (correct-serves t order k)));
+        seventeen = λ sound a o s i l h z. let q = open-row sound i l h z in
+            number-of w RowOpen c sound (row-open (r .table) (stateOf r) t order (both-pass t order a o) (serves-correct t order s) i (q .0) (q .1));
+        eighteen = λ sound a o s closed j l h z.
+            number-of w ReleasedBefore c sound (released-before (r .table) (stateOf r) t order (both-pass t order a o) (serves-correct t order s)
+            (closed-of sound closed) j (is-row t j (record { from = l; upTo = h })) (later-clock j l (omega (arith, h, facts t a .few)) z));
         passes = λ sound a o s closed later. absurd (not-passed w c sound
             (turns (r .table) (stateOf r) t order (both-pass t order a o) (serves-correct t order s) (closed-of sound closed) (later-of a later)));
         pens = λ z. absurd (n z);
       })
 
-  passed-sound : checkCommit r t order ≡ Passed → isSound r ≡ true
-  unfolding checkCommit
-  passed-sound e = by-bool (isSound r) (λ c. c) (λ c. refused-not _ (rw c at e))
-
-  passed-turn : checkCommit r t order ≡ Passed → checkProposal (r .table) (stateOf r) t order ≡ Passed
-  unfolding checkCommit
-  passed-turn e = rw (passed-sound e) at e
-
   pub committing : After
   unfolding commitOf
   committing =
       by-check (checkCommit r t order)
-      (λ e. committed (passed-sound e) (turned (r .table) (stateOf r) t order (passed-turn e)) (rw e))
+      (λ e. let q = check-renews r t order e in committed (q .sound) (q .turn) (rw e))
       (λ w e. refused-commit w e (rw e))

@@ -9,7 +9,7 @@ use mathlib.Core.List.{List, []}
 use lib.Dec.{eqb}
 use lib.ListN.{replicate}
 use Rattle.record.specs.declared.Run.{Run}
-use Rattle.record.specs.Records.{stateOf, startRun, freshOf}
+use Rattle.record.specs.Records.{stateOf, startRun, isSound, freshOf}
 use Rattle.rules.specs.declared.Table.{Table}
 use Rattle.rules.specs.declared.Check.the-variants.{Passed}
 use Rattle.rules.specs.Calls.{supplyFrom}
@@ -32,7 +32,7 @@ use Rattle.guarantee.specs.Playing.{AllMade, makeDay}
 -- (rule 22.7). Under a correct order each row whose deadline the clock has reached kept it, if each slot of its window supplied at least N (LO) or
 -- G (HI), whatever came before and later (rules 9.12, 19.5), and each LO row whose deadline the clock has reached has got its promised part, if each slot of
 -- its window supplied at least G (rule 9.18): correct is meant by the planning rule, and the run is by the running rule. Of a row that is closed the slots of
--- its window up to the clock are enough for either (rule 9.20). Under every order, correct or not, each slot that went to a follower, and the coming one if it
+-- its window before its closing slot are enough for either (rule 9.20). Under every order, correct or not, each slot that went to a follower, and the coming one if it
 -- goes to one, is not before the closing slot of the row that it follows; so of a follower that has used a slot that row is closed, and if the follower is HI,
 -- done (rule 9.19).
 pub record HandRight (t : Table) (o : List ℕ) (s : State) (σ : ℕ → ℕ) (r : Run) : Type 0 where
@@ -46,8 +46,8 @@ pub record HandRight (t : Table) (o : List ℕ) (s : State) (σ : ℕ → ℕ) (
   pub kept : Correct t o → (i : ℕ) → isRow t i ≡ true → deadlineOf t i ≤ r .clock → Window t σ i (worstSpeed t i) → KeptIn t (stateOf r) i
   pub promised : Correct t o → (i : ℕ) → isRow t i ≡ true → isLow t i ≡ true → deadlineOf t i ≤ r .clock → Window t σ i (t .degraded)
       → promisedOf t i ≤ at (r .got) i
-  pub settled : Correct t o → (i : ℕ) → isRow t i ≡ true → 1 ≤ at (r .closing) i → WindowTo t σ (r .clock) i (worstSpeed t i) → KeptIn t (stateOf r) i
-  pub settled-part : Correct t o → (i : ℕ) → isRow t i ≡ true → isLow t i ≡ true → 1 ≤ at (r .closing) i → WindowTo t σ (r .clock) i (t .degraded)
+  pub settled : Correct t o → (i : ℕ) → isRow t i ≡ true → 1 ≤ at (r .closing) i → WindowTo t σ (at (r .closing) i) i (worstSpeed t i) → KeptIn t (stateOf r) i
+  pub settled-part : Correct t o → (i : ℕ) → isRow t i ≡ true → isLow t i ≡ true → 1 ≤ at (r .closing) i → WindowTo t σ (at (r .closing) i) i (t .degraded)
       → promisedOf t i ≤ at (r .got) i
   pub held : (i u : ℕ) → isRow t i ≡ true → 1 ≤ followsOf t i → u ≤ r .clock → chosen t o (runAfter t o σ u) ≡ i
       → (1 ≤ at (r .closing) (followsOf t i)) × (at (r .closing) (followsOf t i) ≤ u)
@@ -72,6 +72,17 @@ pub record RunRight (t : Table) (o : List ℕ) (k : ℕ) (acts : List Act) (made
   pub hand : HandRight (paper t o k acts .hand .table) (paper t o k acts .hand .order) (paper t o k acts .hand .state)
       (supplyFrom k (runCalls acts)) (made .run)
 
+-- What a commit of table t and order o to record r that is answered 0 says and leaves (rules 10.9, 10.16 to 10.18, 22.4). The record was sound and every row of its
+-- sheet closed; the order is one of the table and correct, and the clock is not after the earliest release. The record left has both, at that clock, with every
+-- row open and empty: a start as `RunRight` asks for.
+pub record CommitRight (r : Run) (t : Table) (o : List ℕ) : Type 0 where
+  pub sound : isSound r ≡ true
+  pub closed : (i : ℕ) → isRow (r .table) i ≡ true → 1 ≤ at (r .closing) i
+  pub passes : isOrder t o ≡ true
+  pub correct : Correct t o
+  pub early : r .clock ≤ earliest t
+  pub left : commitOf r t o .run ≡ startRun t o (r .clock)
+
 -- The claim of one table and one list of acts (rules 9.9 to 9.12, 9.18 to 9.20, 22.8, 22.9).
 pub record Claim (t : Table) (acts : List Act) : Type 0 where
   -- the plan is the one made from the choice: 0 with the order it made, or 7 with the rows it left (rules 4.6, 9.9)
@@ -86,10 +97,8 @@ pub record Claim (t : Table) (acts : List Act) : Type 0 where
   pub found : choice t .left ≡ [] → (isOrder t (planOf t .order) ≡ true) × Correct t (planOf t .order)
   -- a fresh record is had for every order of the table, and so for the one planned: it is at clock 0 (rule 8.2)
   pub started : (o : List ℕ) → isOrder t o ≡ true → freshOf t o ≡ record { check = Passed; run = startRun t o 0 }
-  -- a commit of the table that is not refused, to any record, leaves one that is at the clock it had, which is not after the earliest release, with a correct
-  -- order of the table (rules 22.4, 22.7)
-  pub committed : (r : Run) (o : List ℕ) → commitOf r t o .check ≡ Passed
-      → (commitOf r t o .run ≡ startRun t o (r .clock)) × (r .clock ≤ earliest t) × (isOrder t o ≡ true) × Correct t o
+  -- a commit of the table that is answered 0, to any record, is right (rules 22.4, 22.7)
+  pub committed : (r : Run) (o : List ℕ) → commitOf r t o .check ≡ Passed → CommitRight r t o
   -- and the calls made from such a record on, each on the record that the last one left, are right (rules 9.5, 9.10 to 9.12, 9.18 to 9.20, 22.8, 22.9)
   pub right : (o : List ℕ) → isOrder t o ≡ true → (k : ℕ) → k ≤ earliest t → RunRight t o k acts (makeDay acts (startRun t o k))
 

@@ -11,7 +11,7 @@ use lib.ListN.{length, getD, replicate}
 use lib.Pow.{pow-pos}
 use borrow.Author.Tests.{eq-eqb, ne-eqb}
 use Rattle.record.specs.declared.Run.{Run}
-use Rattle.record.specs.Records.{startRun, freshOf}
+use Rattle.record.specs.Records.{startRun, isSound, freshOf}
 use Rattle.rules.specs.declared.Table.{Table}
 use Rattle.rules.specs.declared.Check.the-variants.{Passed}
 use Rattle.rules.specs.declared.Planned.the-variants.{Ordered, NoOrder}
@@ -106,11 +106,11 @@ pub record Deadlines (t : Table) (o : List ℕ) (σ : ℕ → ℕ) (r : Run) : T
   pub part : Serves t o → (i : ℕ) → 1 ≤ i → i ≤ t .n → at (t .level) i ≡ 0 → at (t .deadline) i ≤ r .clock → Supplied t σ i (t .degraded)
       → at (t .promised) i ≤ at (r .got) i
 
--- The same of each row that is closed, whatever its deadline, if its slots up to the clock supplied as much (rule 9.20).
+-- The same of each row that is closed, whatever its deadline, if its slots before its closing slot supplied as much (rule 9.20).
 pub record Closings (t : Table) (o : List ℕ) (σ : ℕ → ℕ) (r : Run) : Type 0 where
-  pub low : Serves t o → (i : ℕ) → 1 ≤ i → i ≤ t .n → at (t .level) i ≡ 0 → 1 ≤ at (r .closing) i → SuppliedTo t σ (r .clock) i (t .normal) → Done t r i
-  pub high : Serves t o → (i : ℕ) → 1 ≤ i → i ≤ t .n → (at (t .level) i ≡ 0 → ⊥) → 1 ≤ at (r .closing) i → SuppliedTo t σ (r .clock) i (t .degraded) → Done t r i
-  pub part : Serves t o → (i : ℕ) → 1 ≤ i → i ≤ t .n → at (t .level) i ≡ 0 → 1 ≤ at (r .closing) i → SuppliedTo t σ (r .clock) i (t .degraded)
+  pub low : Serves t o → (i : ℕ) → 1 ≤ i → i ≤ t .n → at (t .level) i ≡ 0 → 1 ≤ at (r .closing) i → SuppliedTo t σ (at (r .closing) i) i (t .normal) → Done t r i
+  pub high : Serves t o → (i : ℕ) → 1 ≤ i → i ≤ t .n → (at (t .level) i ≡ 0 → ⊥) → 1 ≤ at (r .closing) i → SuppliedTo t σ (at (r .closing) i) i (t .degraded) → Done t r i
+  pub part : Serves t o → (i : ℕ) → 1 ≤ i → i ≤ t .n → at (t .level) i ≡ 0 → 1 ≤ at (r .closing) i → SuppliedTo t σ (at (r .closing) i) i (t .degraded)
       → at (t .promised) i ≤ at (r .got) i
 
 -- Under any order of the table (rule 9.19): a slot that goes to a row which follows another, up to the coming slot, is not before the closing slot of that
@@ -148,9 +148,11 @@ abbrev pub Emptied : Table → List ℕ → ℕ → Run → Type 0
 Emptied t o k r =
     (r .table ≡ t) × (r .order ≡ o) × (r .clock ≡ k) × (r .got ≡ replicate 64 0) × (r .used ≡ replicate 64 0) × (r .closing ≡ replicate 64 0)
 
--- A commit of the table and an order to record r that is answered 0: the order is one of the table and serves, no row is released before the clock of r, and the
--- record has both, at that clock and emptied (rules 10.16, 10.18, 22.4).
+-- A commit of the table and an order to record r that is answered 0: r was sound and every row of its sheet closed, the order is one of the table and serves, no
+-- row is released before the clock of r, and the record has both, at that clock and emptied (rules 10.16, 10.18, 22.4).
 pub record Renewed (t : Table) (o : List ℕ) (r : Run) : Type 0 where
+  pub sound : isSound r ≡ true
+  pub closed : (i : ℕ) → 1 ≤ i → i ≤ r .table .n → 1 ≤ at (r .closing) i
   pub passes : isOrder t o ≡ true
   pub serves : Serves t o
   pub later : (j : ℕ) → 1 ≤ j → j ≤ t .n → r .clock ≤ at (t .release) j
@@ -336,9 +338,9 @@ module _ (t : Table) (accepted : Accepted t) (o : List ℕ) (s : State) (σ : �
       let k = f .kept (serves-correct t o c) i (is-row t i (record { from = l; upTo = h })) d (window i (worstSpeed t i) w) in
       record { got = k .done; from = k .closed; upTo = k .inTime }
 
-  closed-done : Serves t o → (i : ℕ) → 1 ≤ i → i ≤ t .n → 1 ≤ at (r .closing) i → SuppliedTo t σ (r .clock) i (worstSpeed t i) → Done t r i
+  closed-done : Serves t o → (i : ℕ) → 1 ≤ i → i ≤ t .n → 1 ≤ at (r .closing) i → SuppliedTo t σ (at (r .closing) i) i (worstSpeed t i) → Done t r i
   closed-done c i l h z w =
-      let k = f .settled (serves-correct t o c) i (is-row t i (record { from = l; upTo = h })) z (window-to (r .clock) i (worstSpeed t i) w) in
+      let k = f .settled (serves-correct t o c) i (is-row t i (record { from = l; upTo = h })) z (window-to (at (r .closing) i) i (worstSpeed t i) w) in
       record { got = k .done; from = k .closed; upTo = k .inTime }
 
   -- The worst speed, in work units per slot, is N at level 0 and G at any other.
@@ -357,7 +359,7 @@ module _ (t : Table) (accepted : Accepted t) (o : List ℕ) (s : State) (σ : �
         low = λ c i l h v z w. closed-done c i l h z (λ u j p q a b e. rw (eq-eqb (at (t .level) i) 0 v) (w u j p q a b e));
         high = λ c i l h v z w. closed-done c i l h z (λ u j p q a b e. rw (ne-eqb (at (t .level) i) 0 v) (w u j p q a b e));
         part = λ c i l h v z w. f .settled-part (serves-correct t o c) i (is-row t i (record { from = l; upTo = h })) (eq-eqb (at (t .level) i) 0 v) z
-            (window-to (r .clock) i (t .degraded) w);
+            (window-to (at (r .closing) i) i (t .degraded) w);
       }
 
   -- A row that has used a slot was not kept waiting any more.
@@ -403,10 +405,12 @@ pub renewed : Demand3 → (t : Table) → Accepted t → (r : Run) (o : List ℕ
 renewed demand t accepted r o e =
     let c = demand t accepted [] .committed r o e in
     record {
-      passes = c .2;
-      serves = correct-serves t o (c .3);
-      later = λ j l h. omega (arith, c .1, earliest-first t j (record { from = l; upTo = h }));
-      emptied = rw (c .0) (refl, refl, refl, refl, refl, refl);
+      sound = c .sound;
+      closed = λ i l h. c .closed i (is-row (r .table) i (record { from = l; upTo = h }));
+      passes = c .passes;
+      serves = correct-serves t o (c .correct);
+      later = λ j l h. omega (arith, c .early, earliest-first t j (record { from = l; upTo = h }));
+      emptied = rw (c .left) (refl, refl, refl, refl, refl, refl);
     }
 
 -- Either of two.

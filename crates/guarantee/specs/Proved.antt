@@ -9,11 +9,9 @@ use lib.Dec.{ltb, eqb}
 use lib.ListN.{length, replicate}
 use Rattle.record.specs.declared.Run.{Run}
 use Rattle.record.specs.Fresh.{start-sound, start-sized}
-use Rattle.record.specs.Records.{recordOf, stateOf, startRun, isSound, freshOf}
+use Rattle.record.specs.Records.{recordOf, startRun, freshOf}
 use Rattle.rules.specs.declared.Table.{Table}
 use Rattle.rules.specs.declared.Check.the-variants.{Passed}
-use Rattle.rules.specs.declared.Refusal.the-variants.{Unsound}
-use Rattle.proposal.specs.declared.Committed.{Committed}
 use Rattle.rules.specs.Calls.{lastClock, Call, one, forward, Said, tellOne, tellForward, tell, supplyFrom}
 use Rattle.rules.specs.Choice.{choice, word, padded, planFrom, planOf}
 use Rattle.rules.specs.Correct.{KeptIn, Correct, CorrectOrder, earliest, Window, WindowTo}
@@ -32,10 +30,11 @@ use Rattle.theory.specs.Counts.{in-head}
 use Rattle.theory.specs.Facts.{both-pass, both-order}
 use Rattle.theory.specs.Results.{running-sustainable, running-promise, follower-held, follower-later, high-follower-later, verdict, choice-order, choice-correct, choice-none}
 use Rattle.theory.specs.Tests.{by-bool, by-eqb, and-both}
-use Rattle.proposal.specs.Commits.{checkCommit, commitOf}
-use Rattle.proposal.specs.Passing.{by-check, refused-not, turned, proposal-not-nine}
+use Rattle.proposal.specs.Commits.{commitOf}
+use Rattle.proposal.specs.Passing.{by-check, turned, proposal-not-nine}
+use Rattle.proposal.specs.Renewing.{renews}
 use Rattle.guarantee.specs.Playing.{makeDay}
-use Rattle.guarantee.specs.Claim.{HandRight, paper, RunRight, Demand3}
+use Rattle.guarantee.specs.Claim.{HandRight, paper, RunRight, CommitRight, Demand3}
 use Rattle.guarantee.specs.Paper.{recordIn, HandHolds, acts-told}
 use Rattle.guarantee.specs.Supplies.{Proper, begun-proper, paper-run}
 
@@ -107,6 +106,9 @@ module _ (t : Table) (accepted : Accepted t) (o : List ℕ) (order : isOrder t o
   shut : (i : ℕ) → 1 ≤ at (s .closing) i → 1 ≤ at (runAfter t o σ (s .clock) .closing) i
   shut i c = subst (λ (x : State). 1 ≤ at (x .closing) i) taken c
 
+  to-closing : (i v : ℕ) → WindowTo t σ (at (s .closing) i) i v → WindowTo t σ (at (runAfter t o σ (s .clock) .closing) i) i v
+  to-closing i v w = subst (λ (x : State). WindowTo t σ (at (x .closing) i) i v) taken w
+
   hand-right : HandRight t o s σ (recordOf t o s)
   hand-right =
       let k = s .clock in
@@ -123,9 +125,9 @@ module _ (t : Table) (accepted : Accepted t) (o : List ℕ) (order : isOrder t o
         promised = λ c i r l d w. seen (λ (x : State). promisedOf t i ≤ at (x .got) i)
             (running-promise t accepted o order i r l (verdict t accepted o order .0 c i r) σ w k d);
         settled = λ c i r z w. seen (λ (x : State). KeptIn t x i)
-            (closed-kept t accepted o order i r (verdict t accepted o order .0 c i r) σ k (shut i z) w);
+            (closed-kept t accepted o order i r (verdict t accepted o order .0 c i r) σ k (shut i z) (to-closing i (worstSpeed t i) w));
         settled-part = λ c i r l z w. seen (λ (x : State). promisedOf t i ≤ at (x .got) i)
-            (closed-part t accepted o order i r (verdict t accepted o order .0 c i r) σ k (shut i z) l w);
+            (closed-part t accepted o order i r (verdict t accepted o order .0 c i r) σ k (shut i z) l (to-closing i (t .degraded) w));
         held = λ i u r some h q. seen (HeldTo i u) (follower-held t accepted o order i r some σ u k h q);
         waited = λ i r some. seen (AfterRow i k)
             (λ used. let l = follower-later t accepted o order i r some σ k used in
@@ -136,21 +138,18 @@ none-of : (l : List ℕ) → length l ≡ 0 → l ≡ []
 none-of [] e = refl
 none-of (x ∷ l) e = absurd (omega arith)
 
--- a commit that is not refused, to any record (rules 22.4, 22.7)
-module _ (r : Run) (t : Table) (o : List ℕ) (e : commitOf r t o .check ≡ Passed) where
-  commit-passed : checkCommit r t o ≡ Passed
-  unfolding commitOf
-  commit-passed = by-check (checkCommit r t o) (λ c. c) (λ w c. refused-not w (rw c at e))
-
-  proposal-passed : checkProposal (r .table) (stateOf r) t o ≡ Passed
-  unfolding checkCommit
-  proposal-passed = by-bool (isSound r) (λ c. rw c at commit-passed) (λ c. refused-not Unsound (rw c at commit-passed))
-
-  commit-starts : (commitOf r t o .run ≡ startRun t o (r .clock)) × (r .clock ≤ earliest t) × (isOrder t o ≡ true) × Correct t o
-  unfolding commitOf
-  commit-starts =
-      let w = turned (r .table) (stateOf r) t o proposal-passed in
-      (rw commit-passed, w .early, both-order t o (w .checked), w .correct)
+-- a commit that is answered 0, to any record (rules 22.4, 22.7)
+commit-right : (r : Run) (t : Table) (o : List ℕ) → commitOf r t o .check ≡ Passed → CommitRight r t o
+commit-right r t o e =
+    let q = renews r t o e in
+    record {
+      sound = q .sound;
+      closed = q .turn .closed;
+      passes = both-order t o (q .turn .checked);
+      correct = q .turn .correct;
+      early = q .turn .early;
+      left = q .run;
+    }
 
 module _ (t : Table) (accepted : Accepted t) where
   -- with any order of the table, from the record at any clock that is not after the earliest release
@@ -229,6 +228,6 @@ demand-3 t accepted acts =
       seven = seven t accepted;
       found = found t accepted;
       started = fresh-starts t accepted;
-      committed = λ r o e. commit-starts r t o e;
+      committed = λ r o e. commit-right r t o e;
       right = λ o e k early. run-right t accepted o e k early acts;
     }

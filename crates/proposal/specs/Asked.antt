@@ -10,6 +10,7 @@ use Rattle.rules.specs.declared.Table.{Table}
 use Rattle.rules.specs.declared.Check.{Check}
 use Rattle.rules.specs.declared.Check.the-variants as Checks
 use Rattle.rules.specs.declared.Planned.{Planned}
+use Rattle.rules.specs.declared.Planning.{Planning}
 use Rattle.rules.specs.declared.Planned.the-variants as Plans
 use Rattle.record.specs.declared.Run.{Run}
 use Rattle.rules.specs.Choice.{planOf}
@@ -59,27 +60,58 @@ pub asked-good : (bytes : List ℕ) → plannedNumber (askOf bytes .answer) ≡ 
 unfolding askOf
 asked-good bytes z = read-good (readOf bytes .check) (readOf bytes .table) z
 
--- with 0 the table is the one that was read; with any other number table and order are zeros, and with another than 7 no row is left (rule 22.2)
+-- the reader's number, or the planner's answer; with 0 the table is the one that was read and the order the one planned; with any other number table and order are zeros,
+-- and with another than 7 no row is left (rule 22.2)
 pub record Answered (bytes : List ℕ) (a : Asking) : Type 0 where
+  pub reader : (checkNumber (readOf bytes .check) ≡ 0 → ⊥) → plannedNumber (a .answer) ≡ checkNumber (readOf bytes .check)
+  pub planner : checkNumber (readOf bytes .check) ≡ 0 → a .answer ≡ planOf (readOf bytes .table) .answer
+  pub made : plannedNumber (a .answer) ≡ 0 → a .order ≡ planOf (readOf bytes .table) .order
   pub read : plannedNumber (a .answer) ≡ 0 → a .table ≡ readOf bytes .table
   pub none : (plannedNumber (a .answer) ≡ 0 → ⊥) → (a .table ≡ zeroTable) × (a .order ≡ replicate 64 0)
   pub left : (plannedNumber (a .answer) ≡ 7 → ⊥) → rowsLeft (a .answer) ≡ 0
 
 module _ (bytes : List ℕ) where
-  planned-answered : (a : Planned) (o : List ℕ) → Answered bytes (askPlanned a (readOf bytes .table) o)
-  unfolding plannedNumber rowsLeft
-  planned-answered Plans.Ordered o = record { read = λ z. refl; none = λ n. absurd (n refl); left = λ n. refl }
-  planned-answered (Plans.NoOrder left) o = record { read = λ z. absurd (omega arith); none = λ n. (refl, refl); left = λ n. absurd (n refl) }
-  planned-answered (Plans.Refused w) o = record { read = λ z. absurd (refusal-number w .0 z); none = λ n. (refl, refl); left = λ n. refl }
+  abbrev p : Planning
+  p = planOf (readOf bytes .table)
 
-  read-answered : (c : Check) → Answered bytes (askRead c (readOf bytes .table))
-  unfolding plannedNumber rowsLeft
-  read-answered Checks.Passed = planned-answered (planOf (readOf bytes .table) .answer) (planOf (readOf bytes .table) .order)
-  read-answered (Checks.Refused w) = record { read = λ z. absurd (refusal-number w .0 z); none = λ n. (refl, refl); left = λ n. refl }
+  planned-answered : readOf bytes .check ≡ Checks.Passed → (a : Planned) → a ≡ p .answer → Answered bytes (askPlanned a (readOf bytes .table) (p .order))
+  unfolding plannedNumber rowsLeft checkNumber
+  planned-answered c Plans.Ordered e = record { reader = λ n. absurd (n (rw c)); planner = λ _. e; made = λ z. refl; read = λ z. refl; none = λ n. absurd (n refl); left = λ n. refl }
+  planned-answered c (Plans.NoOrder left) e =
+      record {
+        reader = λ n. absurd (n (rw c));
+        planner = λ _. e;
+        made = λ z. absurd (omega arith);
+        read = λ z. absurd (omega arith);
+        none = λ n. (refl, refl);
+        left = λ n. absurd (n refl);
+      }
+  planned-answered c (Plans.Refused w) e =
+      record {
+        reader = λ n. absurd (n (rw c));
+        planner = λ _. e;
+        made = λ z. absurd (refusal-number w .0 z);
+        read = λ z. absurd (refusal-number w .0 z);
+        none = λ n. (refl, refl);
+        left = λ n. refl;
+      }
+
+  read-answered : (c : Check) → readOf bytes .check ≡ c → Answered bytes (askRead c (readOf bytes .table))
+  unfolding plannedNumber rowsLeft checkNumber
+  read-answered Checks.Passed e = planned-answered e (p .answer) refl
+  read-answered (Checks.Refused w) e =
+      record {
+        reader = λ n. rw e;
+        planner = λ z. absurd (refusal-number w .0 (rw e at z));
+        made = λ z. absurd (refusal-number w .0 z);
+        read = λ z. absurd (refusal-number w .0 z);
+        none = λ n. (refl, refl);
+        left = λ n. refl;
+      }
 
   pub answered : Answered bytes (askOf bytes)
   unfolding askOf
-  answered = read-answered (readOf bytes .check)
+  answered = read-answered (readOf bytes .check) refl
 
 -- the numbers of a commit of such a proposal
 abbrev pub ForTheRecord : ℕ → Type 0

@@ -1,4 +1,4 @@
--- Cases on proposals and commits, computed from the definitions and checked by one theorem (rule 13.16): what asking answers (rule 22.2), every number of a commit with
+-- Cases on proposals and commits, computed from the definitions and checked by a theorem for each of three tables (rule 13.16): what asking answers (rule 22.2), every number of a commit with
 -- all later faults beside it (rule 11.10), the clocks at which a commit is accepted (rules 10.17, 10.18), the record afterwards (rules 22.4, 22.5), and lists in which
 -- commits stand (rules 22.8, 22.9). Each of the faults 14.38 to 14.44 meets one here.
 use Prim.Native.Nat.{ℕ}
@@ -24,20 +24,20 @@ use Rattle.rules.specs.Rows.{at}
 use Rattle.rules.specs.Running.{closeLate, runSlot}
 use Rattle.rules.specs.Sheets.{readOf, checkSheet, isLine, numberAt, columnOf, tableIn, rowLine, sheetOf}
 use Rattle.rules.specs.Slots.{fresh, isPending, isWaiting, isReady, chosen, isOver, brought, serve, slot}
-use Rattle.rules.specs.Tables.{rowOk, tailOk, promiseOk, checkWait, checkTable}
+use Rattle.rules.specs.Tables.{rowOk, tailOk, promiseOk, checkWait, checkTable, zeroTable}
 use Rattle.rules.specs.Worst.{horizon, worstFinish, promisedMoment, slack, meets}
 use Rattle.proposal.specs.Commits.{checkCommit, commitOf}
 
 pub data Case : Type 0 where
-  -- asking for these bytes gives this number, this row count (0 unless an order was made), this order and this word of rows left
-  asked : List ℕ → ℕ → ℕ → List ℕ → ℕ → Case
+  -- asking for these bytes gives this number, this table, this order and this word of rows left
+  asked : List ℕ → ℕ → Table → List ℕ → ℕ → Case
   -- a commit of this table and these row numbers to the record is answered 0: the record has both, at this clock and with zeros for all rows
   renews : Run → Table → List ℕ → ℕ → Case
   -- it is answered this number, and the record is as it was
   stays : Run → Table → List ℕ → ℕ → Case
-  -- a list of acts on paper, from this table and order at this clock: the numbers and the values said, and of the sheet in hand its row count, the
+  -- a list of acts on paper, from this table and order at this clock: the numbers and the values said, and of the sheet in hand its table, its order, the
   -- clock, work got, slots used and closing slots
-  told : Table → List ℕ → ℕ → List Act → List ℕ → List ℕ → ℕ → ℕ → List ℕ → List ℕ → List ℕ → Case
+  told : Table → List ℕ → ℕ → List Act → List ℕ → List ℕ → Table → List ℕ → ℕ → List ℕ → List ℕ → List ℕ → Case
 
 -- two tables are the same
 abbrev sameTable : Table → Table → Bool
@@ -64,19 +64,20 @@ sameRun a b =
     && same (a .closing) (b .closing)
 
 abbrev holds : Case → Bool
-holds (asked bytes number n order left) =
+holds (asked bytes number t order left) =
     eqb (plannedNumber (askOf bytes .answer)) number
-    && eqb (askOf bytes .table .n) n
+    && sameTable (askOf bytes .table) t
     && same (askOf bytes .order) (padded order)
     && eqb (rowsLeft (askOf bytes .answer)) left
 holds (renews r t o clock) =
     eqb (checkNumber (commitOf r t (padded o) .check)) 0 && sameRun (commitOf r t (padded o) .run) (startRun t (padded o) clock)
 holds (stays r t o number) = eqb (checkNumber (commitOf r t (padded o) .check)) number && sameRun (commitOf r t (padded o) .run) r
-holds (told t o clock acts numbers values n end got used closing) =
+holds (told t o clock acts numbers values p place end got used closing) =
     let d = tellDay acts (begun t (padded o) clock) in
     same (map (λ (s : Said). s .number) (d .said)) numbers
     && same (map (λ (s : Said). s .value) (d .said)) values
-    && eqb (d .hand .table .n) n
+    && sameTable (d .hand .table) p
+    && same (d .hand .order) (padded place)
     && eqb (d .hand .state .clock) end
     && same (d .hand .state .got) (padded got)
     && same (d .hand .state .used) (padded used)
@@ -134,10 +135,10 @@ stuck = steady (job 0 2 2 1 ∷ job 0 1 2 1 ∷ [])
 
 abbrev pub asking : List Case
 asking =
-    asked (sheetOf (steady (job 7 1 9 1 ∷ []))) 0 1 (1 ∷ []) 0
-    ∷ asked (sheetOf stuck) 7 0 [] 3
-    ∷ asked [] 1 0 [] 0
-    ∷ asked (sheetOf (steady (job 7 1 7 1 ∷ []))) 5 0 [] 0
+    asked (sheetOf (steady (job 7 1 9 1 ∷ []))) 0 (steady (job 7 1 9 1 ∷ [])) (1 ∷ []) 0
+    ∷ asked (sheetOf stuck) 7 zeroTable [] 3
+    ∷ asked [] 1 zeroTable [] 0
+    ∷ asked (sheetOf (steady (job 7 1 7 1 ∷ []))) 5 zeroTable [] 0
     ∷ []
 
 abbrev pub committing : List Case
@@ -152,8 +153,11 @@ committing =
     ∷ renews (drawn 7) (next 8) (2 ∷ 1 ∷ []) 7
     ∷ stays (drawn 7) (steady (job 7 1 11 1 ∷ job 6 2 13 1 ∷ [])) (1 ∷ 2 ∷ []) 18
     ∷ stays (drawn 7) (steady (job 6 1 11 1 ∷ job 7 2 13 1 ∷ [])) (1 ∷ 2 ∷ []) 18
-    -- one row still open
+    -- one row still open: the last, the first; a row count that differs from the proposal's
     ∷ stays (unfinished 4) (next 4) (1 ∷ 2 ∷ []) 17
+    ∷ stays (of drawing (2 ∷ 1 ∷ []) 4 (0 ∷ 2 ∷ []) (0 ∷ 2 ∷ []) (0 ∷ 2 ∷ [])) (next 4) (1 ∷ 2 ∷ []) 17
+    ∷ stays (unfinished 4) (steady (job 4 1 11 1 ∷ [])) (1 ∷ []) 17
+    ∷ renews (drawn 4) (steady (job 4 1 11 1 ∷ job 4 2 13 1 ∷ job 5 1 13 1 ∷ [])) (1 ∷ 2 ∷ 3 ∷ []) 4
     -- a row that was dropped is closed
     ∷ renews (of (tableOf (job 0 4 9 0 ∷ []) 2 1 0) (1 ∷ []) 2 (2 ∷ []) (2 ∷ []) (2 ∷ [])) (next 4) (1 ∷ 2 ∷ []) 2
     -- an order that is correct for another table only
@@ -162,11 +166,12 @@ committing =
     ∷ renews (drawn 4) (steady (job 4 1 7 1 ∷ job 4 2 6 1 ∷ [])) (2 ∷ 1 ∷ []) 4
     -- the waits that count are those of the proposal, and not those of the sheet in hand
     ∷ stays (drawn 4) (waits 1) (2 ∷ 1 ∷ []) 6
+    ∷ stays (of (waits 1) (1 ∷ 2 ∷ []) 7 (1 ∷ 2 ∷ []) (1 ∷ 2 ∷ []) (5 ∷ 7 ∷ [])) (waits 1) (2 ∷ 1 ∷ []) 6
     ∷ renews (drawn 4) (waits 1) (1 ∷ 2 ∷ []) 4
     ∷ renews (of (waits 1) (1 ∷ 2 ∷ []) 7 (1 ∷ 2 ∷ []) (1 ∷ 2 ∷ []) (5 ∷ 7 ∷ [])) (next 7) (2 ∷ 1 ∷ []) 7
     -- a damaged record, with a good proposal and with one of zeros
     ∷ stays (of drawing (1 ∷ 2 ∷ []) 4 (1 ∷ 3 ∷ []) (1 ∷ 2 ∷ []) (1 ∷ 4 ∷ [])) (next 4) (1 ∷ 2 ∷ []) 9
-    ∷ stays (of drawing (1 ∷ 2 ∷ []) 4 (1 ∷ 2 ∷ []) (1 ∷ 2 ∷ []) (1 ∷ 5 ∷ [])) (steady []) [] 9
+    ∷ stays (of drawing (1 ∷ 2 ∷ []) 4 (1 ∷ 2 ∷ []) (1 ∷ 2 ∷ []) (1 ∷ 5 ∷ [])) zeroTable [] 9
     ∷ stays (of drawing (1 ∷ 1 ∷ []) 4 (1 ∷ 2 ∷ []) (1 ∷ 2 ∷ []) (1 ∷ 4 ∷ [])) (next 4) (1 ∷ 2 ∷ []) 9
     -- each number in its turn: a fault, and all later ones beside it
     ∷ stays (unfinished 4) (faulty 0 0 17 0 2 1 1 2) (2 ∷ 2 ∷ []) 3
@@ -187,16 +192,16 @@ abbrev pub days : List Case
 days =
     -- the sheet is over, the next one is committed and goes on at the clock that the first one left
     told drawing (1 ∷ 2 ∷ []) 0 (run (forward (1 ∷ 1 ∷ 1 ∷ [])) ∷ commit (next 4) (padded (1 ∷ 2 ∷ [])) ∷ run (one 1) ∷ run (one 1) ∷ [])
-    (0 ∷ 0 ∷ 0 ∷ 0 ∷ []) (3 ∷ 0 ∷ 0 ∷ 1 ∷ []) 2 5 (1 ∷ 0 ∷ []) (1 ∷ 0 ∷ []) (5 ∷ 0 ∷ [])
+    (0 ∷ 0 ∷ 0 ∷ 0 ∷ []) (3 ∷ 0 ∷ 0 ∷ 1 ∷ []) (next 4) (1 ∷ 2 ∷ []) 5 (1 ∷ 0 ∷ []) (1 ∷ 0 ∷ []) (5 ∷ 0 ∷ [])
     -- a commit too early changes nothing, and the run goes on
     ∷ told drawing (1 ∷ 2 ∷ []) 0 (run (one 1) ∷ commit (next 4) (padded (1 ∷ 2 ∷ [])) ∷ run (one 1) ∷ [])
-    (0 ∷ 17 ∷ 0 ∷ []) (1 ∷ 0 ∷ 2 ∷ []) 2 2 (1 ∷ 1 ∷ []) (1 ∷ 1 ∷ []) (1 ∷ 0 ∷ [])
-    -- no slot supplies anything before the earliest release of the new sheet but those of the old one that close its rows late, and every deadline of the new one is kept
+    (0 ∷ 17 ∷ 0 ∷ []) (1 ∷ 0 ∷ 2 ∷ []) drawing (1 ∷ 2 ∷ []) 2 (1 ∷ 1 ∷ []) (1 ∷ 1 ∷ []) (1 ∷ 0 ∷ [])
+    -- slots before the earliest release of the new sheet supply nothing, those of the old one among them but for three, and the deadline of the new one is kept
     ∷ told drawing (1 ∷ 2 ∷ []) 0
     (run (forward (0 ∷ 0 ∷ 1 ∷ 0 ∷ 1 ∷ 1 ∷ [])) ∷ commit (steady (job 8 1 9 1 ∷ [])) (padded (1 ∷ [])) ∷ run (forward (0 ∷ 0 ∷ 1 ∷ [])) ∷ [])
-    (0 ∷ 0 ∷ 0 ∷ []) (6 ∷ 0 ∷ 3 ∷ []) 1 9 (1 ∷ []) (1 ∷ []) (9 ∷ [])
+    (0 ∷ 0 ∷ 0 ∷ []) (6 ∷ 0 ∷ 3 ∷ []) (steady (job 8 1 9 1 ∷ [])) (1 ∷ []) 9 (1 ∷ []) (1 ∷ []) (9 ∷ [])
     -- from another clock than 0, up to the earliest release no slot runs a row
-    ∷ told (next 4) (1 ∷ 2 ∷ []) 3 (run (one 9) ∷ run (one 1) ∷ []) (0 ∷ 0 ∷ []) (0 ∷ 1 ∷ []) 2 5 (1 ∷ 0 ∷ []) (1 ∷ 0 ∷ []) (5 ∷ 0 ∷ [])
+    ∷ told (next 4) (1 ∷ 2 ∷ []) 3 (run (one 9) ∷ run (one 1) ∷ []) (0 ∷ 0 ∷ []) (0 ∷ 1 ∷ []) (next 4) (1 ∷ 2 ∷ []) 5 (1 ∷ 0 ∷ []) (1 ∷ 0 ∷ []) (5 ∷ 0 ∷ [])
     ∷ []
 
 -- every case of a list holds

@@ -1,5 +1,5 @@
 -- What is known where the checks of a commit passed (rules 10.16 to 10.18, 11.10), and that they never answer 9 but for the record.
-use Prim.Native.Nat.{ℕ, _≤_, min}
+use Prim.Native.Nat.{ℕ, _≤_, _<_, min}
 use mathlib.Core.Bool.{Bool, true, false, cond, not, _&&_}
 use mathlib.Core.List.{List, [], _∷_}
 use mathlib.Core.Path.{_≡_, refl, sym, subst, _∙_}
@@ -22,6 +22,7 @@ use Rattle.rules.specs.Slots.{State}
 use Rattle.rules.specs.Tables.{countOk, speedsOk, loadingOk, rowOk, promiseOk, tailOk, andThen, checkWait, checkWaits, checkTable}
 use Rattle.theory.specs.Counts.{In, in-head, in-tail}
 use Rattle.theory.specs.Facts.{row-is, in-rows, rows-in, is-row, TableFacts}
+use Rattle.theory.specs.Finishes.{earliest-first}
 use Rattle.theory.specs.Tests.{by-bool, not-both, not-is}
 use Rattle.columns.specs.AllRows.{all-each, all-of}
 use Rattle.record.specs.Checked.{limits}
@@ -112,6 +113,36 @@ module _ (t : Table) (s : State) (p : Table) (o : List ℕ) where
       → ((j : ℕ) → 1 ≤ j → j ≤ p .n → s .clock ≤ releaseOf p j) → checkProposal t s p o ≡ Passed
   unfolding checkProposal checkTurn
   turns both correct closed later = rw (both, exactly p o both .1 correct, is-closed closed, is-released later)
+
+-- and else the first that fails gives the answer: the proposal's own checks, 16, 17 and 18 (rule 11.10)
+module _ (t : Table) (s : State) (p : Table) (o : List ℕ) where
+  pub own-refusal : (w : Refusal) → checkBoth p o ≡ Refused w → checkProposal t s p o ≡ Refused w
+  unfolding checkProposal
+  own-refusal w e = rw e
+
+  module _ (both : checkBoth p o ≡ Passed) where
+    pub not-correct : (Correct p o → ⊥) → checkProposal t s p o ≡ Refused NotCorrect
+    unfolding checkProposal checkTurn
+    not-correct n = by-bool (verdictYes (judgeOf p o)) (λ y. absurd (n (exactly p o both .0 y))) (λ y. rw (both, y))
+
+    module _ (correct : Correct p o) where
+      yes : verdictYes (judgeOf p o) ≡ true
+      yes = exactly p o both .1 correct
+
+      pub row-open : (i : ℕ) → isRow t i ≡ true → at (s .closing) i ≡ 0 → checkProposal t s p o ≡ Refused RowOpen
+      unfolding checkProposal checkTurn
+      row-open i r z =
+          by-bool (allClosed t s)
+          (λ c. absurd (omega (arith, closed-row t s p o c i r)))
+          (λ c. rw (both, yes, c))
+
+      pub released-before : ((i : ℕ) → 1 ≤ i → i ≤ t .n → 1 ≤ at (s .closing) i) → (j : ℕ) → isRow p j ≡ true → releaseOf p j < s .clock
+          → checkProposal t s p o ≡ Refused ReleasedBefore
+      unfolding checkProposal checkTurn
+      released-before closed j r l =
+          by-bool (releasedFrom p (s .clock))
+          (λ c. absurd (omega (arith, clock-early t s p o (limits p o both) c, earliest-first p j (row-is p j r))))
+          (λ c. rw (both, yes, is-closed t s p o closed, c))
 
 -- the number of a check's answer is not 9
 abbrev NotNine : Check → Type 0

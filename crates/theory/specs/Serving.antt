@@ -41,7 +41,7 @@ same-window t o σ τ m h (suc k) p =
     ∙ ap (runSlot t o (τ k)) (same-window t o σ τ m h k (omega arith))
 
 -- a row that has kept its deadline has kept it ever after
-kept-later : (t : Table) → TableFacts t → (o : List ℕ) (σ : ℕ → ℕ) (i : ℕ) → Row t i → (d k : ℕ) → d ≤ k → KeptIn t (runAfter t o σ d) i → KeptIn t (runAfter t o σ k) i
+pub kept-later : (t : Table) → TableFacts t → (o : List ℕ) (σ : ℕ → ℕ) (i : ℕ) → Row t i → (d k : ℕ) → d ≤ k → KeptIn t (runAfter t o σ d) i → KeptIn t (runAfter t o σ k) i
 kept-later t f o σ i r d k p q =
     let e : k - d + d ≡ k = omega arith in
     let stays = closed-stays t f (running t) o σ i r d (k - d) (rw (running-is t o σ d) (q .closed)) in

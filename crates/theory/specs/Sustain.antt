@@ -160,7 +160,7 @@ module _ (t : Table) (f : TableFacts t) (rule : Rule t) (o : List ℕ) (σ : ℕ
       go (inl e) = e
       go (inr x) = absurd (omega (arith, x .still))
 
-  closed-slot : (k : ℕ) → 1 ≤ at (stateBy rule o σ k .closing) i → cellAt (stateBy rule o σ (suc k)) i ≡ cellAt (stateBy rule o σ k) i
+  pub closed-slot : (k : ℕ) → 1 ≤ at (stateBy rule o σ k .closing) i → cellAt (stateBy rule o σ (suc k)) i ≡ cellAt (stateBy rule o σ k) i
   closed-slot k h =
       let e = cell-other t f rule o σ k i r (λ q. let z = ran t f rule o σ k i r q in omega (arith, z .still)) in
       look-stays k (rw (ap (λ (x : Cell). x .closing) e) h) ∙ e
