@@ -2225,7 +2225,7 @@ static const char DAY_HELP[] =
     "run.\n"
     "A sheet that is refused ends the day: with the number of the reader or of the planner,\n"
     "explained as for plan, with 17 if rows are still open, or with 18 if a release is below\n"
-    "the clock. What was worked stays, and it is said where each row of the sheet before\n"
+    "the clock; and a supply at clock 2,000,000 slots with 8. What was worked stays, and it is said where each row of the sheet before\n"
     "stands. Files and supplies are looked at before the first slot.\n"
     "\n"
     "--plain: lines of fixed fields, of which the first is the number of the sheet, from 1.\n"

@@ -42,8 +42,8 @@
  * order never waits, so that no slot is lost by waiting, and nothing has to be called
  * for it.
  *
- * New sheets. The next sheet takes the place of the one that runs without a stop: the
- * clock goes on. Asking (jb_ask_sheet) makes a proposal of a sheet, which is its table
+ * New sheets. A run need not stop for the next sheet, which takes the place of the one
+ * that runs: the clock goes on. Asking (jb_ask_sheet) makes a proposal of a sheet, which is its table
  * and an order of it; no record is handed in, so that a run may go on meanwhile.
  * Committing (jb_commit_sheet) puts the proposal into a run record in which every row
  * is closed: all rows of the new table are then open and empty, and the clock is the one
@@ -141,7 +141,8 @@
  * 5: rows may follow rows: follows, last in jb_row and last in jb_table. A table, and so
  *    a record, is again 256 bytes longer, the line of a row in a sheet 8 bytes; 13, 14
  *    and 15 are new, and 6 is given for a row that stands above the one it follows too.
- *    Its first archives have no jb_ask and no jb_commit, which alone give 16, 17 and 18.
+ *    Its first archives have no jb_ask and no jb_commit; a commit alone gives 16, 17
+ *    and 18.
  */
 #define JB_VERSION 5u
 
@@ -283,7 +284,7 @@ static inline const char *jb_remedy(uint32_t number) {
     case JB_ROW_OPEN: return "work on until every row is done or dropped, and commit then";
     case JB_RELEASED_BEFORE:
         return "count releases and deadlines in slots of the running clock: let the new sheet start at the clock of its "
-               "commit or later";
+               "commit or later; from clock 1,000,000 slots on begin a new run with a fresh record";
     default: return "compare the header with the archive by jb_fits()";
     }
 }

@@ -854,7 +854,7 @@ also_out 'row 4 (LO): got 5 of 5 work units, done at clock 5'
 also_err 'sheet 2 (second.sheet) is refused'
 also_err 'where: row 1, release, byte 34 (line 2, byte 1 of it): the figure is 14'
 also_err 'allowed: 15 slots or more, from the clock on'
-also_err 'remedy: count releases and deadlines in slots of the running clock: let the new sheet start at the clock of its commit or later'
+also_err 'remedy: count releases and deadlines in slots of the running clock: let the new sheet start at the clock of its commit or later; from clock 1,000,000 slots on begin a new run with a fresh record'
 [ "$(wc -l <err)" -eq 5 ] || complain "18: not five lines"
 lines '1 0 4 0 0' '1 0 4 1 1 0 0' '1 4 1 4 1 0 0' '1 5 3 2 1 0 0' '1 8 3 3 1 0 0' '1 11 4 0 0 0 0' '2 18 3 1 15' '1 1 20 20 1 4' '1 2 15 15 1 8' '1 3 11 11 1 11' '1 4 5 5 1 5' |
     plain_day_is 2 --stretches p1.sheet 15x5 then second.sheet 5

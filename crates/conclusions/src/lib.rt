@@ -12,7 +12,7 @@ pub struct Again {
     pub size: u32,
 }
 
-// What a fresh record was said to be: its number, and the words of its table, its order and its state.
+// What a fresh record was said to be, or a record after a commit: the number, and the words of its table, its order and its state.
 pub struct Begun {
     pub number: u32,
     pub table: [u32; 388],

@@ -1,5 +1,5 @@
--- Committing a proposal to a run record (rules 11.10, 22.3 to 22.5). What its checks after 9 are is not said here once more: it is `checkProposal` of the
--- rules, on the table and the state that the record holds.
+-- Committing a proposal to a run record (rules 11.10, 22.3 to 22.5). What its checks after 9 are is not said here once more: it is `checkProposal`, which
+-- paper has too, on the table and the state that the record holds.
 use Prim.Native.Nat.{ℕ}
 use mathlib.Core.Bool.{cond}
 use mathlib.Core.List.{List}

@@ -13,7 +13,7 @@ use Rattle.rules.specs.declared.Searched.the-variants as Searches
 use Rattle.rules.specs.declared.Verdict.{Verdict}
 use Rattle.rules.specs.declared.Verdict.the-variants as Verdicts
 
--- a refusal's number (rules 10.1 to 10.6, 10.8 to 10.15)
+-- a refusal's number (rules 10.1 to 10.6, 10.8 to 10.18)
 unfoldable pub refusalNumber : Refusal → ℕ
 refusalNumber Length = 1
 refusalNumber Malformed = 2
