@@ -182,9 +182,10 @@ module _ (table order runTable runOrder runState : List ℕ) (tables : length ta
 
   open-row : isSound r ≡ true → (i : ℕ) → 1 ≤ i → i ≤ getD runTable 0 0 → getD runState (128 + i) 0 ≡ 0 → (isRow (r .table) i ≡ true) × (at (r .closing) i ≡ 0)
   unfolding runIn tableIn
-  open-row sound i l h z =
-      (is-row (r .table) i (record { from = l; upTo = h }),
-      omega (arith, z, state-words runTable runOrder runState i l (omega (arith, h, speeds r sound .few)) .closing))
+  open-row sound i l h z = (
+    is-row (r .table) i (record { from = l; upTo = h }),
+    omega (arith, z, state-words runTable runOrder runState i l (omega (arith, h, speeds r sound .few)) .closing),
+  )
 
   refused-commit : (w : Refusal) → checkCommit r t order ≡ Refused w → commitOf r t order ≡ record { check = Refused w; run = r } → After
   unfolding checkNumber refusalNumber runIn tableIn
