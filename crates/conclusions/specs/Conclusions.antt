@@ -34,7 +34,6 @@ use Rattle.conclusions.specs.declared.Again.{Again}
 use Rattle.conclusions.specs.declared.Begun.{Begun}
 use Rattle.conclusions.specs.declared.Proposed.{Proposed}
 use Rattle.record.specs.declared.Run.{Run}
-use Rattle.proposal.specs.Asked.{ForTheRecord}
 use Rattle.proposal.specs.Commits.{commitOf}
 use Rattle.conclusions.specs.declared.Drawing.{Drawing}
 use Rattle.conclusions.specs.declared.Forwards.{Forwards}
@@ -515,7 +514,8 @@ pub record Proposing (sheet : List ℕ) (said : Proposed) : Type 0 where
   pub made : said .number ≡ 0 → said .order ≡ planOf (readOf sheet .table) .order
   pub read : said .number ≡ 0 → said .table ≡ wordsOf (readOf sheet .table)
   pub good : said .number ≡ 0 → Accepted (tableIn (said .table)) × (isOrder (tableIn (said .table)) (said .order) ≡ true) × Serves (tableIn (said .table)) (said .order)
-  pub own : said .number ≡ 0 → (r : Run) → ForTheRecord (checkNumber (commitOf r (tableIn (said .table)) (said .order) .check))
+  pub own : said .number ≡ 0 → (r : Run) → (n : ℕ) → n ≡ checkNumber (commitOf r (tableIn (said .table)) (said .order) .check)
+      → (n ≡ 0) ⊎ ((n ≡ 9) ⊎ ((n ≡ 17) ⊎ (n ≡ 18)))
   pub none : (said .number ≡ 0 → ⊥) → (said .table ≡ replicate 388 0) × (said .order ≡ replicate 64 0)
   pub left : (said .number ≡ 7 → ⊥) → said .left ≡ 0
 

@@ -28,7 +28,7 @@ use Rattle.judge.specs.Checked.{checked}
 use Rattle.record.specs.Records.{isSound, stateOf, startRun}
 use Rattle.record.specs.Sound.{speeds}
 use Rattle.proposal.specs.Asked as Asked
-use Rattle.proposal.specs.Asked.{asked-good, good-commits}
+use Rattle.proposal.specs.Asked.{ForTheRecord, asked-good, good-commits}
 use Rattle.proposal.specs.Commits.{checkCommit, commitOf}
 use Rattle.proposal.specs.Proposals.{askOf, checkProposal}
 use Rattle.proposal.specs.Passing.{by-check, Turned, turns, refused-not, own-refusal, not-correct, row-open, released-before}
@@ -65,7 +65,7 @@ module _ (sheet : List ℕ) where
         made = Asked.answered sheet .made;
         read = λ z. ap wordsOf (Asked.answered sheet .read z);
         good = λ z. let g = asked-good sheet z in rw (proposed-words z) (g .accepted, g .passes, correct-serves (askOf sheet .table) (askOf sheet .order) (g .correct));
-        own = λ z r. rw (proposed-words z) (good-commits (askOf sheet .table) (askOf sheet .order) (asked-good sheet z) r);
+        own = λ z r n e. subst ForTheRecord (sym e) (rw (proposed-words z) (good-commits (askOf sheet .table) (askOf sheet .order) (asked-good sheet z) r));
         none = λ n. let e = Asked.answered sheet .none n in (ap wordsOf (e .0) ∙ zero-words, e .1);
         left = Asked.answered sheet .left;
       }

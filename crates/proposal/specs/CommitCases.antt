@@ -137,6 +137,8 @@ abbrev pub asking : List Case
 asking =
     asked (sheetOf (steady (job 7 1 9 1 ∷ []))) 0 (steady (job 7 1 9 1 ∷ [])) (1 ∷ []) 0
     ∷ asked (sheetOf stuck) 7 zeroTable [] 3
+    ∷ asked (sheetOf (steady (job 0 1 9 1 ∷ job 0 2 2 1 ∷ job 0 1 2 1 ∷ []))) 7 zeroTable [] 6
+    ∷ asked (sheetOf (steady (job 0 1 3 1 ∷ job 0 1 2 1 ∷ job 0 1 1 1 ∷ []))) 0 (steady (job 0 1 3 1 ∷ job 0 1 2 1 ∷ job 0 1 1 1 ∷ [])) (3 ∷ 2 ∷ 1 ∷ []) 0
     ∷ asked [] 1 zeroTable [] 0
     ∷ asked (sheetOf (steady (job 7 1 7 1 ∷ []))) 5 zeroTable [] 0
     ∷ []
@@ -157,12 +159,16 @@ committing =
     ∷ stays (unfinished 4) (next 4) (1 ∷ 2 ∷ []) 17
     ∷ stays (of drawing (2 ∷ 1 ∷ []) 4 (0 ∷ 2 ∷ []) (0 ∷ 2 ∷ []) (0 ∷ 2 ∷ [])) (next 4) (1 ∷ 2 ∷ []) 17
     ∷ stays (unfinished 4) (steady (job 4 1 11 1 ∷ [])) (1 ∷ []) 17
+    -- a LO row that is open, and a HI row that is open after its deadline
+    ∷ stays (of (steady (job 0 1 9 1 ∷ job 0 2 9 0 ∷ [])) (1 ∷ 2 ∷ []) 4 (1 ∷ 1 ∷ []) (1 ∷ 1 ∷ []) (1 ∷ 0 ∷ [])) (next 4) (1 ∷ 2 ∷ []) 17
+    ∷ stays (of (steady (job 0 3 2 1 ∷ [])) (1 ∷ []) 4 (1 ∷ []) (4 ∷ []) (0 ∷ [])) (next 4) (1 ∷ 2 ∷ []) 17
     ∷ renews (drawn 4) (steady (job 4 1 11 1 ∷ job 4 2 13 1 ∷ job 5 1 13 1 ∷ [])) (1 ∷ 2 ∷ 3 ∷ []) 4
     -- a row that was dropped is closed
     ∷ renews (of (tableOf (job 0 4 9 0 ∷ []) 2 1 0) (1 ∷ []) 2 (2 ∷ []) (2 ∷ []) (2 ∷ [])) (next 4) (1 ∷ 2 ∷ []) 2
     -- an order that is correct for another table only
     ∷ renews (drawn 4) (tight 4) (1 ∷ 2 ∷ []) 4
     ∷ stays (drawn 4) (tight 4) (2 ∷ 1 ∷ []) 16
+    ∷ stays (drawn 4) (steady (job 4 3 6 1 ∷ [])) (1 ∷ []) 16
     ∷ renews (drawn 4) (steady (job 4 1 7 1 ∷ job 4 2 6 1 ∷ [])) (2 ∷ 1 ∷ []) 4
     -- the waits that count are those of the proposal, and not those of the sheet in hand
     ∷ stays (drawn 4) (waits 1) (2 ∷ 1 ∷ []) 6

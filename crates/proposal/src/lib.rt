@@ -145,9 +145,9 @@ fn check_commit(run: Run, proposal: Proposal) -> Check
     }
 }
 
-// A commit on a record that is held by value (rules 22.3 to 22.5): the record with the table and the order proposed, at the clock that it had and
-// with every row open and empty, or on a refusal the record as it was.
-pub fn commit_held(run: Run, proposal: Proposal) -> Committed
+// The record after a commit (rules 22.3 to 22.5): with the table and the order proposed, at the clock that it had and with every row open and empty, or on a
+// refusal the record as it was.
+fn renewed(run: Run, proposal: Proposal) -> Committed
     ensures { λ r. ⌜ r ≡ commitOf run (proposal .table) (proposal .order) ⌝ }
 {
     let check = check_commit(run, proposal);
@@ -169,12 +169,21 @@ pub fn commit_held(run: Run, proposal: Proposal) -> Committed
     }
 }
 
-// A commit on a lent record: as `commit_held`, with the record changed where it is.
+// A commit on a lent record, which is changed where it is (rule 22.3).
 pub fn commit(run: &mut Run, proposal: Proposal) -> Check
     ensures { λ r. ⌜ (r ≡ commitOf (now (run .entry)) (proposal .table) (proposal .order) .check)
         × (now (run .exit) ≡ commitOf (now (run .entry)) (proposal .table) (proposal .order) .run) ⌝ }
 {
-    let c = commit_held(*run, proposal);
+    let c = renewed(*run, proposal);
     *run = c.run;
     c.check
+}
+
+// A commit for callers that hold the record by value: it is lent to `commit` and handed back with the answer.
+pub fn commit_held(run: Run, proposal: Proposal) -> Committed
+    ensures { λ r. ⌜ r ≡ commitOf run (proposal .table) (proposal .order) ⌝ }
+{
+    let mut lent = run;
+    let check = commit(&mut lent, proposal);
+    Committed { check, run: lent }
 }

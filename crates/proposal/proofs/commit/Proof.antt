@@ -1,5 +1,5 @@
--- `proposal::commit` meets its contract: a walk of its MIR, by hand. The borrow is opened, the record is copied out of it, `commit_held` is called,
--- the record after the commit is stored, and the borrow is closed at it. All that the proof knows of `commit_held` is that it meets its contract.
+-- `proposal::commit` meets its contract: a walk of its MIR, by hand. The borrow is opened, the record is copied out of it, `renewed` is called,
+-- the record after the commit is stored, and the borrow is closed at it. All that the proof knows of `renewed` is that it meets its contract.
 -- Assumes nothing.
 use mathlib.Core.Path.{_≡_, refl, ap}
 use Prim.Native.Nat.{ℕ}
@@ -53,10 +53,10 @@ use Rattle.proposal.proofs.Committed as S
 use Rattle.proposal.proofs.Committed.Laws as S′
 use Rattle.rules.proofs.Check as E
 use Rattle.rules.proofs.Check.Laws as E′
-use Rattle.proposal.proofs.commit_held as held
-use Rattle.proposal.proofs.commit_held.Symbol as held-def
-use Rattle.proposal.proofs.commit_held.Symbol.{name as #held}
-use Rattle.proposal.proofs.commit_held.Met as held-thm
+use Rattle.proposal.proofs.renewed as held
+use Rattle.proposal.proofs.renewed.Symbol as held-def
+use Rattle.proposal.proofs.renewed.Symbol.{name as #held}
+use Rattle.proposal.proofs.renewed.Met as held-thm
 use Rattle.proposal.proofs.commit.Key.{name as #commit}
 use Rattle.proposal.proofs.commit as f
 use Rattle.proposal.proofs.commit.Statement as stated
@@ -110,7 +110,7 @@ module _ {M : Type 1} (𝓤 : URA M) (H : Heap 𝓤) (A : Atoms 𝓤) (W : Given
   abbrev Post : Val → SProp 𝓤
   Post = walkOf 𝓤 H A f.ended stayed (f.clauses 𝓤 H A at-mem run) .post (((κ, tt), (q, tt), tt, x, at), tt)
 
-  -- the contract of `commit_held`, and what it says of its result
+  -- the contract of `renewed`, and what it says of its result
   abbrev Checks : Contract 𝓤
   Checks = Held 𝓤 H A at-mem run
 
@@ -124,7 +124,7 @@ module _ {M : Type 1} (𝓤 : URA M) (H : Heap 𝓤) (A : Atoms 𝓤) (W : Given
   abbrev Ends : Run → List (Item 𝓤)
   Ends z = ‵ (fobs γ (R.the-row .coded .code z)) ∷ ‵ (fbor κ (Body (mem R.the-row) b o γ)) ∷ ‵ (flft κ q) ∷ Token ∷ []
 
-  -- what `commit_held` is passed
+  -- what `renewed` is passed
   abbrev to : Checks .Ghost
   to = ((tt, tt, tt, (h, (p, tt)), (val h ∷ [], (v ∷ [], tt))), tt)
 
@@ -165,7 +165,7 @@ module _ {M : Type 1} (𝓤 : URA M) (H : Heap 𝓤) (A : Atoms 𝓤) (W : Given
         assigns ! (of-opd ! (load ! (from ! (hop ! (look ! 12 refl) (stop !))) (look-raw ! 0 refl))) (from ! (stop !))
         (init ! 6 refl (LL.lawful R.the-type R′.the-laws 𝓤 H A W .typed h _ was .0)) $
         move ! (4 ∷ 5 ∷ []) $ use2 W (raw (Checks .pre to)) (goes was) $
-        -- [what `commit_held` asks; the cell; the open borrow; obs; auth; _4; …; _3; …; _2; …; _1; …; room for _0; …]
+        -- [what `renewed` asks; the cell; the open borrow; obs; auth; _4; …; _3; …; _2; …; _1; …; room for _0; …]
         calls-at ! fm Checks known to (and-then ! (load ! (from ! (stop !)) (look ! 5 refl))
         (and-then ! (load ! (from ! (stop !)) (look ! 9 refl)) (no-more !))) (λ u.
         use1 W (later (some (λ (r : Committed). (Token ⊛ ‵ (S.the-row .own r (u ∷ []))) ⊛ raw (held-says r)))) (id⊢ 𝓤 _) $ await ! tt $ pick ! (λ r.
@@ -212,4 +212,4 @@ commit-spec 𝓤 H 𝓜 𝓖 𝓡 =
     entered 𝓤 H (tripleOf 𝓤 H (𝓖 .A) f.signature (f.spec 𝓤 H (𝓖 .A) (𝓜 .mem) (𝓡 .run)))
     (tables 𝓤 H 𝓜 𝓡 code.env .C) (tables 𝓤 H 𝓜 𝓡 code.env .Λ) #commit code.function (code.unfolded 𝓤 H 𝓜 𝓡)
     (commit-meets 𝓤 H (𝓖 .A) (givenOf 𝓤 H 𝓜 𝓖) (𝓜 .mem) (𝓡 .run) (tablesOf 𝓤 H 𝓜 (tables 𝓤 H 𝓜 𝓡 code.env))
-    (cited 𝓤 H (Held 𝓤 H (𝓖 .A) (𝓜 .mem) (𝓡 .run)) 𝓜 𝓡 code.env #held held-def.routine code.calls-proposal·commit-held (held-thm.met 𝓤 H 𝓜 𝓖 𝓡)))
+    (cited 𝓤 H (Held 𝓤 H (𝓖 .A) (𝓜 .mem) (𝓡 .run)) 𝓜 𝓡 code.env #held held-def.routine code.calls-proposal·renewed (held-thm.met 𝓤 H 𝓜 𝓖 𝓡)))
