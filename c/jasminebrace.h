@@ -89,7 +89,7 @@
  *     jb_coming               14,848
  *     jb_slot                 17,920
  *     jb_forward              16,896
- *     jb_commit               27,136
+ *     jb_commit               28,672
  *     jb_program              16,128
  *     jb_version                 512
  * The functions of the last part add the few words of their own frame. But jb_need,
