@@ -49,6 +49,7 @@ pub fn refusal_number(why: Refusal) -> u32
         Refusal::NotCorrect => 16,
         Refusal::RowOpen => 17,
         Refusal::ReleasedBefore => 18,
+        Refusal::TrialsOver => 19,
     }
 }
 

@@ -8,7 +8,7 @@ use native.Mathlib.Omega.{arith}
 use lib.ListN.{length}
 use Rattle.rules.specs.declared.Table.{Table}
 use Rattle.rules.specs.declared.Refusal.{Refusal}
-use Rattle.rules.specs.declared.Refusal.the-variants.{Length, Malformed, RowCount, Speeds, RowLimits, NotAnOrder, ClockOver, Unsound, NoRoom, Loading, Promised, NotLower, ReleasedLater, FollowsLow, NotCorrect, RowOpen, ReleasedBefore}
+use Rattle.rules.specs.declared.Refusal.the-variants.{Length, Malformed, RowCount, Speeds, RowLimits, NotAnOrder, ClockOver, Unsound, NoRoom, Loading, Promised, NotLower, ReleasedLater, FollowsLow, NotCorrect, RowOpen, ReleasedBefore, TrialsOver}
 use Rattle.rules.specs.declared.Check.{Check}
 use Rattle.rules.specs.declared.Check.the-variants.{Passed, Refused}
 use Rattle.rules.specs.declared.Planning.{Planning}
@@ -52,6 +52,7 @@ refusal-number FollowsLow = (λ e. omega arith, λ e. omega arith)
 refusal-number NotCorrect = (λ e. omega arith, λ e. omega arith)
 refusal-number RowOpen = (λ e. omega arith, λ e. omega arith)
 refusal-number ReleasedBefore = (λ e. omega arith, λ e. omega arith)
+refusal-number TrialsOver = (λ e. omega arith, λ e. omega arith)
 
 empty : (l : List ℕ) → length l ≡ 0 → l ≡ []
 empty [] e = refl

@@ -28,7 +28,7 @@ pub struct Table {
     pub follows: [u32; 64],
 }
 
-// Why a call was refused (rules 10.1 to 10.6, 10.8 to 10.18). The number of each is given by specs/Numbers.
+// Why a call was refused (rules 10.1 to 10.6, 10.8 to 10.19). The number of each is given by specs/Numbers.
 pub enum Refusal {
     Length,
     Malformed,
@@ -47,6 +47,7 @@ pub enum Refusal {
     NotCorrect,
     RowOpen,
     ReleasedBefore,
+    TrialsOver,
 }
 
 // A check passed, or what it was refused for (rule 11.1).
