@@ -35,6 +35,8 @@ typedef struct {
     bool stretches;    /* run and day: a line for each stretch of slots */
     bool slacks;       /* speeds: a line for each G under one order */
     uint32_t sheet;    /* day: the number of the sheet that runs, first in plain lines; 0 for other commands */
+    bool limited;      /* plan: a ceiling was given */
+    uint32_t ceiling;  /* plan: that ceiling, in trials */
     const char *order; /* run: row numbers with commas between, or NULL for the planned order */
     char **words;      /* the arguments that are no options, after the command's name */
     size_t count;      /* how many there are */
@@ -114,6 +116,14 @@ static const char *work_units(uint32_t count) {
 /* The unit of a speed, after its figure. */
 static const char *per_slot(uint32_t speed) {
     return speed == 1 ? "work unit per slot" : "work units per slot";
+}
+
+static const char *trials(uint32_t count) {
+    return count == 1 ? "trial" : "trials";
+}
+
+static const char *rows_word(uint32_t count) {
+    return count == 1 ? "row" : "rows";
 }
 
 static const char *level_word(uint32_t level) {
@@ -935,7 +945,7 @@ static int put_correct_order(const request *asked, const jb_table *table, const 
         return refuse_call(number);
     }
     if (!asked->plain) {
-        printf("a correct order of %" PRIu32 " %s, highest place first\n", table->n, table->n == 1 ? "row" : "rows");
+        printf("a correct order of %" PRIu32 " %s, highest place first\n", table->n, rows_word(table->n));
     }
     for (uint32_t place = 1; place <= table->n; place++) {
         const uint32_t row = order[place - 1];
@@ -959,11 +969,79 @@ static int plan_words(const request *asked, const sheet_file *sheet) {
     return number == JB_OK ? put_correct_order(asked, &table, order) : refuse_sheet(asked, number, sheet, left);
 }
 
+/* What planning a sheet at a ceiling has answered. */
+typedef struct {
+    uint32_t number;
+    jb_table table;
+    uint8_t order[JB_ROWS];
+    uint64_t left;
+    uint32_t trials; /* made */
+} counted_plan;
+
+/* Reads a sheet and plans it at a ceiling, in trials; a sheet that the reader refuses takes none. */
+static void plan_within(const sheet_file *sheet, uint32_t ceiling, counted_plan *made) {
+    made->number = jb_read_table(sheet->bytes, sheet->length, &made->table);
+    made->left = 0;
+    made->trials = 0;
+    if (made->number == JB_OK) {
+        made->number = jb_plan_table_within(&made->table, ceiling, made->order, &made->left, &made->trials);
+    }
+}
+
+/* Says how many trials were made, and how many were allowed. */
+static void put_trials(FILE *to, uint32_t made, uint32_t ceiling) {
+    fprintf(to, "trials made: %" PRIu32 ", of a ceiling of %" PRIu32 " %s\n", made, ceiling, trials(ceiling));
+}
+
+/* Says that a sheet takes more trials than the ceiling, what that leaves open, and which ceiling is always enough for it. */
+static void explain_ceiling(FILE *to, const counted_plan *made, uint32_t ceiling) {
+    const uint32_t rows = made->table.n;
+    const uint32_t most = jb_most_trials(rows);
+    put_words(to, JB_OVER_CEILING);
+    put_trials(to, made->trials, ceiling);
+    fputs("not said: whether a correct order exists; 19 says neither that one does nor that none does\n", to);
+    fprintf(to, "always enough: a ceiling of %" PRIu32 " %s, for %" PRIu32 " %s\n", most, trials(most), rows, rows_word(rows));
+    put_remedy(to, JB_OVER_CEILING);
+}
+
+/* Says why planning at a ceiling was not answered 0. */
+static void explain_counted(FILE *to, const request *asked, const counted_plan *made, const sheet_file *sheet) {
+    if (made->number == JB_OVER_CEILING) {
+        explain_ceiling(to, made, asked->ceiling);
+        return;
+    }
+    explain_number(to, made->number, sheet, made->left);
+    if (made->number == JB_NO_ORDER) {
+        put_trials(to, made->trials, asked->ceiling);
+    }
+}
+
+/* Plans at the ceiling that was given, and tells the trials that were made; in the plain form as a third field of the first line. */
+static int plan_counted(const request *asked, const sheet_file *sheet) {
+    counted_plan made;
+    plan_within(sheet, asked->ceiling, &made);
+    if (asked->plain) {
+        put_three_fields(made.number, made.number == JB_OK ? made.table.n : how_many(made.left), made.trials);
+    }
+    if (made.number != JB_OK) {
+        explain_counted(stderr, asked, &made, sheet);
+        return status_of(made.number);
+    }
+    const int status = put_correct_order(asked, &made.table, made.order);
+    if (status == FINE && !asked->plain) {
+        put_trials(stdout, made.trials, asked->ceiling);
+    }
+    return status;
+}
+
 static int plan(const request *asked) {
     sheet_file sheet;
     const int status = read_sheet(asked->words[0], &sheet);
     if (status != FINE) {
         return status;
+    }
+    if (asked->limited) {
+        return plan_counted(asked, &sheet);
     }
     return asked->plain ? plan_plain(&sheet) : plan_words(asked, &sheet);
 }
@@ -2088,6 +2166,7 @@ typedef struct {
     size_t least; /* fewest arguments */
     size_t most;  /* most arguments, 0 for any number */
     const char *usage;
+    const char *other; /* another form of it, or NULL */
     const char *help;
 } command;
 
@@ -2104,9 +2183,19 @@ static const char PLAN_HELP[] =
     "another stands below it, and orders in which it does not are not looked for either:\n"
     "beside a 7 it is said whether there is a correct order without such waits.\n"
     "\n"
+    "--ceiling: no more than TRIALS trials are made, 0 to 4294967295, and it is told how\n"
+    "many were. A trial is counted for each row that is tried at a place; places are\n"
+    "filled from the lowest up, and at each rows are tried until one passes. If the sheet\n"
+    "takes more trials, the answer is 19: it says neither that a correct order exists nor\n"
+    "that none does. A sheet of n rows takes at most n * (n + 1) / 2 trials, 2,080 trials\n"
+    "with 64 rows: at that ceiling the answer is never 19, and an answer of 0 or 7 is the\n"
+    "same at every ceiling that gives one, and without a ceiling.\n"
+    "\n"
     "--plain: what the planning program writes. First line: 0 and the row count, or\n"
     "a refusal's number and the count of rows left, which is 0 but for 7. After 0 a\n"
-    "line for each place: place, row, slack in slots.\n";
+    "line for each place: place, row, slack in slots. With --ceiling the first line has a\n"
+    "third field: the trials made, which is the ceiling after 19 and 0 after a number other\n"
+    "than 0, 7 and 19.\n";
 
 static const char JUDGE_HELP[] =
     "says whether an order is correct, the row of least slack and that slack in slots\n"
@@ -2295,16 +2384,16 @@ static const char ROWS_HELP[] =
     "--plain changes nothing: there is one form.\n";
 
 static const command COMMANDS[] = {
-    {"plan", plan, 1, 1, "plan SHEET", PLAN_HELP},
-    {"judge", judge, 2, 0, "judge SHEET ROW..", JUDGE_HELP},
-    {"finishes", finishes, 1, 0, "finishes SHEET [ROW..]", FINISHES_HELP},
-    {"report", report, 1, 0, "report SHEET [ROW..]", REPORT_HELP},
-    {"speeds", speeds, 1, 0, "speeds {SHEET | --slacks SHEET [ROW..]}", SPEEDS_HELP},
-    {"run", run, 2, 0, "run SHEET [--order ROW,ROW..] [--stretches] SUPPLY..", RUN_HELP},
-    {"day", day, 2, 0, "day [--stretches] SHEET SUPPLY.. [then SHEET SUPPLY..]..", DAY_HELP},
-    {"explain", explain, 1, 1, "explain SHEET", EXPLAIN_HELP},
-    {"sheet", sheet, 1, 0, "sheet {ROWS.csv | N G K RELEASE,WORK,DEADLINE,LEVEL[,PROMISED[,FOLLOWS]]..}", SHEET_HELP},
-    {"rows", rows, 1, 1, "rows SHEET", ROWS_HELP},
+    {"plan", plan, 1, 1, "plan SHEET", "plan --ceiling TRIALS SHEET", PLAN_HELP},
+    {"judge", judge, 2, 0, "judge SHEET ROW..", NULL, JUDGE_HELP},
+    {"finishes", finishes, 1, 0, "finishes SHEET [ROW..]", NULL, FINISHES_HELP},
+    {"report", report, 1, 0, "report SHEET [ROW..]", NULL, REPORT_HELP},
+    {"speeds", speeds, 1, 0, "speeds {SHEET | --slacks SHEET [ROW..]}", NULL, SPEEDS_HELP},
+    {"run", run, 2, 0, "run SHEET [--order ROW,ROW..] [--stretches] SUPPLY..", NULL, RUN_HELP},
+    {"day", day, 2, 0, "day [--stretches] SHEET SUPPLY.. [then SHEET SUPPLY..]..", NULL, DAY_HELP},
+    {"explain", explain, 1, 1, "explain SHEET", NULL, EXPLAIN_HELP},
+    {"sheet", sheet, 1, 0, "sheet {ROWS.csv | N G K RELEASE,WORK,DEADLINE,LEVEL[,PROMISED[,FOLLOWS]]..}", NULL, SHEET_HELP},
+    {"rows", rows, 1, 1, "rows SHEET", NULL, ROWS_HELP},
 };
 enum { COMMAND_COUNT = sizeof COMMANDS / sizeof COMMANDS[0] };
 
@@ -2317,18 +2406,28 @@ static const command *command_named(const char *name) {
     return NULL;
 }
 
+/* The forms of a command, a line for each: the first after these words, the other one below it. */
+static void put_forms(FILE *to, const char *before, const command *of) {
+    fprintf(to, "%sjasminebrace %s\n", before, of->usage);
+    if (of->other != NULL) {
+        fprintf(to, "%*sjasminebrace %s\n", (int)strlen(before), "", of->other);
+    }
+}
+
 static void put_usage(FILE *to) {
     fputs("usage: jasminebrace COMMAND [--plain] ARGUMENTS\n\n", to);
     for (size_t index = 0; index < COMMAND_COUNT; index++) {
         const int length = (int)strcspn(COMMANDS[index].help, "\n");
-        fprintf(to, "  jasminebrace %s\n      %.*s\n", COMMANDS[index].usage, length, COMMANDS[index].help);
+        put_forms(to, "  ", &COMMANDS[index]);
+        fprintf(to, "      %.*s\n", length, COMMANDS[index].help);
     }
     fputs("\n  jasminebrace COMMAND --help\n      says more of a command, and the fields of its --plain form\n", to);
 }
 
 static int put_help(const command *of) {
     if (of != NULL) {
-        printf("usage: jasminebrace %s\n\n%s %s", of->usage, of->name, of->help);
+        put_forms(stdout, "usage: ", of);
+        printf("\n%s %s", of->name, of->help);
         if (of->does == explain) {
             for (uint32_t number = JB_LENGTH; number <= JB_LAST_NUMBER; number++) {
                 printf("\nnumber %" PRIu32 ": %s\nremedy: %s\n", number, jb_words(number), jb_remedy(number));
@@ -2353,7 +2452,7 @@ static int bad_usage(const command *of) {
     if (of == NULL) {
         put_usage(stderr);
     } else {
-        fprintf(stderr, "usage: jasminebrace %s\n", of->usage);
+        put_forms(stderr, "usage: ", of);
     }
     return NOT_USABLE;
 }
@@ -2366,9 +2465,20 @@ typedef struct {
     request asked;
 } command_line;
 
+/* Takes a ceiling, in trials. Gives FINE, or NOT_USABLE with the reason said. */
+static int take_ceiling(request *asked, const char *word) {
+    const char *at = word;
+    asked->limited = true;
+    if (!read_number(&at, "", UINT32_MAX, &asked->ceiling)) {
+        return not_usable("--ceiling: not a number of trials from 0 to 4294967295: '%s'", word);
+    }
+    return FINE;
+}
+
 /* Takes one option. Gives FINE, or NOT_USABLE with the reason said. */
 static int take_option(command_line *line, const char *option, const char *next, bool *took_next) {
     const char *const order = "--order";
+    const char *const ceiling = "--ceiling";
     *took_next = false;
     if (strcmp(option, "--help") == 0 || strcmp(option, "-h") == 0) {
         line->help = true;
@@ -2388,6 +2498,14 @@ static int take_option(command_line *line, const char *option, const char *next,
         *took_next = true;
     } else if (strncmp(option, "--order=", strlen("--order=")) == 0) {
         line->asked.order = option + strlen("--order=");
+    } else if (strcmp(option, ceiling) == 0) {
+        if (next == NULL) {
+            return not_usable("--ceiling needs a number of trials");
+        }
+        *took_next = true;
+        return take_ceiling(&line->asked, next);
+    } else if (strncmp(option, "--ceiling=", strlen("--ceiling=")) == 0) {
+        return take_ceiling(&line->asked, option + strlen("--ceiling="));
     } else {
         return not_usable("unknown option: '%s'", option);
     }
@@ -2447,6 +2565,10 @@ static int do_line(const command_line *line) {
         not_usable("--slacks belongs to speeds");
         return bad_usage(of);
     }
+    if (of->does != plan && line->asked.limited) {
+        not_usable("--ceiling belongs to plan");
+        return bad_usage(of);
+    }
     /* Without --slacks speeds takes no order. */
     const size_t most = of->does == speeds && !line->asked.slacks ? 1 : of->most;
     if (given < of->least || (most != 0 && given > most)) {
@@ -2458,7 +2580,7 @@ static int do_line(const command_line *line) {
 }
 
 int main(int count, char **words) {
-    command_line line = {false, false, NULL, {false, false, false, 0, NULL, NULL, 0}};
+    command_line line = {false, false, NULL, {false, false, false, 0, false, 0, NULL, NULL, 0}};
     if (!jb_fits()) {
         return not_usable("the archive has interface %" PRIu32 " and this program was compiled for %u", jb_version(),
                           JB_VERSION);

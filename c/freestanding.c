@@ -2,9 +2,9 @@
  * The library without a C library: the two functions that the archive needs, an
  * entry of its own, and a run of case P1, with row 3 to follow row 1, from its sheet to
  * its last row, with LO rows dropped on the way; then the sheet is written back, a report
- * of its rows, its least G is asked for, and the next sheet takes its place on the same
- * clock. It shows what a board has to provide. Build
- * and run it on x86-64 Linux:
+ * of its rows, its least G is asked for, it is planned with few trials and with enough, and
+ * the next sheet takes its place on the same clock. It shows what a board has to provide.
+ * Build and run it on x86-64 Linux:
  *
  *     gcc -std=c11 -O2 -ffreestanding -nostdlib -static -fno-tree-loop-distribute-patterns \
  *         -o freestanding c/freestanding.c target/staticlib/libjasminebrace.a
@@ -89,6 +89,20 @@ static int next_sheet(void) {
     return jb_work_slot(&run, 5, &row) == JB_OK && row == 1 && jb_is_done(&run, 1) && run.clock == 20 ? 0 : 16;
 }
 
+/* The sheet takes 6 trials (rule 23.2): row 2 fails at the lowest place and row 4 passes, at the next row 2 fails and row 3 passes, then rows 2 and 1 pass. */
+static int few_trials(void) {
+    uint8_t order[JB_ROWS];
+    uint64_t left = 1;
+    uint32_t trials;
+    if (jb_plan_table_within(&table, 5, order, &left, &trials) != JB_OVER_CEILING || trials != 5 || left != 0 || order[0] != 0) {
+        return 17;
+    }
+    if (jb_plan_table_within(&table, jb_most_trials(table.n), order, &left, &trials) != JB_OK || trials != 6 || order[3] != 4) {
+        return 18;
+    }
+    return next_sheet();
+}
+
 static int steps(void) {
     uint8_t order[JB_ROWS];
     uint64_t left;
@@ -141,7 +155,7 @@ static int steps(void) {
     if (jb_least_degraded_speed(&table, &speed, order) != JB_OK || speed != table.degraded) {
         return 11;
     }
-    return next_sheet();
+    return few_trials();
 }
 
 /* Called by _start on an aligned stack. Leaves by the system call exit (60). */

@@ -53,6 +53,17 @@
  * What is promised of rows from a fresh record on is promised of the new ones from the
  * committed record on, by the supplies from their own least release on.
  *
+ * Ceilings. The planner fills the places of an order from the lowest up, and tries rows at
+ * each until one passes; one trial is counted for each row that is tried at a place. A
+ * table of n rows takes at most n * (n + 1) / 2 trials (jb_most_trials), 2,080 trials with
+ * 64 rows. Whoever plans beside other work can hand in a ceiling (jb_plan_table_within):
+ * no more trials are made than that, and if the table takes more of them, the answer is
+ * 19. It says neither that a correct order exists nor that none does, and nothing of that
+ * planning is kept: plan again with a higher ceiling. An answer of 0 or 7 is the same at
+ * every higher ceiling. A ceiling bounds trials and not time: docs/FIRMWARE.md and
+ * docs/BENCHMARKS.md say what it does for time. Every other call that plans makes as many
+ * trials as it takes, and never answers 19.
+ *
  * Memory. Every pointer points to memory of the size that its parameter names,
  * aligned for its type. It is not null, but for one case: the functions of the
  * last part take null for a list, or for bytes to write to, where their length is
@@ -76,6 +87,7 @@
  *     jb_write                 5,120
  *     jb_field                   512
  *     jb_plan                 10,240
+ *     jb_plan_within          TO-MEASURE
  *     jb_ask                  12,032
  *     jb_least_degraded       13,824
  *     jb_least_normal         13,824
@@ -106,15 +118,15 @@
  * A handler that calls these functions saves and restores whatever the
  * convention lets a call change: all xmm registers too. Each call needs a stack
  * aligned to 16 bytes and a clear direction flag, as the convention asks: a
- * handler sees to both before it calls. The calls that plan (jb_plan, jb_ask,
- * jb_least_degraded, jb_least_normal, jb_read_least_degraded,
- * jb_read_least_normal and jb_program) use the red zone, the 128 bytes below the
- * stack pointer: a handler that interrupts one of them needs a stack of its own;
- * else plan before interrupts are let in. All other calls, those of every slot
- * among them, keep nothing below the stack pointer. The convention allows it to
- * your memcpy and memset and to your own code too: if they use it, what was said
- * holds of them; if they do not (gcc -mno-red-zone), a handler may run on their
- * stack.
+ * handler sees to both before it calls. The calls that plan (jb_plan,
+ * jb_plan_within, jb_ask, jb_least_degraded, jb_least_normal,
+ * jb_read_least_degraded, jb_read_least_normal and jb_program) use the red zone,
+ * the 128 bytes below the stack pointer: a handler that interrupts one of them
+ * needs a stack of its own; else plan before interrupts are let in. All other
+ * calls, those of every slot among them, keep nothing below the stack pointer.
+ * The convention allows it to your memcpy and memset and to your own code too:
+ * if they use it, what was said holds of them; if they do not (gcc
+ * -mno-red-zone), a handler may run on their stack.
  * The stack figures were measured with Linux's memcpy and memset and hold no
  * frames of interrupts: add yours. tools/firmware_test.sh looks through the
  * archive's code for what is said here of registers and the red zone.
@@ -142,7 +154,7 @@
  *    a record, is again 256 bytes longer, the line of a row in a sheet 8 bytes; 13, 14
  *    and 15 are new, and 6 is given for a row that stands above the one it follows too.
  *    Its first archives have no jb_ask and no jb_commit; a commit alone gives 16, 17
- *    and 18.
+ *    and 18. The next ones have no jb_plan_within, which alone gives 19.
  */
 #define JB_VERSION 5u
 
@@ -164,6 +176,7 @@ enum jb_limit {
     JB_MOST_WORK = 1000000,    /* largest work of a row, in work units */
     JB_LAST_DEADLINE = 1000000, /* latest deadline, in slots */
     JB_LAST_CLOCK = 2000000,   /* the clock at which no slot is worked any more, in slots */
+    JB_MOST_TRIALS = 2080,     /* most trials that planning a table takes: 64 * 65 / 2, those of 64 rows */
     JB_TABLE_WORDS = 388,      /* 32-bit words in a table */
     JB_STATE_WORDS = 193,      /* 32-bit words in the state of a run */
     JB_FIELD = 8,              /* bytes in a field of a sheet */
@@ -177,7 +190,7 @@ enum jb_limit {
     JB_LONGEST_REPORT = 3285,  /* bytes in a report of 64 rows: 51 for each row + 21 */
     JB_PROGRAM_INPUT = 3170,   /* bytes of its input that the planning program looks at */
     JB_PROGRAM_TEXT = 1617,    /* most bytes that the planning program writes */
-    JB_LAST_NUMBER = 18        /* largest number that a call returns */
+    JB_LAST_NUMBER = 19        /* largest number that a call returns */
 };
 
 /* Levels of a row. */
@@ -192,7 +205,8 @@ enum jb_level {
  * every row, then for 13, 14 and 15 row by row, and the first that is found is returned;
  * 6 comes after these, 10 last. A record whose table or order is refused by one of them
  * is unsound (9). A commit is checked for 9, then for these in its proposal, then for 16,
- * 17 and 18. jb_field, jb_program, jb_program_text and jb_version return no such
+ * 17 and 18. Planning at a ceiling answers 19, or else 0 or 7, only if none of the checks on
+ * its table refuses. jb_field, jb_program, jb_program_text and jb_version return no such
  * number, and jb_judge_rows returns a word in which it is packed.
  */
 enum jb_number {
@@ -219,7 +233,9 @@ enum jb_number {
     JB_FOLLOWS_LOW = 15,    /* a row is HI and the row that it follows LO */
     JB_NOT_CORRECT = 16,    /* the order to be committed is not correct */
     JB_ROW_OPEN = 17,       /* a row of the running sheet is open: neither done nor dropped */
-    JB_RELEASED_BEFORE = 18 /* a row to be committed has its release below the clock */
+    JB_RELEASED_BEFORE = 18, /* a row to be committed has its release below the clock */
+    JB_OVER_CEILING = 19     /* planning the table takes more trials than the ceiling; it says
+                                neither that a correct order exists nor that none does */
 };
 
 /* What a number means, in words. The text lasts as long as the program. */
@@ -247,6 +263,7 @@ static inline const char *jb_words(uint32_t number) {
     case JB_NOT_CORRECT: return "the order to be committed is not correct";
     case JB_ROW_OPEN: return "a row of the running sheet is open";
     case JB_RELEASED_BEFORE: return "a row of the new sheet has its release below the clock";
+    case JB_OVER_CEILING: return "planning the table takes more trials than the ceiling";
     default: return "this number is never returned";
     }
 }
@@ -285,6 +302,9 @@ static inline const char *jb_remedy(uint32_t number) {
     case JB_RELEASED_BEFORE:
         return "count releases and deadlines in slots of the running clock: let the new sheet start at the clock of its "
                "commit or later; from clock 1,000,000 slots on begin a new run with a fresh record";
+    case JB_OVER_CEILING:
+        return "plan again with a higher ceiling: n * (n + 1) / 2 trials are always enough for n rows, 2,080 trials for every "
+               "table";
     default: return "compare the header with the archive by jb_fits()";
     }
 }
@@ -357,6 +377,7 @@ JB_STATIC_ASSERT(JB_PLACE_LINE == 5 * JB_FIGURE + 1, "the line of a place has fi
 JB_STATIC_ASSERT(JB_TOTALS_LINE == 2 * JB_FIGURE + 1, "the last line of a report has two figures");
 JB_STATIC_ASSERT(JB_LONGEST_REPORT == JB_ROWS * JB_PLACE_LINE + JB_TOTALS_LINE, "the longest report has 64 rows");
 JB_STATIC_ASSERT(JB_PROGRAM_INPUT == JB_LONGEST_SHEET + 1, "the program looks at one byte above the longest sheet");
+JB_STATIC_ASSERT(JB_MOST_TRIALS == JB_ROWS * (JB_ROWS + 1) / 2, "at a place at most the rows left are tried");
 JB_STATIC_ASSERT(JB_PROGRAM_TEXT == 17 + 25 * JB_ROWS, "a text is a first line of 17 bytes and 25 bytes for each place");
 
 #undef JB_STATIC_ASSERT
@@ -377,6 +398,7 @@ uint32_t jb_write(const uint32_t table[388], uint8_t *sheet, size_t room, uint32
 uint32_t jb_field(uint32_t figure, uint8_t field[8]);
 
 uint32_t jb_plan(const uint32_t table[388], uint8_t order[64], uint64_t *left);
+uint32_t jb_plan_within(const uint32_t table[388], uint32_t ceiling, uint8_t order[64], uint64_t *left, uint32_t *trials);
 uint32_t jb_ask(const uint8_t *sheet, size_t length, uint32_t table[388], uint8_t order[64], uint64_t *left);
 uint32_t jb_least_degraded(const uint32_t table[388], uint32_t *speed, uint8_t order[64]);
 uint32_t jb_least_normal(const uint32_t table[388], uint32_t *speed, uint8_t order[64]);
@@ -486,6 +508,38 @@ static inline uint32_t jb_program_text(const uint8_t *input, size_t length, uint
  */
 static inline uint32_t jb_plan_table(const jb_table *table, uint8_t order[JB_ROWS], uint64_t *left) {
     return jb_plan(jb_table_words(table), order, left);
+}
+
+/*
+ * The most trials that planning a table of so many rows can take, rows * (rows + 1) / 2: at
+ * this ceiling, and at every higher one, jb_plan_table_within does not answer 19. 0 for 0
+ * rows. Above 64 rows it is 2,080, as for 64, whatever the figure: no table that passes the
+ * checks has more rows.
+ */
+static inline uint32_t jb_most_trials(uint32_t rows) {
+    return rows < JB_ROWS ? rows * (rows + 1) / 2 : (uint32_t)JB_MOST_TRIALS;
+}
+
+/*
+ * Plans as jb_plan_table does, with no more trials than a ceiling. One trial is counted for
+ * each row that is tried at a place, the one that gets the place among them. A row that is
+ * passed over because another one that has no place yet follows it counts none.
+ * In:      table, any values; ceiling, 0 to 4,294,967,295 trials.
+ * Out:     0 as jb_plan_table, with the same order; left is 0, and trials is how many the
+ *          table takes, at most the ceiling.
+ * Refused: 7 as jb_plan_table, with the same rows left; order is all zero, and trials is how
+ *          many it takes to find that out, at most the ceiling.
+ *          19 if the table takes more trials than the ceiling: order is all zero, left is 0,
+ *          and trials is the ceiling. It says neither that a correct order exists nor that
+ *          none does. Nothing is kept: another call begins with the first trial.
+ *          3, 4, 11, 5 or 12 to 15 for the table, whatever the ceiling: order is all zero,
+ *          left and trials are 0.
+ * An answer other than 19 is the same at every higher ceiling, with its order, its rows left
+ * and its trials.
+ */
+static inline uint32_t jb_plan_table_within(const jb_table *table, uint32_t ceiling, uint8_t order[JB_ROWS], uint64_t *left,
+                                            uint32_t *trials) {
+    return jb_plan_within(jb_table_words(table), ceiling, order, left, trials);
 }
 
 /*

@@ -1,11 +1,12 @@
 //! The tables and answers of cases P1 to P4 (section 13 of the rules), and cases,
 //! runs and reports worked out by hand, for tests here and of the compiled library. Those
-//! in which rows follow rows are in `waits`, and commits in `commits`.
+//! in which rows follow rows are in `waits`, commits in `commits`, and ceilings in `ceilings`.
 
+pub mod ceilings;
 pub mod commits;
 pub mod waits;
 
-use crate::order::{order_of, Order, NO_ORDER};
+use crate::order::{order_of, Order};
 use crate::plan::Plan;
 use crate::speeds::{Least, Sought, BOTH};
 use crate::table::{Row, Table, FIGURES};
@@ -65,11 +66,7 @@ pub fn ordered(rows: &[u8]) -> Plan {
 
 /// The planner's answer 7 with this word of rows left.
 pub fn no_order(left: u64) -> Plan {
-    Plan {
-        number: 7,
-        order: NO_ORDER,
-        left,
-    }
+    Plan::refused(7, left)
 }
 
 /// A table that has an order with a loading time of 0 slots, another one with 1

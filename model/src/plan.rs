@@ -1,4 +1,4 @@
-//! Worst finish, promised moment, slack and the planner's choice.
+//! Worst finish, promised moment, slack, the planner's choice and its trials.
 
 use crate::order::{order_of, Order, NO_ORDER};
 use crate::run::{step, State};
@@ -119,7 +119,7 @@ pub fn passes_lowest(table: &Table, left: &[u8], placed: &[u8], row: u8) -> bool
 }
 
 /// The planner's answer: 0 with an order (rule 10.0), 7 with the rows left and
-/// an order of zeros (rule 10.7), 3, 4, 11, 5 or 12 to 15 with all zero.
+/// an order of zeros (rule 10.7), 3, 4, 11, 5, 12 to 15 or 19 with all zero.
 #[derive(Clone, Copy, Debug, PartialEq, Eq)]
 pub struct Plan {
     pub number: u32,
@@ -129,6 +129,15 @@ pub struct Plan {
 }
 
 impl Plan {
+    /// The answer with this number and this word of rows left, and with an order of zeros.
+    pub fn refused(number: u32, left: u64) -> Plan {
+        Plan {
+            number,
+            order: NO_ORDER,
+            left,
+        }
+    }
+
     /// How many rows are left: the set bits of the word (rule 4.9).
     pub fn rows_left(&self) -> u32 {
         (0..64).filter(|&bit| (self.left >> bit) % 2 == 1).count() as u32
@@ -140,53 +149,73 @@ pub fn word_of(rows: &[u8]) -> u64 {
     rows.iter().map(|&row| 1u64 << (row - 1)).sum()
 }
 
-/// The planner's choice: from the lowest place on, each goes to the first row of
-/// the trial sequence that is tried and passes (rules 4.1, 4.5 and 4.11). Where every row
-/// that is tried fails, the answer is 7 (rule 4.6).
+/// The planner's answer at a ceiling, and the trials that it made (rule 23.4).
+#[derive(Clone, Copy, Debug, PartialEq, Eq)]
+pub struct Counted {
+    pub plan: Plan,
+    pub trials: u32,
+}
+
+/// The most trials that a table of so many rows can take: k at each place where k rows are
+/// left, which is n × (n + 1) / 2 (rule 23.3). It is exact up to 65,535 rows. A table that
+/// states more is refused like any of more than 64 rows, whatever the ceiling.
+pub fn most_trials(rows: u32) -> u32 {
+    rows.saturating_mul(rows.saturating_add(1)) / 2
+}
+
+/// The planner's choice without a ceiling, which is the one at the most trials that there
+/// can be (rule 23.9).
 pub fn plan(table: &Table) -> Plan {
     plan_and_trials(table).0
 }
 
-/// The planner's choice, and how many trials it takes: one for each row that is
-/// tried at a place, the one that passes among them (rules 4.2 and 4.4).
+/// The same, and how many trials it takes: the count of the table (rule 23.2).
 pub fn plan_and_trials(table: &Table) -> (Plan, u32) {
-    let refusal = check_table(table);
-    if refusal != 0 {
-        let plan = Plan {
-            number: refusal,
-            order: NO_ORDER,
-            left: 0,
-        };
-        return (plan, 0);
-    }
+    let Counted { plan, trials } = plan_within(table, most_trials(table.n));
+    (plan, trials)
+}
+
+/// The planner's choice at a ceiling, after the checks on the table (rule 11.11). For a
+/// table that they refuse no trial is made (rule 23.7).
+pub fn plan_within(table: &Table, ceiling: u32) -> Counted {
+    let mut trials = 0;
+    let plan = match check_table(table) {
+        0 => choose(table, ceiling, &mut trials),
+        refusal => Plan::refused(refusal, 0),
+    };
+    Counted { plan, trials }
+}
+
+/// The planner's choice for an accepted table: from the lowest place on, each goes to the
+/// first row of the trial sequence that is tried and passes (rules 4.1, 4.5 and 4.11). Where
+/// every row that is tried fails, the answer is 7 (rule 4.6). One trial is counted for each
+/// row that is tried (rule 23.1); where another one would go above the ceiling it is not
+/// made, and the answer is 19 (rules 23.5 and 23.6).
+fn choose(table: &Table, ceiling: u32, trials: &mut u32) -> Plan {
     let rows: Vec<u8> = (1..=table.n as u8).collect();
     let mut left = trial_sequence(table, &rows);
     let mut placed: Vec<u8> = Vec::new();
-    let mut trials = 0;
     while !left.is_empty() {
-        let first_to_pass = tried(table, &left).into_iter().find(|&row| {
-            trials += 1;
-            passes_lowest(table, &left, &placed, row)
-        });
-        match first_to_pass {
-            Some(row) => {
-                left.retain(|&other| other != row);
-                placed.insert(0, row);
+        let mut first_to_pass = None;
+        for row in tried(table, &left) {
+            if *trials == ceiling {
+                return Plan::refused(19, 0);
             }
-            None => {
-                let plan = Plan {
-                    number: 7,
-                    order: NO_ORDER,
-                    left: word_of(&left),
-                };
-                return (plan, trials);
+            *trials += 1;
+            if passes_lowest(table, &left, &placed, row) {
+                first_to_pass = Some(row);
+                break;
             }
         }
+        let Some(row) = first_to_pass else {
+            return Plan::refused(7, word_of(&left));
+        };
+        left.retain(|&other| other != row);
+        placed.insert(0, row);
     }
-    let plan = Plan {
+    Plan {
         number: 0,
         order: order_of(&placed),
         left: 0,
-    };
-    (plan, trials)
+    }
 }

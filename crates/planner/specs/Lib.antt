@@ -1,9 +1,2 @@
-pub mod Lines
-pub mod Keys
-pub mod Sequence
-pub mod Prepared
-pub mod Opening
-pub mod Taking
-pub mod Turns
 pub mod Placing
 pub mod Promise

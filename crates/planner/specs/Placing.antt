@@ -23,7 +23,7 @@ use Rattle.theory.specs.Choosing.{same-sequence, lowest-stands, keep-in}
 use Rattle.sweep.specs.Masks.{bit, isLeft, cleared-ones}
 use Rattle.sweep.specs.Holds.{Holds, count-keep-le, holds-start, holds-without, holds-once, holds-row, holds-in, keep-without}
 use Rattle.sweep.specs.Padded.{zeros, padded-zeros}
-use Rattle.planner.specs.Prepared.{leftOf}
+use Rattle.trials.specs.Prepared.{leftOf}
 
 -- the rows placed so far, highest first, where the places above, as many as `place` says, are open
 abbrev pub placedBelow : Table → List ℕ → ℕ → List ℕ

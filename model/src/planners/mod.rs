@@ -190,7 +190,7 @@ trait Sweeps {
 fn planned<By: Sweeps>(table: &Table) -> (Plan, u32) {
     let refusal = check_table(table);
     if refusal != 0 {
-        return (refused(refusal, 0), 0);
+        return (Plan::refused(refusal, 0), 0);
     }
     let n = table.n as usize;
     let mut trials = Trials::of(table);
@@ -200,7 +200,7 @@ fn planned<By: Sweeps>(table: &Table) -> (Plan, u32) {
     for place in (0..n).rev() {
         let Some(turn) = sweeps.first_to_pass(&trials, &left) else {
             tried += trials.to_try().count_ones();
-            return (refused(7, trials.word()), tried);
+            return (Plan::refused(7, trials.word()), tried);
         };
         tried += trials.up_to(turn);
         order[place] = trials.rows[turn];
@@ -214,12 +214,4 @@ fn planned<By: Sweeps>(table: &Table) -> (Plan, u32) {
         left: 0,
     };
     (plan, tried)
-}
-
-fn refused(number: u32, left: u64) -> Plan {
-    Plan {
-        number,
-        order: NO_ORDER,
-        left,
-    }
 }

@@ -13,10 +13,10 @@ use Rattle.theory.specs.Facts.{facts}
 use Rattle.sweep.specs.Masks.{bit, cleared-ones, one-shl}
 use Rattle.sweep.specs.Padded.{zeros}
 use Rattle.periods.specs.Trying.{KnownAt}
-use Rattle.planner.specs.Prepared.{leftOf}
-use Rattle.planner.specs.Taking.{Unplaced, Opened, Taken, unplaced-start}
-use Rattle.planner.specs.Turns.{KnownIn, known-same, entries-small, followed-few, opened-now, normal-speed, degraded-speed, degraded-parts, open-entries, normal-first, degraded-first, low-taken, high-taken, taken-range}
-use Rattle.planner.specs.Turns.{row-is, row-some, normal-within, degraded-within, unplaced-next, normal-next, degraded-next}
+use Rattle.trials.specs.Prepared.{leftOf}
+use Rattle.trials.specs.Taking.{Unplaced, Opened, Taken, unplaced-start}
+use Rattle.trials.specs.Turns.{KnownIn, known-same, entries-small, followed-few, opened-now, normal-speed, degraded-speed, degraded-parts, open-entries, normal-first, degraded-first, low-taken, high-taken, taken-range}
+use Rattle.trials.specs.Turns.{row-is, row-some, normal-within, degraded-within, unplaced-next, normal-next, degraded-next}
 use Rattle.planner.specs.Placing.{Placing, placing-start, placing-done, placing-stuck, placing-turn, taker-range, taker-bit}
 use Rattle.planner.proofs.choose.Statement.{statement}
 use Rattle.planner.proofs.choose.Tie as tie

@@ -8,10 +8,10 @@ use Rattle.sweep.specs.CapColumn.{limited, limited-parts, caps-normal, caps-deg
 use Rattle.sweep.specs.Padded.{Rows}
 use Rattle.sweep.specs.Sorts.{sorted-rows}
 use Rattle.theory.specs.Facts.{facts}
-use Rattle.planner.specs.Keys.{keys-of, soon-at}
-use Rattle.planner.specs.Prepared.{prepared}
-use Rattle.planner.proofs.prepare.Statement.{statement}
-use Rattle.planner.proofs.prepare.Tie as tie
+use Rattle.trials.specs.Keys.{keys-of, soon-at}
+use Rattle.trials.specs.Prepared.{prepared}
+use Rattle.trials.proofs.prepare.Statement.{statement}
+use Rattle.trials.proofs.prepare.Tie as tie
 
 -- the places of the code, each from a later one: the keys are made, the rows are sorted by release and by trial key, the words of both levels and
 -- the needs are made

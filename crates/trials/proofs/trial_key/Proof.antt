@@ -1,8 +1,8 @@
 -- Each branch returns the key that the level asks for; a deadline within its limit leaves no difference below zero.
 use borrow.Author.Needs.{needs}
 use borrow.Author.Tests.{eq-eqb, ne-eqb}
-use Rattle.planner.proofs.trial_key.Statement.{statement}
-use Rattle.planner.proofs.trial_key.Tie as tie
+use Rattle.trials.proofs.trial_key.Statement.{statement}
+use Rattle.trials.proofs.trial_key.Tie as tie
 
 sub-late : tie.Need-sub-late
 sub-late c = search needs

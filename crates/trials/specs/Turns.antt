@@ -20,10 +20,10 @@ use Rattle.sweep.specs.Masks.{bit}
 use Rattle.sweep.specs.Padded.{zeros}
 use Rattle.periods.specs.Entries.{Entries}
 use Rattle.periods.specs.Trying.{Speed, KnownAt, Open, inTime, FirstIn, Parts, lowInTime}
-use Rattle.planner.specs.declared.Trials.{Trials}
-use Rattle.planner.specs.Prepared.{leftOf, trialsOf}
-use Rattle.planner.specs.Opening.{openTo}
-use Rattle.planner.specs.Taking.{Unplaced, Opened, Taken, speed-of, opened, opening, unplaced-turn, taken-low, taken-high, taken-row, known-first, known-turn, period-place, parts-of}
+use Rattle.trials.specs.declared.Trials.{Trials}
+use Rattle.trials.specs.Prepared.{leftOf, trialsOf}
+use Rattle.trials.specs.Opening.{openTo}
+use Rattle.trials.specs.Taking.{Unplaced, Opened, Taken, speed-of, opened, opening, unplaced-turn, taken-low, taken-high, taken-row, known-first, known-turn, period-place, parts-of}
 
 -- what is known of the same busy periods
 pub known-same : (queue : List ℕ) (n : ℕ) (release deadline cap entry : List ℕ) (left : ℕ) (p p' : List ℕ) (c c' k k' : ℕ) → p ≡ p' → c ≡ c' → k ≡ k'

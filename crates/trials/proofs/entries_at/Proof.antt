@@ -11,8 +11,8 @@ use Rattle.rules.specs.Rows.{at}
 use Rattle.sweep.specs.Masks.{bit}
 use Rattle.sweep.specs.Padded.{rows-within}
 use Rattle.periods.specs.Marks.{marks, marks-clear, marked, not-marked}
-use Rattle.planner.proofs.entries_at.Statement.{statement}
-use Rattle.planner.proofs.entries_at.Tie as tie
+use Rattle.trials.proofs.entries_at.Statement.{statement}
+use Rattle.trials.proofs.entries_at.Tie as tie
 
 abbrev Inv-loop : tie.InvT-loop
 Inv-loop sequence level n wanted word₀ k₀ word k = (k ≤ n) × (word ≡ marks (λ i. eqb (at level i) wanted) (take k sequence))

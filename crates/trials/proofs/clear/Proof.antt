@@ -2,9 +2,9 @@
 use borrow.Author.Needs.{needs}
 use mathlib.Core.Path.{sym, _∙_}
 use Rattle.sweep.specs.Masks.{left-bit}
-use Rattle.planner.specs.Opening.{cleared-set, cleared-unset}
-use Rattle.planner.proofs.clear.Statement.{statement}
-use Rattle.planner.proofs.clear.Tie as tie
+use Rattle.trials.specs.Opening.{cleared-set, cleared-unset}
+use Rattle.trials.proofs.clear.Statement.{statement}
+use Rattle.trials.proofs.clear.Tie as tie
 
 has-requires : tie.Need-has-requires
 has-requires c κs = search needs

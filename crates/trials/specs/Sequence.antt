@@ -16,7 +16,7 @@ use Rattle.theory.specs.Sorting.{Sorted, insertBy, sortBy, sorted-sort, same-so
 use Rattle.theory.specs.Facts.{rows-in, TableFacts}
 use Rattle.sweep.specs.Holds.{count-dropped, count-keep-le}
 use Rattle.sweep.specs.Finds.{sorted-keep}
-use Rattle.planner.specs.Keys.{lateness, trialKey}
+use Rattle.trials.specs.Keys.{lateness, trialKey}
 
 kept-passes : (p : ℕ → Bool) (l : List ℕ) (x : ℕ) → In x (keep p l) → p x ≡ true
 kept-passes p l x i = by-bool (p x) (λ e. e) (λ e. absurd (omega (arith, count-dropped p x l e)))

@@ -7,8 +7,8 @@ use mathlib.Core.Path.{_≡_, refl, sym, ap, _∙_}
 use mathlib.Core.List.{List}
 use lib.ListN.{getD, set}
 use Rattle.periods.specs.Entries.{entriesTo}
-use Rattle.planner.proofs.entries.Statement.{statement}
-use Rattle.planner.proofs.entries.Tie as tie
+use Rattle.trials.proofs.entries.Statement.{statement}
+use Rattle.trials.proofs.entries.Tie as tie
 
 abbrev Inv-loop : tie.InvT-loop
 Inv-loop sequence n out₀ k₀ out k = (k ≤ n) × (out ≡ entriesTo sequence k)

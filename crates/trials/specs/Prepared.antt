@@ -22,9 +22,9 @@ use Rattle.sweep.specs.Finds.{byRelease}
 use Rattle.sweep.specs.CapColumn.{partNeeds}
 use Rattle.periods.specs.Marks.{marks}
 use Rattle.periods.specs.Entries.{entriesTo}
-use Rattle.planner.specs.declared.Trials.{Trials}
-use Rattle.planner.specs.Keys.{trialKey, sort-eq}
-use Rattle.planner.specs.Sequence.{sequence-sort}
+use Rattle.trials.specs.declared.Trials.{Trials}
+use Rattle.trials.specs.Keys.{trialKey, sort-eq}
+use Rattle.trials.specs.Sequence.{sequence-sort}
 
 -- the caps, in slots, at supplies of at least s work units per slot
 abbrev pub capsAt : Table → ℕ → List ℕ

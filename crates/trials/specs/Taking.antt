@@ -38,9 +38,9 @@ use Rattle.periods.specs.Busy.{row, LeftAt}
 use Rattle.periods.specs.Periods.{Queue, Known, known-start, known-placed}
 use Rattle.periods.specs.Entries.{entriesTo, entry-is, entries-below}
 use Rattle.periods.specs.Trying.{Speed, Parts, KnownAt, Stands, Open, inTime, partInTime, lowInTime, FirstIn}
-use Rattle.planner.specs.Lines.{At, place-of, apart, sorted-rising, first-parts, first-kept, first-fails, keep-both, keep-append, keep-keep, keep-twice, keep-neither}
-use Rattle.planner.specs.Prepared.{capsAt, atLevel, leftOf, every-take, every-length}
-use Rattle.planner.specs.Opening.{openTo, open-inside, open-clear, open-whole}
+use Rattle.trials.specs.Lines.{At, place-of, apart, sorted-rising, first-parts, first-kept, first-fails, keep-both, keep-append, keep-keep, keep-twice, keep-neither}
+use Rattle.trials.specs.Prepared.{capsAt, atLevel, leftOf, every-take, every-length}
+use Rattle.trials.specs.Opening.{openTo, open-inside, open-clear, open-whole}
 
 -- the later of two clocks is in time if both are
 later-both : (a b d : ℕ) → leb a d && leb b d ≡ leb (max a b) d

@@ -7,9 +7,9 @@ use mathlib.Core.Path.{_≡_, refl, sym, ap, _∙_}
 use mathlib.Core.List.{map}
 use Rattle.rules.specs.Lists.{rowsTo}
 use Rattle.rules.specs.Choice.{padded}
-use Rattle.planner.specs.Keys.{keyIn, keys-more}
-use Rattle.planner.proofs.trial_keys.Statement.{statement}
-use Rattle.planner.proofs.trial_keys.Tie as tie
+use Rattle.trials.specs.Keys.{keyIn, keys-more}
+use Rattle.trials.proofs.trial_keys.Statement.{statement}
+use Rattle.trials.proofs.trial_keys.Tie as tie
 
 abbrev Inv-loop : tie.InvT-loop
 Inv-loop n level deadline out₀ k₀ out k = (k ≤ n) × (out ≡ padded (map (keyIn level deadline) (rowsTo k)))

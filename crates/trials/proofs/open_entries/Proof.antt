@@ -7,9 +7,9 @@ use mathlib.Core.Path.{_≡_, refl, sym, ap, _∙_}
 use mathlib.Core.Logic.{⊎-elim}
 use lib.ListN.{getD}
 use Rattle.rules.specs.Rows.{at}
-use Rattle.planner.specs.Opening.{cleared, openTo, open-follower, open-other, open-placed}
-use Rattle.planner.proofs.open_entries.Statement.{statement}
-use Rattle.planner.proofs.open_entries.Tie as tie
+use Rattle.trials.specs.Opening.{cleared, openTo, open-follower, open-other, open-placed}
+use Rattle.trials.proofs.open_entries.Statement.{statement}
+use Rattle.trials.proofs.open_entries.Tie as tie
 
 abbrev Inv-loop : tie.InvT-loop
 Inv-loop free follows entry n left unplaced tries₀ k₀ tries k = (k ≤ n) × (tries ≡ openTo follows entry left unplaced k)
