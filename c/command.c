@@ -1993,8 +1993,7 @@ static int explain(const request *asked) {
     if (asked->plain) {
         put_plain_fault(number, &sheet, left);
     } else if (number == JB_OK) {
-        printf("number 0: nothing is wrong; the sheet has %" PRIu32 " %s and a correct order\n", table.n,
-               table.n == 1 ? "row" : "rows");
+        printf("number 0: nothing is wrong; the sheet has %" PRIu32 " %s and a correct order\n", table.n, rows_word(table.n));
     } else {
         explain_number(stdout, number, &sheet, left);
     }

@@ -1,6 +1,6 @@
 /*
- * An example for firmware writers: plan a sheet once, then run it slot by slot, and
- * go on with the next sheet without a stop.
+ * An example for firmware writers: plan a sheet at power-up, beside other work, then run it
+ * slot by slot, and go on with the next sheet without a stop.
  * On the way the sheet is written back from the table that was read, and the
  * report of the planned order is printed. With supplies below N a LO row may be
  * dropped at its deadline, even while another row runs; with supplies of at least G it
@@ -36,6 +36,8 @@
 #include <string.h>
 
 enum { ALL_CLOSED = 0, REFUSED = 1, NOT_USABLE = 2 };
+
+enum { FEW_TRIALS = 5 }; /* that planning may make before the other work of power-up is done */
 
 /* What the processor supplies, slot by slot, in work units per slot. */
 typedef struct {
@@ -252,6 +254,20 @@ static uint32_t write_back(const jb_table *table, const uint8_t *sheet, size_t l
     return number;
 }
 
+/*
+ * Plans at power-up: with few trials first, and if the sheet takes more, with as many as it can take, once the other work is
+ * done. What is answered 0 or 7 is answered so at every higher ceiling, and at the second one here 19 does not come.
+ */
+static uint32_t plan(const jb_table *table, uint8_t order[JB_ROWS], uint64_t *left) {
+    uint32_t trials;
+    uint32_t number = jb_plan_table_within(table, FEW_TRIALS, order, left, &trials);
+    if (number == JB_OVER_CEILING) {
+        /* Firmware does its other work here. */
+        number = jb_plan_table_within(table, jb_most_trials(table->n), order, left, &trials);
+    }
+    return number;
+}
+
 /* Reads and plans a sheet and makes the fresh record of its run. */
 static int begin(const uint8_t *sheet, size_t length, jb_run *run) {
     static jb_table table;
@@ -265,7 +281,7 @@ static int begin(const uint8_t *sheet, size_t length, jb_run *run) {
     if (number != JB_OK) {
         return refused(number);
     }
-    number = jb_plan_table(&table, order, &left);
+    number = plan(&table, order, &left);
     if (number == JB_NO_ORDER) {
         return no_order(left);
     }

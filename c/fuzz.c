@@ -355,6 +355,7 @@ enum {
     READ,
     WRITE,
     PLAN,
+    PLAN_WITHIN,
     ASK,
     LEAST_DEGRADED,
     LEAST_NORMAL,
@@ -378,6 +379,7 @@ static const struct {
     [READ] = {"read", {0, 1, 2, 3, 4, 11, 5, 12, 13, 14, 15, END}},
     [WRITE] = {"write", {0, 3, 4, 11, 5, 12, 13, 14, 15, 10, END}},
     [PLAN] = {"plan", {0, 3, 4, 11, 5, 12, 13, 14, 15, 7, END}},
+    [PLAN_WITHIN] = {"ceiling", {0, 3, 4, 11, 5, 12, 13, 14, 15, 7, 19, END}},
     [ASK] = {"ask", {0, 1, 2, 3, 4, 11, 5, 12, 13, 14, 15, 7, END}},
     [LEAST_DEGRADED] = {"least G", {0, 3, 4, 11, 5, 12, 13, 14, 15, 7, END}},
     [LEAST_NORMAL] = {"least N", {0, 3, 4, 11, 5, 12, 13, 14, 15, 7, END}},
@@ -394,6 +396,7 @@ static const struct {
     [PROGRAM] = {"program", {0, 1, 2, 3, 4, 11, 5, 12, 13, 14, 15, 7, END}},
 };
 static uint64_t counts[FUNCTIONS][NUMBERS];
+static uint64_t at_count[2]; /* ceilings that are the trials that a table takes, and one less */
 static uint64_t range_ends[2]; /* least speeds that are the first and the last of their range */
 static uint64_t loading_slots, working_slots; /* slots worked one by one that brought no work by K, and other ones of a row */
 static uint64_t dropped_for_need, dropped_running, dropped_resting; /* LO rows: for their allowance, at their deadlines as they ran, and as they did not */
@@ -677,6 +680,64 @@ static void try_plan(void) {
         expect(yes == 1 && slack >= 0, "the judge says yes to the planner's order");
         expect(are_waits_kept(table, order), "the planner's order keeps all waits");
     }
+}
+
+/* Plans the table lent before at a ceiling, in trials; gives the number. The results are in their buffers then. */
+static uint32_t plan_within(uint32_t ceiling) {
+    uint8_t *order = (uint8_t *)place(&out_at, JB_ROWS);
+    uint64_t *left = (uint64_t *)place(&left_at, sizeof *left);
+    uint32_t *trials = (uint32_t *)place(&word_at, sizeof *trials);
+    const uint32_t number = jb_plan_table_within((const jb_table *)table_at.start, ceiling, order, left, trials);
+    count(PLAN_WITHIN, number);
+    expect_unwritten(&table_at);
+    expect_guards(&out_at);
+    expect_guards(&left_at);
+    expect_guards(&word_at);
+    return number;
+}
+
+/* The results are this order, these rows left and so many trials. */
+static bool is_answer(const uint8_t order[JB_ROWS], uint64_t left, uint32_t trials) {
+    return memcmp(out_at.start, order, JB_ROWS) == 0 && memcmp(left_at.start, &left, sizeof left) == 0 &&
+           memcmp(word_at.start, &trials, sizeof trials) == 0;
+}
+
+/* A ceiling for a table that takes so many trials: 0, about that many, and any figure. */
+static uint32_t any_ceiling(uint32_t takes) {
+    switch (between(0, 4)) {
+    case 0: return 0;
+    case 1: return takes == 0 ? 0 : takes - 1;
+    case 2: return takes;
+    case 3: return between(0, takes + 1);
+    default: return any_figure();
+    }
+}
+
+/* At a ceiling the answer is the planner's if the table takes no more trials, else 19 with zeros and the ceiling as trials (rules 23.4, 23.5). */
+static void try_plan_within(void) {
+    static const uint8_t zeros[JB_ROWS];
+    const jb_table *table = (const jb_table *)table_at.start;
+    const uint32_t most = jb_most_trials(table->n);
+    uint8_t order[JB_ROWS];
+    uint64_t left;
+    uint32_t takes;
+    const uint32_t number = jb_plan_table(table, order, &left);
+    const bool planned = number == JB_OK || number == JB_NO_ORDER;
+    expect(plan_within(UINT32_MAX) == number, "the highest ceiling gives the planner's number");
+    memcpy(&takes, word_at.start, sizeof takes);
+    expect(is_answer(order, left, takes), "the highest ceiling gives the planner's order and rows left");
+    expect(planned ? takes >= 1 && takes <= most : takes == 0, "the trials of a table");
+    expect(number != JB_OK || takes >= table->n, "a trial at least for each place");
+    expect(plan_within(most) == number && is_answer(order, left, takes), "the most trials of its rows are enough");
+    const uint32_t ceiling = any_ceiling(takes);
+    const uint32_t got = plan_within(ceiling);
+    if (ceiling < takes) {
+        expect(got == JB_OVER_CEILING && is_answer(zeros, 0, ceiling), "19, zeros and the ceiling where it is too low");
+    } else {
+        expect(got == number && is_answer(order, left, takes), "the planner's answer where the ceiling is high enough");
+    }
+    at_count[0] += planned && ceiling == takes;
+    at_count[1] += planned && ceiling + 1 == takes;
 }
 
 /* The judge over the same rows as a list, as many as the table says up to all it has, says the same of rows that it takes. */
@@ -1323,6 +1384,7 @@ int main(int argc, char **argv) {
         fill_lent();
         try_write();
         try_plan();
+        try_plan_within();
         if (once_in(SEARCHED)) {
             try_least();
         }
@@ -1345,6 +1407,8 @@ int main(int argc, char **argv) {
     printf("rows that follow rows: %" PRIu64 " wait at a slot, %" PRIu64 " slots run one, %" PRIu64 " orders break a wait\n", waiting_rows,
            followers, broken_waits);
     expect(waiting_rows > 0 && followers > 0 && broken_waits > 0, "rows wait, run and stand wrong");
+    printf("ceilings: %" PRIu64 " are the trials that the table takes, %" PRIu64 " one less\n", at_count[0], at_count[1]);
+    expect(at_count[0] > 0 && at_count[1] > 0, "ceilings just high enough and just too low");
     printf("commits: %" PRIu64 " refused for a release, %" PRIu64 " with idle slots before the first one\n", late_starts, idle_starts);
     expect(late_starts > 0 && idle_starts > 0, "sheets start too early and later than they are committed");
     printf("least speeds: %" PRIu64 " the first of their range, %" PRIu64 " the last\n", range_ends[0], range_ends[1]);

@@ -3,9 +3,9 @@
  * the interface's number, the words for every number, lists of no entries, a
  * sheet written back, least speeds, reports, tables that are refused for K, a promised
  * part or a followed row, where a row of a run stands and how far it has loaded, LO rows
- * at their deadlines, needs, promised parts, rows that follow rows, new sheets that are
- * asked for and committed, and the packed verdict taken apart. It says how many things it looked at; exit status 1 if one is not as it
- * should be.
+ * at their deadlines, needs, promised parts, rows that follow rows, planning at a ceiling,
+ * new sheets that are asked for and committed, and the packed verdict taken apart. It says
+ * how many things it looked at; exit status 1 if one is not as it should be.
  */
 #include "jasminebrace.h"
 
@@ -308,6 +308,18 @@ static void look_at_no_verdict(uint32_t got, uint32_t number, uint32_t yes, uint
     look(got == number && yes == 0 && row == 0 && slack == 0, "no verdict, number", number);
 }
 
+/* Planning a table at this ceiling, in trials: the number, and all that it writes. */
+static void look_at_ceiling(const jb_table *table, uint32_t ceiling, uint32_t number, const uint8_t expected[JB_ROWS], uint64_t rows, uint32_t made) {
+    uint8_t order[JB_ROWS];
+    uint64_t left = 7;
+    uint32_t trials = 7000;
+    memset(order, 7, sizeof order);
+    const uint32_t got = jb_plan_table_within(table, ceiling, order, &left, &trials);
+    look(got == number, "number at a ceiling of", ceiling);
+    look(left == rows && memcmp(order, expected, sizeof order) == 0, "order and rows left at a ceiling of", ceiling);
+    look(trials == made, "trials made at a ceiling of", ceiling);
+}
+
 /* The judge refuses a table by this number, and a list of its rows. */
 static void look_at_refused_verdicts(const jb_table *table, const uint8_t order[JB_ROWS], uint32_t number) {
     jb_row rows[JB_ROWS];
@@ -354,6 +366,7 @@ static void look_at_no_commit(const jb_run *held, const jb_table *table, const u
  * written stays, and a record that has the table is unsound.
  */
 static void look_at_refused_table(const jb_table *table, uint32_t number) {
+    const uint8_t zeros[JB_ROWS] = {0};
     const uint8_t no_order[JB_ROWS] = {1, 1};
     uint8_t planned[JB_ROWS];
     uint32_t finishes[JB_ROWS];
@@ -364,6 +377,8 @@ static void look_at_refused_table(const jb_table *table, uint32_t number) {
     look_at_no_speed(table, NULL, 0, number, "no least speed");
     look(jb_write_table(table, NULL, 0, &length) == number && length == 0, "no sheet, number", number);
     look(jb_plan_table(table, planned, &left) == number && left == 0 && all_zero(planned, sizeof planned), "no plan, number", number);
+    look_at_ceiling(table, 0, number, zeros, 0, 0);
+    look_at_ceiling(table, UINT32_MAX, number, zeros, 0, 0);
     look_at_refused_verdicts(table, no_order, number);
     look(jb_worst_finishes(table, no_order, finishes) == number && all_zero(finishes, sizeof finishes), "no finishes, number", number);
     length = 7;
@@ -806,6 +821,80 @@ static void look_at_plans_of_followers(void) {
     }
 }
 
+/* A table of up to four rows without loading, what the planner answers to it, and the trials that it takes. */
+typedef struct {
+    uint32_t normal;
+    uint32_t degraded;
+    jb_row rows[4]; /* up to the first of no work */
+    uint32_t number;
+    uint8_t order[JB_ROWS];
+    uint64_t left;
+    uint32_t trials;
+} ceiling_case;
+
+/*
+ * Rule 13.17: P1; a skipped row, which counts none, in a table with an order and in one
+ * without; stuck after a place, and at once; a single row; the most trials that two rows
+ * can take.
+ */
+static const ceiling_case CEILING_CASES[] = {
+    {5, 2, {{0, 20, 10, JB_HI, 0, 0}, {5, 15, 10, JB_LO, 0, 0}, {5, 11, 19, JB_HI, 0, 0}, {0, 5, 5, JB_LO, 0, 0}}, JB_OK, {1, 2, 3, 4}, 0, 6},
+    {1, 1, {{0, 1, 9, JB_LO, 0, 0}, {0, 1, 5, JB_LO, 0, 1}, {0, 0, 0, 0, 0, 0}, {0, 0, 0, 0, 0, 0}}, JB_OK, {1, 2}, 0, 2},
+    {1, 1, {{0, 2, 2, JB_HI, 0, 0}, {0, 2, 3, JB_HI, 0, 1}, {0, 0, 0, 0, 0, 0}, {0, 0, 0, 0, 0, 0}}, JB_NO_ORDER, {0}, 3, 1},
+    {1, 1, {{0, 1, 9, JB_LO, 0, 0}, {0, 2, 2, JB_HI, 0, 0}, {0, 2, 2, JB_HI, 0, 0}, {0, 2, 2, JB_HI, 0, 0}}, JB_NO_ORDER, {0}, 14, 4},
+    {1, 1, {{0, 2, 2, JB_HI, 0, 0}, {0, 2, 2, JB_HI, 0, 0}, {0, 2, 2, JB_HI, 0, 0}, {0, 0, 0, 0, 0, 0}}, JB_NO_ORDER, {0}, 7, 3},
+    {1, 1, {{0, 1, 1, JB_HI, 0, 0}, {0, 0, 0, 0, 0, 0}, {0, 0, 0, 0, 0, 0}, {0, 0, 0, 0, 0, 0}}, JB_OK, {1}, 0, 1},
+    {1, 1, {{0, 2, 2, JB_LO, 0, 0}, {0, 1, 3, JB_HI, 0, 0}, {0, 0, 0, 0, 0, 0}, {0, 0, 0, 0, 0, 0}}, JB_OK, {1, 2}, 0, 3},
+};
+
+/* Every ceiling below the trials that a table takes is answered 19 with the ceiling as trials; from there on the answer is the planner's. */
+static void look_at_ceilings(void) {
+    const uint8_t zeros[JB_ROWS] = {0};
+    for (unsigned index = 0; index < sizeof CEILING_CASES / sizeof CEILING_CASES[0]; index++) {
+        const ceiling_case *expected = &CEILING_CASES[index];
+        const jb_table table = table_of_rows(expected->normal, expected->degraded, expected->rows, 4);
+        const uint32_t most = jb_most_trials(table.n);
+        uint8_t order[JB_ROWS];
+        uint64_t left = 7;
+        look(expected->trials <= most, "at most the trials of its rows, ceiling case", index);
+        for (uint32_t ceiling = 0; ceiling < expected->trials; ceiling++) {
+            look_at_ceiling(&table, ceiling, JB_OVER_CEILING, zeros, 0, ceiling);
+        }
+        for (uint32_t ceiling = expected->trials; ceiling <= most + 1; ceiling++) {
+            look_at_ceiling(&table, ceiling, expected->number, expected->order, expected->left, expected->trials);
+        }
+        look_at_ceiling(&table, UINT32_MAX, expected->number, expected->order, expected->left, expected->trials);
+        look(jb_plan_table(&table, order, &left) == expected->number, "number without a ceiling, ceiling case", index);
+        look(left == expected->left && memcmp(order, expected->order, sizeof order) == 0, "plan without a ceiling, ceiling case", index);
+    }
+}
+
+/* A table that the checks refuse takes no trial, whatever the ceiling: one of 0 rows, and one whose release is its deadline (rule 13.17). */
+static void look_at_refused_ceilings(void) {
+    const uint8_t zeros[JB_ROWS] = {0};
+    const jb_row row = {1, 1, 1, JB_HI, 0, 0};
+    const jb_table late = table_of_rows(1, 1, &row, 1);
+    const jb_table none = table_of_rows(1, 1, &row, 0);
+    const uint32_t ceilings[] = {0, 6};
+    for (unsigned index = 0; index < 2; index++) {
+        look_at_ceiling(&none, ceilings[index], JB_ROW_COUNT, zeros, 0, 0);
+        look_at_ceiling(&late, ceilings[index], JB_ROW_LIMITS, zeros, 0, 0);
+    }
+}
+
+/* What a table of so many rows takes at most, in trials; above 64 rows it is as for 64, up to the largest figure. */
+static void look_at_most_trials(void) {
+    const uint32_t above[] = {JB_ROWS, JB_ROWS + 1, 92681, 92682, 1u << 31, UINT32_MAX};
+    uint32_t sum = 0;
+    for (uint32_t rows = 0; rows <= JB_ROWS; rows++) {
+        sum += rows;
+        look(jb_most_trials(rows) == sum, "the most trials of rows", rows);
+    }
+    for (unsigned index = 0; index < sizeof above / sizeof above[0]; index++) {
+        look(jb_most_trials(above[index]) == 2080 && JB_MOST_TRIALS == 2080, "the most trials of rows", above[index]);
+    }
+}
+
 /* Asking for a sheet gives its table and the planner's order; of P3, which has none, it tells the rows left. */
 static void look_at_asking(void) {
     const char sheet[] = "       2       2       1       0\n"
@@ -934,6 +1023,9 @@ int main(void) {
     look_at_followers();
     look_at_orders_of_followers();
     look_at_plans_of_followers();
+    look_at_ceilings();
+    look_at_refused_ceilings();
+    look_at_most_trials();
     look_at_asking();
     look_at_commits();
     look_at_refused_commits();

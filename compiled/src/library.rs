@@ -9,7 +9,7 @@ use crate::raw::{
 };
 use model::judge::Verdict;
 use model::order::Order;
-use model::plan::Plan;
+use model::plan::{Counted, Plan};
 use model::proposal::{Asked, Committed};
 use model::record::{Forward, OneSlot, Record};
 use model::report::LONGEST_REPORT;
@@ -68,6 +68,42 @@ pub fn plan(table: &Table) -> Plan {
         number,
         order,
         left,
+    }
+}
+
+/// The planner at a ceiling, in trials (rule 23.4). It is asked twice, with other rubbish where
+/// the answer goes.
+pub fn plan_within(table: &Table, ceiling: u32) -> Counted {
+    let lent = Lent::new(table, &[0; ROWS]);
+    let answer = plan_within_over(RUBBISH, &lent.table, ceiling);
+    let again = plan_within_over(!RUBBISH, &lent.table, ceiling);
+    assert_eq!(answer, again, "it matters what stood there before");
+    lent.assert_unwritten(table, &[0; ROWS]);
+    answer
+}
+
+fn plan_within_over(rubbish: u32, table: &TableWords, ceiling: u32) -> Counted {
+    let mut order: Between<Order> = Between::new([rubbish as u8; ROWS], rubbish);
+    let mut left = Between::new(twice(rubbish), rubbish);
+    let mut trials = Between::new(rubbish, rubbish);
+    // SAFETY: as in `read`.
+    let number = unsafe {
+        raw::jb_plan_within(
+            table,
+            ceiling,
+            &mut order.lent,
+            &mut left.lent,
+            &mut trials.lent,
+        )
+    };
+    let plan = Plan {
+        number,
+        order: order.looked_around(),
+        left: left.looked_around(),
+    };
+    Counted {
+        plan,
+        trials: trials.looked_around(),
     }
 }
 

@@ -31,6 +31,13 @@ extern "C" {
         -> u32;
     pub fn jb_field(figure: u32, field: *mut [u8; 8]) -> u32;
     pub fn jb_plan(table: *const TableWords, order: *mut Order, left: *mut u64) -> u32;
+    pub fn jb_plan_within(
+        table: *const TableWords,
+        ceiling: u32,
+        order: *mut Order,
+        left: *mut u64,
+        trials: *mut u32,
+    ) -> u32;
     pub fn jb_ask(
         sheet: *const u8,
         length: usize,

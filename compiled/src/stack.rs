@@ -234,7 +234,7 @@ type Call = fn(&Inputs);
 
 /// Every export with the memory that it is lent. What is written lies outside
 /// the measured stack, in `Results`.
-const CALLS: [(&str, Call); 20] = [
+const CALLS: [(&str, Call); 21] = [
     ("jb_read", |on| {
         with_results(|out| unsafe {
             raw::jb_read(on.sheet.as_ptr(), on.sheet.len(), &mut out.table);
@@ -254,6 +254,14 @@ const CALLS: [(&str, Call); 20] = [
     ("jb_plan", |on| {
         with_results(|out| unsafe {
             raw::jb_plan(&on.table, &mut out.order, &mut out.left);
+        })
+    }),
+    ("jb_plan_within", |on| {
+        with_results(|out| unsafe {
+            for ceiling in CEILINGS {
+                let (order, left) = (&mut out.order, &mut out.left);
+                raw::jb_plan_within(&on.table, ceiling, order, left, &mut out.words[0]);
+            }
         })
     }),
     ("jb_ask", |on| {
@@ -362,6 +370,9 @@ const CALLS: [(&str, Call); 20] = [
 ];
 
 static SUPPLIES: [u32; 3_000] = [2; 3_000];
+
+/// Ceilings that are too low for most tables, and one that no table needs, in trials.
+const CEILINGS: [u32; 4] = [0, 1, 100, u32::MAX];
 
 /// Memory for the results of every call.
 struct Results {

@@ -5,6 +5,7 @@
 
 mod common;
 
+use common::planning::{at_ceiling, by_both};
 use common::{
     any_order, large_table, refused_sheet, small_table, spoil_table, supplies, Tally, TABLE_CHECKS,
 };
@@ -14,6 +15,7 @@ use model::calls::{one_slot_on_paper, LAST_CLOCK};
 use model::order::{check_order, Order};
 use model::place::place_of_fault;
 use model::plain;
+use model::plan::{most_trials, Counted, Plan};
 use model::program::planning_program;
 use model::random::{random_order, Random};
 use model::report::LONGEST_REPORT;
@@ -173,6 +175,166 @@ fn plan_is_what_the_program_writes() {
     }
     tally.assert_common(&[0, 1, 2, 7], 40);
     tally.assert_common(&TABLE_CHECKS, 30);
+}
+
+/// What `plan` has to answer at a ceiling, in trials, to a sheet that has this table and this
+/// number by the reader.
+fn planned_within(number: u32, table: &Table, ceiling: u32) -> Counted {
+    match number {
+        0 => at_ceiling(by_both(table), ceiling),
+        _ => at_ceiling((Plan::refused(number, 0), 0), ceiling),
+    }
+}
+
+/// The plain form of it: the trials made in the first line, and else what `plan` writes without
+/// a ceiling.
+fn counted_lines(sheet: &[u8], Counted { plan, trials }: &Counted) -> Vec<u8> {
+    if plan.number != 0 {
+        return write_line(&[plan.number, plan.rows_left(), *trials]);
+    }
+    let without = plain::program(sheet);
+    let (first, places) = without.split_at(2 * FIELD + 1);
+    let rows = figure(&first[FIELD..2 * FIELD]);
+    [&write_line(&[0, rows, *trials]), places].concat()
+}
+
+fn trials_of(count: u32) -> String {
+    let trials = if count == 1 { "trial" } else { "trials" };
+    format!("{count} {trials}")
+}
+
+/// What is said of 19: the ceiling, that nothing is said of orders, and what is always enough.
+fn said_of_19(rows: u32, ceiling: u32) -> String {
+    let (most, given) = (trials_of(most_trials(rows)), trials_of(ceiling));
+    let rows = format!("{rows} {}", if rows == 1 { "row" } else { "rows" });
+    [
+        "number 19: planning the table takes more trials than the ceiling".to_string(),
+        format!("trials made: {ceiling}, of a ceiling of {given}"),
+        "not said: whether a correct order exists; 19 says neither that one does nor that none \
+         does"
+            .to_string(),
+        format!("always enough: a ceiling of {most}, for {rows}"),
+        "remedy: plan again with a higher ceiling: n * (n + 1) / 2 trials are always enough for n \
+         rows, 2,080 trials for every table\n"
+            .to_string(),
+    ]
+    .join("\n")
+}
+
+/// In words, at a ceiling: what `plan` says without one, and below it the trials made if they
+/// were counted; but of 19 what is said of it alone.
+fn assert_words_within(sheet: &[u8], rows: u32, ceiling: u32, counted: &Counted) {
+    let limit = ceiling.to_string();
+    let said = command_with_errors(&["plan", "-", "--ceiling", &limit], sheet);
+    let (mut output, mut errors, status) = command_with_errors(&["plan", "-"], sheet);
+    let made = counted.trials;
+    let line = format!(
+        "trials made: {made}, of a ceiling of {}\n",
+        trials_of(ceiling)
+    );
+    let expected = match counted.plan.number {
+        0 => {
+            output.extend(line.bytes());
+            (output, errors, status)
+        }
+        7 => {
+            errors.push_str(&line);
+            (output, errors, status)
+        }
+        19 => (Vec::new(), said_of_19(rows, ceiling), 2),
+        _ => (output, errors, status),
+    };
+    assert_eq!(said, expected, "{ceiling}: {}", text_or_bytes(sheet));
+}
+
+/// Planning at ceilings about the count, in words and in figures.
+#[test]
+fn plans_at_ceilings() {
+    let mut random = Random::seeded(713);
+    let mut tally = Tally::new("command plan at a ceiling");
+    let mut looked = 0;
+    let mut compare = |random: &mut Random, sheet: &[u8]| {
+        let (number, table) = read_sheet(sheet);
+        let count = planned_within(number, &table, u32::MAX).trials;
+        let about = [0, 1, count.saturating_sub(1), count, count + 1, u32::MAX];
+        let ceiling = random.one_of(&about);
+        let counted = planned_within(number, &table, ceiling);
+        let option = format!("--ceiling={ceiling}");
+        let answer = command(&["plan", &option, "--plain", "-"], sheet);
+        let number = counted.plan.number;
+        let expected = (counted_lines(sheet, &counted), status_of(number));
+        assert_eq!(answer, expected, "{ceiling}: {}", text_or_bytes(sheet));
+        looked += 1;
+        if looked % 4 == 0 {
+            assert_words_within(sheet, table.n, ceiling, &counted);
+        }
+        tally.saw(number);
+    };
+    for sheet in sample_sheets() {
+        for _ in 0..8 {
+            compare(&mut random, &sheet);
+        }
+    }
+    for _ in 0..200 {
+        for sheet in sheets(&mut random) {
+            compare(&mut random, &sheet);
+        }
+        let sheet = sheet_of(&a_table(&mut random));
+        for _ in 0..4 {
+            compare(&mut random, &sheet);
+        }
+    }
+    tally.assert_common(&[0, 1, 2, 7, 19], 40);
+    tally.assert_common(&TABLE_CHECKS, 10);
+}
+
+/// What is no ceiling, and a ceiling for what is not planned by it: status 3 and the option's
+/// name.
+#[test]
+fn ceilings_that_cannot_be_used() {
+    let sheet = sheet_of(&easy(2));
+    let refused = |words: &[&str], reason: &str| {
+        let (output, errors, status) = command_with_errors(words, &sheet);
+        assert_eq!((text(&output), status), ("", 3), "{words:?}");
+        let first = errors.lines().next();
+        assert_eq!(first, Some(reason), "{words:?}");
+    };
+    for bad in [
+        "",
+        "x",
+        "-1",
+        "+1",
+        "1.5",
+        "1,000",
+        "1x",
+        " 1",
+        "1 ",
+        "0x1",
+        "4294967296",
+    ] {
+        let reason = format!(
+            "jasminebrace: --ceiling: not a number of trials from 0 to 4294967295: '{bad}'"
+        );
+        refused(&["plan", "-", "--ceiling", bad], &reason);
+        refused(&["plan", &format!("--ceiling={bad}"), "-"], &reason);
+    }
+    let missing = "jasminebrace: --ceiling needs a number of trials";
+    refused(&["plan", "-", "--ceiling"], missing);
+    let commands = [
+        &["judge", "-", "1", "2"][..],
+        &["finishes", "-"],
+        &["report", "-"],
+        &["speeds", "-"],
+        &["run", "-", "5"],
+        &["day", "-", "5"],
+        &["explain", "-"],
+        &["sheet", "-"],
+        &["rows", "-"],
+    ];
+    for words in commands {
+        let words = [words, &["--ceiling", "5"]].concat();
+        refused(&words, "jasminebrace: --ceiling belongs to plan");
+    }
 }
 
 /// What a refusal is in plain form, and the status.

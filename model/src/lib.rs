@@ -19,7 +19,7 @@
 //! | `run`      | the state of a run, the step by either rule, kept deadlines  |
 //! | `calls`    | the two run calls on paper, with number 8                    |
 //! | `record`   | the run record, check 9, one slot and forward on a record    |
-//! | `plan`     | worst finish, promised moment, slack, the planner's choice   |
+//! | `plan`     | worst finish, promised moment, slack, choice at a ceiling    |
 //! | `judge`    | the judge of orders                                          |
 //! | `proposal` | asking, committing, and days of run calls and commits        |
 //! | `speeds`   | the least workable speeds, by a scan over all of the range   |

@@ -1,17 +1,18 @@
 //! Every number of section 10 of the rules: its example there, its neighbours,
-//! and the order of the checks on a table (rules 11.4 and 11.6). Number 7 is
+//! and the order of the checks on a table (rules 11.4, 11.6 and 11.11). Number 7 is
 //! case P3. The order of the checks of a commit is in `commits`.
 
 mod common;
 
 use common::{p3_at, refused_verdict, rubbish, TOO_LONG};
+use model::cases::ceilings::{counted, over, unplanned};
 use model::cases::commits::drawn;
 use model::cases::waits::{checked_wait_orders, checked_waits};
 use model::cases::{checked_promises, p1, p2, p3, table};
 use model::judge::{judge, judge_table};
 use model::order::{check_order, order_of, Order, NO_ORDER};
 use model::plain;
-use model::plan::{plan, Plan};
+use model::plan::{plan, plan_within, Plan};
 use model::program::planning_program;
 use model::proposal::{ask, Asked};
 use model::record::{Record, Unsound};
@@ -75,17 +76,19 @@ fn cut_sheet(table: &Table) -> Vec<u8> {
     write_sheet(table.n, normal, degraded, loading, &rows)
 }
 
+/// Ceilings of few trials and of the most, at all of which a check refuses a table alike.
+const CEILINGS: [u32; 3] = [0, 1, u32::MAX];
+
 /// Every call that takes a table refuses this one with this number: with zeros, with
-/// lent bytes as they were (rules 10.5 and 10.11 to 10.15), and within 9 for a record
-/// (rule 8.4).
+/// lent bytes as they were (rules 10.5 and 10.11 to 10.15), at a ceiling without a trial
+/// (rule 23.7), and within 9 for a record (rule 8.4).
 fn assert_refused(table: &Table, order: &Order, number: u32) {
-    let refused = Plan {
-        number,
-        order: NO_ORDER,
-        left: 0,
-    };
+    let refused = Plan::refused(number, 0);
     assert_eq!(check_table(table), number, "{table:?}");
     assert_eq!((plan(table), plain::plan(table)), (refused, refused));
+    for ceiling in CEILINGS {
+        assert_eq!(plan_within(table, ceiling), unplanned(number), "{table:?}");
+    }
     assert_eq!(judge_table(table, order), refused_verdict(number));
     assert_eq!(plain::judge(table, order), refused_verdict(number));
     assert_eq!(plain::finishes(table, order), (number, [0; 64]));
@@ -416,4 +419,45 @@ fn number_18_a_release_before_the_clock() {
         let next = table(1, 1, &[[release, 1, release + 1, 0]]);
         assert_eq!(commit(drawn(7), &next, &order), number, "release {release}");
     }
+}
+
+/// P1 at a ceiling of 5, and at 6, which is its count (rule 10.19).
+#[test]
+fn number_19_more_trials_than_the_ceiling() {
+    for ceiling in 0..=5 {
+        assert_eq!(plan_within(&p1(), ceiling), over(ceiling));
+    }
+    for ceiling in 6..=11 {
+        assert_eq!(plan_within(&p1(), ceiling), counted(plan(&p1()), 6));
+    }
+}
+
+/// 3, 4, 11, 5, 12 and 13 to 15 come before 19, and at a higher ceiling before 0 and 7 (rule
+/// 11.11).
+#[test]
+fn checks_at_a_ceiling_come_in_their_order() {
+    let wrong = Table {
+        n: 0,
+        normal: 0,
+        ..table(1, 1, &[[4, 1, 4, 0, 2, 1]]).with_loading(17)
+    };
+    let numbers_of = |table: &Table| CEILINGS.map(|it| plan_within(table, it).plan.number);
+    assert_eq!(numbers_of(&wrong), [3; 3]);
+    let one_row = Table { n: 1, ..wrong };
+    assert_eq!(numbers_of(&one_row), [4; 3]);
+    let paced = Table {
+        normal: 1,
+        ..one_row
+    };
+    assert_eq!(numbers_of(&paced), [11; 3]);
+    let mut limited = paced.with_loading(1);
+    assert_eq!(numbers_of(&limited), [5; 3]);
+    limited.deadline[0] = 5;
+    assert_eq!(numbers_of(&limited), [12; 3]);
+    limited.promised[0] = 1;
+    assert_eq!(numbers_of(&limited), [13; 3]);
+    limited.follows[0] = 0;
+    assert_eq!(numbers_of(&limited), [19, 7, 7]);
+    limited.deadline[0] = 6;
+    assert_eq!(numbers_of(&limited), [19, 0, 0]);
 }

@@ -3,7 +3,7 @@
 use super::Tally;
 use compiled::library;
 use model::order::NO_ORDER;
-use model::plan::{plan_and_trials, Plan};
+use model::plan::{plan_and_trials, Counted, Plan};
 use model::planners::{each_place, each_trial};
 use model::table::Table;
 
@@ -30,6 +30,19 @@ pub fn by_both(table: &Table) -> (Plan, u32) {
     assert_eq!(each_trial::plan(table), of_first.0, "{table:?}");
     assert_eq!(each_place::plan(table), of_first.0, "{table:?}");
     of_first
+}
+
+/// What is answered at a ceiling, in trials, to a table with this answer and this count: the
+/// same where the count is not above the ceiling, else 19 with zeros and the ceiling (rules
+/// 23.4, 23.5 and 23.7).
+pub fn at_ceiling((plan, count): (Plan, u32), ceiling: u32) -> Counted {
+    if count > ceiling {
+        let plan = Plan::refused(19, 0);
+        let trials = ceiling;
+        return Counted { plan, trials };
+    }
+    let trials = count;
+    Counted { plan, trials }
 }
 
 /// Compares the library with this answer.

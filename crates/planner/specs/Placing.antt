@@ -1,5 +1,5 @@
 -- The loop that fills the places from the lowest up: what stands between two turns, and what each turn does.
-use Prim.Native.Nat.{ℕ, zero, suc, _-_, _^_, _≤_, _<_}
+use Prim.Native.Nat.{ℕ, zero, suc, _+_, _-_, _^_, _≤_, _<_}
 use mathlib.Core.Bool.{Bool, true}
 use mathlib.Core.Path.{_≡_, refl, sym, ap, _∙_}
 use mathlib.Core.List.{List, [], _∷_, _++_}
@@ -7,14 +7,19 @@ use native.Mathlib.Omega.{arith}
 use lib.Count.{ones}
 use lib.ListN.{length, take, drop, set, length-set, take-append-drop}
 use lib.Seq.{drop-cons, drop-set-lt, getD-set-same, length-take-le}
-use borrow.Author.Tests.{eq-eqb, ne-eqb}
+use borrow.Author.Tests.{eq-eqb, ne-eqb, le-ltb, lt-ltb}
 use Rattle.rules.specs.declared.Table.{Table}
-use Rattle.rules.specs.declared.Planned.the-variants.{Ordered, NoOrder}
+use Rattle.rules.specs.declared.Planned.the-variants.{Ordered, NoOrder, Refused}
 use Rattle.rules.specs.declared.Planning.{Planning}
+use Rattle.rules.specs.declared.Refusal.{Refusal}
+use Rattle.ceiling.specs.declared.Counted.{Counted}
+use Rattle.ceiling.specs.Ceiling.{trialsAt, trialsFrom, trialCount, overCeiling, countedFrom}
+use Rattle.ceiling.specs.Bounds.{trials-none, trials-stuck, trials-turn}
 use Rattle.rules.specs.Lists.{count, keep, erase}
 use Rattle.rules.specs.Rows.{rowsOf}
 use Rattle.rules.specs.Tables.{Accepted}
 use Rattle.rules.specs.Choice.{sequence, unfollowed, tried, passes, taker, fill, choice, padded, planFrom}
+use Rattle.theory.specs.Tests.{by-eqb}
 use Rattle.theory.specs.Counts.{In, Once, in-head, in-tail, first-in, same-size}
 use Rattle.theory.specs.Facts.{Row, TableFacts, facts, rows-in, count-zero}
 use Rattle.theory.specs.Waits.{Closed, rows-closed}
@@ -39,6 +44,15 @@ pub record Placing (t : Table) (order : List ℕ) (left place : ℕ) : Type 0 wh
   pub long : length order ≡ 64
   pub tail : drop (t .n) order ≡ zeros (64 - t .n)
   pub filled : fill t place (leftOf t left) (placedBelow t order place) ≡ choice t
+
+-- a refusal, and the trials made (rules 23.5, 23.7)
+abbrev pub refusedAfter : Refusal → ℕ → Counted
+refusedAfter why trials = record { planning = record { answer = Refused why; order = zeros 64 }; trials = trials }
+
+-- the trials made at the places below, and those to come make the table's count, and none is above the ceiling
+pub record Tally (t : Table) (ceiling left place made : ℕ) : Type 0 where
+  pub sum : made + trialsFrom t place (leftOf t left) ≡ trialCount t
+  pub within : made ≤ ceiling
 
 keep-all : (p : ℕ → Bool) (l : List ℕ) → ((x : ℕ) → In x l → p x ≡ true) → keep p l ≡ l
 keep-all p [] h = refl
@@ -100,6 +114,15 @@ module _ (t : Table) (accepted : Accepted t) where
         filled = rw (every, n, z);
       }
 
+  -- and no trial is made
+  pub tally-start : (ceiling left place : ℕ) → left ≡ 2 ^ t .n - 1 → place ≡ ones left → Tally t ceiling left place 0
+  unfolding trialCount
+  tally-start ceiling left place e c =
+      let h : Holds left (sequence t) = rw e (holds-start (t .n) (sequence t) (f .few) (same-sequence t)) in
+      let every : leftOf t left ≡ sequence t = keep-all (isLeft left) (sequence t) (holds-in left (sequence t) h) in
+      let n : place ≡ t .n = omega (arith, h .size, same-size (sequence t) (rowsOf t) (same-sequence t), length-rows (t .n)) in
+      record { sum = rw (every, n) (omega arith); within = omega arith }
+
   module _ (order : List ℕ) (left place : ℕ) (p : Placing t order left place) where
     -- no row is left: the order is whole
     pub placing-done : place ≡ 0 → _≡_ {A = Planning} (record { answer = Ordered; order = order }) (planFrom (choice t))
@@ -114,6 +137,17 @@ module _ (t : Table) (accepted : Accepted t) where
         sym (p .filled) ∙ ap (λ (k : ℕ). fill t k (leftOf t left) (placedBelow t order k)) e ∙ fill-none t (leftOf t left) (placedBelow t order 0) in
         rw (last, eq-eqb (length (leftOf t left)) 0 none, z, whole)
 
+    -- what is planned is the answer at the ceiling, after trials that are the count
+    answered : (ceiling made : ℕ) (planning : Planning) → made ≡ trialCount t → made ≤ ceiling → planning ≡ planFrom (choice t)
+        → _≡_ {A = Counted} (record { planning = planning; trials = made }) (countedFrom ceiling t)
+    answered ceiling made planning e h q = rw (q, e, le-ltb ceiling (trialCount t) (omega arith))
+
+    pub counted-done : (ceiling made : ℕ) → Tally t ceiling left place made → place ≡ 0
+        → _≡_ {A = Counted} (record { planning = record { answer = Ordered; order = order }; trials = made }) (countedFrom ceiling t)
+    counted-done ceiling made c e =
+        let none : trialsFrom t place (leftOf t left) ≡ 0 = ap (λ (k : ℕ). trialsFrom t k (leftOf t left)) e ∙ trials-none t (leftOf t left) in
+        answered ceiling made (record { answer = Ordered; order = order }) (omega (arith, c .sum)) (c .within) (placing-done e)
+
     module _ (some : 1 ≤ place) where
       -- no row may take the place: the answer is the rows left
       pub placing-stuck : taker t (leftOf t left) ≡ 0 → _≡_ {A = Planning} (record { answer = NoOrder left; order = zeros 64 }) (planFrom (choice t))
@@ -121,6 +155,25 @@ module _ (t : Table) (accepted : Accepted t) where
           let last : choice t ≡ record { placed = placedBelow t order place; left = leftOf t left } =
           sym (p .filled) ∙ fill-stuck t place (leftOf t left) (placedBelow t order place) some e in
           rw (last, ne-eqb (length (leftOf t left)) 0 (λ z. omega (arith, p .holds .size, p .counted)), ← p .holds .sums)
+
+      pub counted-stuck : (ceiling made last : ℕ) → Tally t ceiling left place made → taker t (leftOf t left) ≡ 0 → trialsAt t (leftOf t left) ≡ last → made + last ≤ ceiling
+          → _≡_ {A = Counted} (record { planning = record { answer = NoOrder left; order = zeros 64 }; trials = made + last }) (countedFrom ceiling t)
+      counted-stuck ceiling made last c e l h =
+          answered ceiling (made + last) (record { answer = NoOrder left; order = zeros 64 })
+          (omega (arith, c .sum, trials-stuck t place (leftOf t left) some e)) h (placing-stuck e)
+
+      -- the place takes more trials than the ceiling has left
+      pub counted-over : (ceiling made : ℕ) → Tally t ceiling left place made → ceiling - made < trialsAt t (leftOf t left) → overCeiling ceiling ≡ countedFrom ceiling t
+      counted-over ceiling made c h =
+          let more : trialsAt t (leftOf t left) ≤ trialsFrom t place (leftOf t left) = at-least place some in
+          rw (lt-ltb ceiling (trialCount t) (omega (arith, c .sum, c .within)))
+        where
+          at-least : (k : ℕ) → 1 ≤ k → trialsAt t (leftOf t left) ≤ trialsFrom t k (leftOf t left)
+          at-least zero l = absurd (omega arith)
+          at-least (suc k) l =
+              by-eqb (taker t (leftOf t left)) 0
+              (λ _ z. omega (arith, trials-stuck t (suc k) (leftOf t left) l z))
+              (λ _ z. omega (arith, trials-turn t k (leftOf t left) z))
 
       -- row i takes the place
       module _ (i : ℕ) (e : i ≡ taker t (leftOf t left)) (n : i ≡ 0 → ⊥) where
@@ -145,6 +198,24 @@ module _ (t : Table) (accepted : Accepted t) where
 
         left-less : leftOf t (left - 2 ^ (i - 1)) ≡ erase i (leftOf t left)
         left-less = keep-without left i (taker-range .0) taker-bit (sequence t) sequence-once sequence-zero
+
+        -- the trials of the place are made
+        pub tally-turn : (ceiling made last after less : ℕ) → Tally t ceiling left place made → trialsAt t (leftOf t left) ≡ last → made + last ≤ ceiling
+            → after ≡ left - 2 ^ (i - 1) → less ≡ ones after → Tally t ceiling after less (made + last)
+        tally-turn ceiling made last after less c l h a z =
+            let k = place - 1 in
+            let s : place ≡ suc k = omega arith in
+            let rows : leftOf t after ≡ erase (taker t (leftOf t left)) (leftOf t left) = ap (leftOf t) a ∙ left-less ∙ ap (λ (j : ℕ). erase j (leftOf t left)) e in
+            let w : less ≡ k = omega (arith, cleared-ones (i - 1) left taker-bit, ap ones a, p .counted) in
+            record {
+              sum = rw (rows, w) (omega (
+                arith,
+                c .sum,
+                ap (λ (j : ℕ). trialsFrom t j (leftOf t left)) s,
+                trials-turn t k (leftOf t left) (λ y. n (e ∙ y)),
+              ));
+              within = h;
+            }
 
         pub placing-turn : (after less : ℕ) → after ≡ left - 2 ^ (i - 1) → less ≡ ones after → Placing t (set order (place - 1) i) after less
         placing-turn after less a c =

@@ -3,5 +3,7 @@ pub mod Lines
 pub mod Sequence
 pub mod Prepared
 pub mod Opening
+pub mod Allowed
 pub mod Taking
+pub mod Counting
 pub mod Turns

@@ -102,3 +102,11 @@ first-fails p k (x ∷ l) g =
     by-bool (k x)
     (λ z. rw (z, g 0 (omega arith) z) r)
     (λ z. rw z r)
+
+-- in a list of rows that pass and after them rows that do not, a row before one that passes does
+pub parted : (p : ℕ → Bool) (a b : List ℕ) → ((i : ℕ) → In i a → p i ≡ true) → ((i : ℕ) → In i b → p i ≡ true → ⊥)
+    → (y x : ℕ) → y ≤ x → x < length (a ++ b) → p (getD (a ++ b) x 0) ≡ true → p (getD (a ++ b) y 0) ≡ true
+parted p [] b low high y x l h e = absurd (high (getD b x 0) (in-entry b x h) e)
+parted p (z ∷ a) b low high zero x l h e = low z (in-head z a)
+parted p (z ∷ a) b low high (suc y) zero l h e = absurd (omega arith)
+parted p (z ∷ a) b low high (suc y) (suc x) l h e = parted p a b (λ i j. low i (in-tail i z a j)) high y x (omega arith) (omega arith) e

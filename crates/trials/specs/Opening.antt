@@ -53,6 +53,15 @@ module _ (follows entry : List ℕ) (left unplaced : ℕ) where
   pub open-placed : (k : ℕ) → isLeft left (k + 1) ≡ false → openTo (k + 1) ≡ openTo k
   open-placed k e = rw (add-one k) (let z : follower k ≡ false = by-bool (ltb 0 (getD follows k 0)) (λ d. rw (d, e)) (λ d. rw d) in rw z)
 
+  -- no more than the unplaced ones
+  pub open-most : (k : ℕ) → openTo k ≤ unplaced
+  open-most zero = omega arith
+  open-most (suc k) =
+      let m = open-most k in
+      by-bool (follower k)
+      (λ e. rw e (by-eqb (bit (openTo k) (seat k)) 1 (λ f _. rw f (omega arith)) (λ f _. rw f m)))
+      (λ e. rw e m)
+
   -- which entries it holds
   pub open-inside : (k x : ℕ) → bit (openTo k) x ≡ 1 → bit unplaced x ≡ 1
   open-inside zero x b = b

@@ -38,9 +38,10 @@ use Rattle.periods.specs.Busy.{row, LeftAt}
 use Rattle.periods.specs.Periods.{Queue, Known, known-start, known-placed}
 use Rattle.periods.specs.Entries.{entriesTo, entry-is, entries-below}
 use Rattle.periods.specs.Trying.{Speed, Parts, KnownAt, Stands, Open, inTime, partInTime, lowInTime, FirstIn}
-use Rattle.trials.specs.Lines.{At, place-of, apart, sorted-rising, first-parts, first-kept, first-fails, keep-both, keep-append, keep-keep, keep-twice, keep-neither}
+use Rattle.trials.specs.Lines.{At, place-of, apart, sorted-rising, first-parts, first-kept, first-fails, keep-both, keep-append, keep-keep, keep-twice, keep-neither, parted}
 use Rattle.trials.specs.Prepared.{capsAt, atLevel, leftOf, every-take, every-length}
 use Rattle.trials.specs.Opening.{openTo, open-inside, open-clear, open-whole}
+use Rattle.trials.specs.Allowed.{FirstOf, first-below, first-within, first-inside}
 
 -- the later of two clocks is in time if both are
 later-both : (a b d : ℕ) → leb a d && leb b d ≡ leb (max a b) d
@@ -85,7 +86,7 @@ module _ (t : Table) (accepted : Accepted t) where
   sequence-length : length (sequence t) ≡ t .n
   sequence-length = every-length t f (sequence t) (same-sequence t)
 
-  sequence-entry : (i : ℕ) → i < t .n → getD (padded (sequence t)) i 0 ≡ getD (sequence t) i 0
+  pub sequence-entry : (i : ℕ) → i < t .n → getD (padded (sequence t)) i 0 ≡ getD (sequence t) i 0
   sequence-entry i h = let e = sequence-length in padded-entry (sequence t) (omega (arith, f .few)) i (omega arith)
 
   sequence-row : (i : ℕ) → i < t .n → Row t (getD (sequence t) i 0)
@@ -206,9 +207,10 @@ module _ (t : Table) (accepted : Accepted t) where
               (λ z. absurd (omega (arith, w .bits x h, ap {B = ℕ} (λ (c : Bool). cond c 1 0) z))),
         )
 
-    pub opened : (tries : ℕ) → Opened t left unplaced tries → (m : ℕ) → Open (padded (byRelease t)) entryOf (t .n) left (bitAnd tries m)
-    opened tries o m x b =
-        let r = unplaced-left x (o .inside x (omega (arith, bit-and tries m x, b, bit-lt tries x))) in
+    -- the entries that are searched are those of rows left
+    pub opened : (tries : ℕ) → Opened t left unplaced tries → (most v : ℕ) → FirstOf tries most v → (m : ℕ) → Open (padded (byRelease t)) entryOf (t .n) left (bitAnd v m)
+    opened tries o most v a m x b =
+        let r = unplaced-left x (o .inside x (first-inside tries most v a x (omega (arith, bit-and v m x, b, bit-lt v x)))) in
         stands-row left x (r .0) (r .1)
 
     -- the word that the code makes of the unplaced entries, with the table free of waits or not
@@ -285,6 +287,30 @@ module _ (t : Table) (accepted : Accepted t) where
   taken-row e h k =
       let n = sequence-length in
       subst (λ (x : ℕ). In x (rowsOf t)) (sym (sequence-entry (e - 1) (omega arith))) (entry-in (sequence t) (same-sequence t) (e - 1) (omega arith))
+
+  -- the entries of LO rows come before those of HI rows
+
+  low-before : (y x : ℕ) → y ≤ x → x < length (sequence t) → isLow t (getD (sequence t) x 0) ≡ true → isLow t (getD (sequence t) y 0) ≡ true
+  unfolding sequence
+  low-before y x l h e =
+      let fall = falling t (rowsOf t) in
+      parted (isLow t) (keep (isLow t) fall) (keep (isHigh t) fall)
+      (λ i j. keep-in (isLow t) fall i j .1)
+      (λ i j g. let z = not-is (isLow t i) (keep-in (isHigh t) fall i j .1) in let w : _≡_ {A = ℕ} 0 1 = cc in absurd (omega arith))
+      y x l h e
+
+  level-entry : (level x : ℕ) → x < t .n → bit (atLevel t level) x ≡ 1 → at (t .level) (getD (sequence t) x 0) ≡ level
+  level-entry level x h b =
+      let n = sequence-length in
+      by-eqb (at (t .level) (getD (sequence t) x 0)) level (λ _ z. z)
+      (λ e _. absurd (omega (arith, marks-bit (λ j. eqb (at (t .level) j) level) (sequence t) x (omega arith), ap {B = ℕ} (λ (c : Bool). cond c 1 0) e)))
+
+  levels-apart : (x y : ℕ) → x < t .n → bit (atLevel t 0) x ≡ 1 → bit (atLevel t 1) y ≡ 1 → x < y
+  levels-apart x y h b c =
+      let n = sequence-length in
+      by-ltb x y (λ _ q. q)
+      (λ _ q. let low = low-before y x q (omega arith) (eq-eqb (at (t .level) (getD (sequence t) x 0)) 0 (level-entry 0 x h b)) in
+      absurd (omega (arith, eqb-true (at (t .level) (getD (sequence t) y 0)) 0 low, level-entry 1 y (omega arith) c)))
 
   -- a trial at a row's own worst speed says whether it passes
   module _ (left : ℕ) (holds : Holds left (leftOf t left)) (closed : Closed t (leftOf t left)) where
@@ -403,8 +429,7 @@ module _ (t : Table) (accepted : Accepted t) where
         found : (e ≡ 0 → ⊥) → (1 ≤ e) × (e ≤ t .n) × (bit unplaced (e - 1) ≡ 1)
             × (getD (padded (sequence t)) (e - 1) 0 ≡ first (passes t (leftOf t left)) (keep (λ i. eqb (at (t .level) i) level) rows))
 
-      module _ (level : ℕ) (tested : ℕ → Bool) (right : (i : ℕ) → eqb (at (t .level) i) level ≡ true → In i (leftOf t left) → unfollowed t (leftOf t left) i ≡ true → tested i ≡ passes t (leftOf t left) i)
-          (e : ℕ) (k : FirstIn tested (padded (byRelease t)) entryOf (t .n) left (bitAnd tries (atLevel t level)) e) where
+      module _ (level : ℕ) (tested : ℕ → Bool) (right : (i : ℕ) → eqb (at (t .level) i) level ≡ true → In i (leftOf t left) → unfollowed t (leftOf t left) i ≡ true → tested i ≡ passes t (leftOf t left) i) where
         kept : keep (λ i. eqb (at (t .level) i) level) rows ≡ keep (chosen level) (sequence t)
         kept = keep-both (λ i. eqb (at (t .level) i) level) live (sequence t)
 
@@ -437,48 +462,65 @@ module _ (t : Table) (accepted : Accepted t) where
             )) in
             rw queue-is (a .is)
 
-        -- a row that the search passed over fails
-        over : (x : ℕ) → x < t .n → (c : chosen level (getD (sequence t) x 0) ≡ true)
-            → ((j : ℕ) → LeftAt (isLeft left) (take (t .n) (padded (byRelease t))) j → bit (bitAnd tries (atLevel t level)) (at entryOf (row (take (t .n) (padded (byRelease t))) j)) ≡ 1
-            → at entryOf (row (take (t .n) (padded (byRelease t))) j) ≡ x → tested (row (take (t .n) (padded (byRelease t))) j) ≡ false)
-            → passes t (leftOf t left) (getD (sequence t) x 0) ≡ false
-        over x h c g =
-            let st = stands-row left x h (is-left (getD (sequence t) x 0) c) in
-            sym (says x h c) ∙ ap tested (sym (at-place x h c))
-            ∙ g (st .place) (st .left-at) (ap (bit (bitAnd tries (atLevel t level))) (st .is) ∙ word-of level x h c) (st .is)
-
-        -- the row found
-        row-found : (z : e ≡ 0 → ⊥) (m : e - 1 < t .n) → row (take (t .n) (padded (byRelease t))) (k .found z .stands .place) ≡ getD (sequence t) (e - 1) 0
-        row-found z m =
-            let r = k .found z in
-            let st = r .stands in
-            let w : LeftAt (isLeft left) (byRelease t) (st .place) = rw queue-is at (st .left-at) in
-            let x : In (row (byRelease t) (st .place)) (rowsOf t) = entry-in (byRelease t) same-release (st .place) (w .0) in
-            let a = entry-at (row (byRelease t) (st .place)) x in
-            let y : at entryOf (row (byRelease t) (st .place)) ≡ e - 1 = rw queue-is at (st .is) in
-            rw queue-is (sym (a .is) ∙ ap (λ (j : ℕ). getD (sequence t) j 0) (sym (entry-place (row (byRelease t) (st .place)) x) ∙ y))
-
-        test-of : Tested level e
-        test-of =
+        -- where a search among other entries finds none, a row of the level with one of these fails
+        missed : (v : ℕ) → FirstIn tested (padded (byRelease t)) entryOf (t .n) left (bitAnd v (atLevel t level)) 0 → (x : ℕ) → x < t .n → bit v x ≡ 1
+            → chosen level (getD (sequence t) x 0) ≡ true → passes t (leftOf t left) (getD (sequence t) x 0) ≡ false
+        missed v k x h b c =
             let n = sequence-length in
-            record {
-              none = λ z. ap (first (passes t (leftOf t left))) kept
-                  ∙ first-fails (passes t (leftOf t left)) (chosen level) (sequence t)
-                  (λ x h c. over x (omega arith) c (λ j v b _. k .none z j v b));
-              found = λ z.
-                  let r = k .found z in
-                  let o = of-word level (e - 1) (r .inside) in
-                  let some = r .some in
-                  let y = row-found z (o .0) in
-                  let good : passes t (leftOf t left) (getD (sequence t) (e - 1) 0) ≡ true = sym (says (e - 1) (o .0) (o .2)) ∙ ap tested (sym y) ∙ r .meets in (
-                    some,
-                    omega (arith, o .0),
-                    o .1,
-                    sequence-entry (e - 1) (o .0) ∙ sym (ap (first (passes t (leftOf t left))) kept
-                        ∙ first-kept (passes t (leftOf t left)) (chosen level) (sequence t) (e - 1) (omega (arith, o .0)) (o .2) good
-                        (λ x h c. over x (omega (arith, o .0)) c (λ j v b q. r .before j v b (omega (arith, q))))),
-                  );
-            }
+            let i = getD (sequence t) x 0 in
+            let st = stands-row left x h (is-left i c) in
+            let l = and-right (live i) (eqb (at (t .level) i) level) c in
+            let both : bit (bitAnd v (atLevel t level)) x ≡ 1 = omega (
+              arith,
+              bit-and v (atLevel t level) x,
+              marks-bit (λ j. eqb (at (t .level) j) level) (sequence t) x (omega arith),
+              ap {B = ℕ} (λ (c : Bool). cond c 1 0) l,
+            ) in
+            sym (says x h c) ∙ ap tested (sym (at-place x h c)) ∙ k .none refl (st .place) (st .left-at) (ap (bit (bitAnd v (atLevel t level))) (st .is) ∙ both)
+
+        module _ (e : ℕ) (k : FirstIn tested (padded (byRelease t)) entryOf (t .n) left (bitAnd tries (atLevel t level)) e) where
+          -- a row that the search passed over fails
+          over : (x : ℕ) → x < t .n → (c : chosen level (getD (sequence t) x 0) ≡ true)
+              → ((j : ℕ) → LeftAt (isLeft left) (take (t .n) (padded (byRelease t))) j → bit (bitAnd tries (atLevel t level)) (at entryOf (row (take (t .n) (padded (byRelease t))) j)) ≡ 1
+              → at entryOf (row (take (t .n) (padded (byRelease t))) j) ≡ x → tested (row (take (t .n) (padded (byRelease t))) j) ≡ false)
+              → passes t (leftOf t left) (getD (sequence t) x 0) ≡ false
+          over x h c g =
+              let st = stands-row left x h (is-left (getD (sequence t) x 0) c) in
+              sym (says x h c) ∙ ap tested (sym (at-place x h c))
+              ∙ g (st .place) (st .left-at) (ap (bit (bitAnd tries (atLevel t level))) (st .is) ∙ word-of level x h c) (st .is)
+
+          -- the row found
+          row-found : (z : e ≡ 0 → ⊥) (m : e - 1 < t .n) → row (take (t .n) (padded (byRelease t))) (k .found z .stands .place) ≡ getD (sequence t) (e - 1) 0
+          row-found z m =
+              let r = k .found z in
+              let st = r .stands in
+              let w : LeftAt (isLeft left) (byRelease t) (st .place) = rw queue-is at (st .left-at) in
+              let x : In (row (byRelease t) (st .place)) (rowsOf t) = entry-in (byRelease t) same-release (st .place) (w .0) in
+              let a = entry-at (row (byRelease t) (st .place)) x in
+              let y : at entryOf (row (byRelease t) (st .place)) ≡ e - 1 = rw queue-is at (st .is) in
+              rw queue-is (sym (a .is) ∙ ap (λ (j : ℕ). getD (sequence t) j 0) (sym (entry-place (row (byRelease t) (st .place)) x) ∙ y))
+
+          test-of : Tested level e
+          test-of =
+              let n = sequence-length in
+              record {
+                none = λ z. ap (first (passes t (leftOf t left))) kept
+                    ∙ first-fails (passes t (leftOf t left)) (chosen level) (sequence t)
+                    (λ x h c. over x (omega arith) c (λ j v b _. k .none z j v b));
+                found = λ z.
+                    let r = k .found z in
+                    let o = of-word level (e - 1) (r .inside) in
+                    let some = r .some in
+                    let y = row-found z (o .0) in
+                    let good : passes t (leftOf t left) (getD (sequence t) (e - 1) 0) ≡ true = sym (says (e - 1) (o .0) (o .2)) ∙ ap tested (sym y) ∙ r .meets in (
+                      some,
+                      omega (arith, o .0),
+                      o .1,
+                      sequence-entry (e - 1) (o .0) ∙ sym (ap (first (passes t (leftOf t left))) kept
+                          ∙ first-kept (passes t (leftOf t left)) (chosen level) (sequence t) (e - 1) (omega (arith, o .0)) (o .2) good
+                          (λ x h c. over x (omega (arith, o .0)) c (λ j v b q. r .before j v b (omega (arith, q))))),
+                    );
+              }
 
       abbrev lows : List ℕ
       lows = keep (isLow t) rows
@@ -520,10 +562,10 @@ module _ (t : Table) (accepted : Accepted t) where
           ap (first p) (tried-are ∙ parts ∙ ap (λ (l : List ℕ). lows ++ l) other-level)
           ∙ first-parts p lows highs (λ i. omega (arith, count-keep-le (isLow t) 0 rows, count-keep-le live 0 (sequence t), same-sequence t 0, count-zero (t .n)))
 
-      abbrev lowTest : ℕ → Bool
+      abbrev pub lowTest : ℕ → Bool
       lowTest = lowInTime (padded (byRelease t)) (t .n) (t .release) (t .deadline) (capsAt t (t .normal)) (capsAt t (t .degraded)) (t .promised) (partNeeds t) left
 
-      abbrev highTest : ℕ → Bool
+      abbrev pub highTest : ℕ → Bool
       highTest = inTime (padded (byRelease t)) (t .n) (t .release) (t .deadline) (capsAt t (t .degraded)) left
 
       abbrev Searched : ℕ → (ℕ → Bool) → ℕ → Type 0
@@ -561,6 +603,85 @@ module _ (t : Table) (accepted : Accepted t) where
             none = λ y. x ∙ h .none y;
             found = λ n. let r = h .found n in (r .0, r .1, r .2, sym (x ∙ sym (r .3)));
           }
+
+      -- an entry is tried exactly if its row is
+
+      pub tries-bit : (x : ℕ) → x < t .n → bit tries x ≡ cond (live (getD (sequence t) x 0)) 1 0
+      tries-bit x h =
+          let i = getD (sequence t) x 0 in
+          by-bool (live i)
+          (λ e. rw e (o .whole x h (w .bits x h ∙ ap {B = ℕ} (λ (c : Bool). cond c 1 0) (and-left (isLeft left i) (unfollowed t (leftOf t left) i) e))
+          (and-right (isLeft left i) (unfollowed t (leftOf t left) i) e)))
+          (λ e. rw e (by-eqb (bit tries x) 1
+          (λ _ b. let z : live i ≡ true = and-both (isLeft left i) (unfollowed t (leftOf t left) i) (unplaced-left left unplaced w x (o .inside x b) .1) (o .free x h b) in
+          let y : _≡_ {A = ℕ} 0 1 = cc in absurd (omega arith))
+          (λ _ n. omega (arith, bit-lt tries x))))
+
+      pub tries-end : (x : ℕ) → t .n ≤ x → bit tries x ≡ 0
+      tries-end x h =
+          by-eqb (bit tries x) 1
+          (λ _ b. absurd (omega (arith, unplaced-left left unplaced w x (o .inside x b) .0)))
+          (λ _ n. omega (arith, bit-lt tries x))
+
+      -- the first entries alone are searched, as many as the ceiling allows
+      module _ (most v : ℕ) (a : FirstOf tries most v) where
+        abbrev pub Allowed : ℕ → (ℕ → Bool) → ℕ → Type 0
+        Allowed level tested e = FirstIn tested (padded (byRelease t)) entryOf (t .n) left (bitAnd v (atLevel t level)) e
+
+        pub of-allowed : (m x : ℕ) → bit (bitAnd v m) x ≡ 1 → (bit v x ≡ 1) × (bit m x ≡ 1)
+        of-allowed m x b = (omega (arith, bit-and v m x, bit-lt v x), omega (arith, bit-and v m x, bit-lt m x))
+
+        -- an entry found is the first of all that are tried
+        widened : (level : ℕ) (tested : ℕ → Bool) (e : ℕ) → Allowed level tested e → (e ≡ 0 → ⊥) → Searched level tested e
+        widened level tested e k n =
+            let r = k .found n in
+            let m = atLevel t level in
+            let q = of-allowed m (e - 1) (r .inside) in
+            let l = first-within tries most v a (e - 1) (q .0) in
+            record {
+              none = λ z. absurd (n z);
+              found = λ _. record {
+                some = r .some;
+                stands = r .stands;
+                inside = omega (arith, bit-and tries m (e - 1), first-inside tries most v a (e - 1) (q .0), q .1);
+                meets = r .meets;
+                before = λ j left-at b h.
+                    let x = at entryOf (row (take (t .n) (padded (byRelease t))) j) in
+                    r .before j left-at (omega (arith, bit-and tries m x, bit-and v m x, first-below tries most v a x (omega arith))) h;
+              };
+            }
+
+        -- no LO row passes, where none has an allowed entry that does and a HI row's entry is allowed
+        widened-none : (e y : ℕ) → Allowed 0 lowTest e → e ≡ 0 → bit (bitAnd v (atLevel t 1)) y ≡ 1 → Searched 0 lowTest e
+        widened-none e y k z b =
+            let q = of-allowed (atLevel t 1) y b in
+            let l = first-within tries most v a y (q .0) in
+            record {
+              none = λ _ j left-at c.
+                  let x = at entryOf (row (take (t .n) (padded (byRelease t))) j) in
+                  let m = of-word 0 x c in
+                  let both = bit-and tries (atLevel t 0) x in
+                  let early = levels-apart x y (m .0) (omega (arith, bit-lt tries x, bit-lt (atLevel t 0) x)) (q .1) in
+                  k .none z j left-at (omega (arith, bit-and v (atLevel t 0) x, first-below tries most v a x (omega arith)));
+              found = λ n. absurd (n z);
+            }
+
+        pub allowed-low : (e : ℕ) → Allowed 0 lowTest e → (e ≡ 0 → ⊥) → Taken t left unplaced e
+        allowed-low e k n = taken-low e (widened 0 lowTest e k n) n
+
+        pub allowed-high : (d e : ℕ) → Allowed 0 lowTest d → d ≡ 0 → Allowed 1 highTest e → (e ≡ 0 → ⊥) → Taken t left unplaced e
+        allowed-high d e k z l n = taken-high d e (widened-none d (e - 1) k z (l .found n .inside)) z (widened 1 highTest e l n)
+
+        -- no row with an allowed entry passes, where neither search finds one
+        pub allowed-none : Allowed 0 lowTest 0 → Allowed 1 highTest 0 → (x : ℕ) → x < t .n → bit v x ≡ 1 → passes t (leftOf t left) (getD (sequence t) x 0) ≡ false
+        allowed-none k l x h b =
+            let i = getD (sequence t) x 0 in
+            let m = unplaced-left left unplaced w x (o .inside x (first-inside tries most v a x b)) in
+            let here : live i ≡ true = and-both (isLeft left i) (unfollowed t (leftOf t left) i) (m .1) (o .free x h (first-inside tries most v a x b)) in
+            by-eqb (at (t .level) i) 0
+            (λ e _. missed 0 lowTest (λ i z m u. low-passes i m u z) v k x h b (and-both (live i) (eqb (at (t .level) i) 0) here e))
+            (λ e n. missed 1 highTest (λ i z m u. high-passes i m u (ne-eqb (at (t .level) i) 0 (λ y. omega (arith, eqb-true (at (t .level) i) 1 z)))) v l x h b
+            (and-both (live i) (eqb (at (t .level) i) 1) here (eq-eqb (at (t .level) i) 1 (omega (arith, f .row i (sequence-row x h) .level)))))
 
   -- what is known of a speed's busy periods
 

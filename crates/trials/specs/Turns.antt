@@ -6,13 +6,14 @@ use mathlib.Core.List.{List}
 use native.Mathlib.Omega.{arith}
 use lib.Bits.{bitAnd, bitOr}
 use lib.ListN.{getD}
+use lib.Pow.{pow-mono}
 use Rattle.rules.specs.declared.Table.{Table}
 use Rattle.rules.specs.Lists.{allZero}
 use Rattle.rules.specs.Rows.{at, rowsOf, followsOf}
 use Rattle.rules.specs.Tables.{Accepted}
 use Rattle.rules.specs.Choice.{sequence, taker, padded}
 use Rattle.theory.specs.Counts.{In}
-use Rattle.theory.specs.Tests.{by-leb}
+use Rattle.theory.specs.Tests.{by-bool, by-leb}
 use Rattle.theory.specs.Facts.{Row, TableFacts, facts, rows-in}
 use Rattle.theory.specs.Waits.{Closed}
 use Rattle.sweep.specs.Holds.{Holds}
@@ -22,8 +23,10 @@ use Rattle.periods.specs.Entries.{Entries}
 use Rattle.periods.specs.Trying.{Speed, KnownAt, Open, inTime, FirstIn, Parts, lowInTime}
 use Rattle.trials.specs.declared.Trials.{Trials}
 use Rattle.trials.specs.Prepared.{leftOf, trialsOf}
-use Rattle.trials.specs.Opening.{openTo}
-use Rattle.trials.specs.Taking.{Unplaced, Opened, Taken, speed-of, opened, opening, unplaced-turn, taken-low, taken-high, taken-row, known-first, known-turn, period-place, parts-of}
+use Rattle.trials.specs.Opening.{openTo, open-most}
+use Rattle.trials.specs.Allowed.{FirstOf}
+use Rattle.trials.specs.Taking.{Unplaced, Opened, Taken, speed-of, opened, opening, unplaced-turn, taken-row, known-first, known-turn, period-place, parts-of}
+use Rattle.trials.specs.Counting.{Searched, searched-low, searched-high}
 
 -- what is known of the same busy periods
 pub known-same : (queue : List ℕ) (n : ℕ) (release deadline cap entry : List ℕ) (left : ℕ) (p p' : List ℕ) (c c' k k' : ℕ) → p ≡ p' → c ≡ c' → k ≡ k'
@@ -52,9 +55,10 @@ module _ (t : Table) (accepted : Accepted t) (w : Trials) (prepared : w ≡ tria
   unfolding trialsOf
   degraded-parts = rw prepared (parts-of t accepted)
 
-  pub open-entries : (left unplaced tries m : ℕ) → Unplaced t left unplaced → Opened t left unplaced tries → Open (w .queue) (w .entry) (t .n) left (bitAnd tries m)
+  pub open-entries : (left unplaced tries most v m : ℕ) → Unplaced t left unplaced → Opened t left unplaced tries → FirstOf tries most v
+      → Open (w .queue) (w .entry) (t .n) left (bitAnd v m)
   unfolding trialsOf
-  open-entries left unplaced tries m q o = rw prepared (opened t accepted left unplaced q tries o m)
+  open-entries left unplaced tries most v m q o a = rw prepared (opened t accepted left unplaced q tries o most v a m)
 
   -- what the entries of a place are asked for with, and what they are
 
@@ -76,6 +80,13 @@ module _ (t : Table) (accepted : Accepted t) (w : Trials) (prepared : w ≡ tria
   unfolding trialsOf
   opened-now free e left unplaced tries q z = opening t accepted left unplaced q free e tries (rw prepared at z)
 
+  -- the word fits
+  pub tries-small : (free : Bool) (left unplaced tries : ℕ) → Unplaced t left unplaced
+      → tries ≡ cond free unplaced (openTo (t .follows) (w .entry) left unplaced (t .n)) → tries < 2 ^ 64
+  tries-small free left unplaced tries q z =
+      let most : tries ≤ unplaced = rw z (by-bool free (λ e. rw e (omega arith)) (λ e. rw e (open-most (t .follows) (w .entry) left unplaced (t .n)))) in
+      omega (arith, q .within, pow-mono {i = t .n} {j = 64} (f .few))
+
   -- before the first sweep
 
   pub normal-first : (left : ℕ) → KnownIn (w .normal) left (zeros 64) 1 0
@@ -86,11 +97,12 @@ module _ (t : Table) (accepted : Accepted t) (w : Trials) (prepared : w ≡ tria
   unfolding trialsOf
   degraded-first left = rw prepared (known-first t accepted (t .degraded) (f .crawls) left)
 
-  -- the entry found
+  -- the entry found among those allowed
 
-  module _ (left unplaced : ℕ) (holds : Holds left (leftOf t left)) (closed : Closed t (leftOf t left)) (q : Unplaced t left unplaced) (tries : ℕ) (o : Opened t left unplaced tries) where
+  module _ (left unplaced : ℕ) (holds : Holds left (leftOf t left)) (closed : Closed t (leftOf t left)) (q : Unplaced t left unplaced) (tries : ℕ) (o : Opened t left unplaced tries)
+      (small : tries < 2 ^ 64) (most v : ℕ) (a : FirstOf tries most v) where
     abbrev Search : (ℕ → Bool) → ℕ → ℕ → Type 0
-    Search tested level e = FirstIn tested (w .queue) (w .entry) (t .n) left (bitAnd tries level) e
+    Search tested level e = FirstIn tested (w .queue) (w .entry) (t .n) left (bitAnd v level) e
 
     abbrev lowTest : ℕ → Bool
     lowTest = lowInTime (w .queue) (t .n) (t .release) (t .deadline) (w .normal) (w .degraded) (t .promised) (w .part) left
@@ -98,13 +110,13 @@ module _ (t : Table) (accepted : Accepted t) (w : Trials) (prepared : w ≡ tria
     abbrev highTest : ℕ → Bool
     highTest = inTime (w .queue) (t .n) (t .release) (t .deadline) (w .degraded) left
 
-    pub low-taken : (e : ℕ) → Search lowTest (w .low) e → (e ≡ 0 → ⊥) → Taken t left unplaced e
+    pub low-found : (e : ℕ) → Search lowTest (w .low) e → (e ≡ 0 → ⊥) → Searched t left unplaced tries most v e
     unfolding trialsOf
-    low-taken e k n = taken-low t accepted left holds closed unplaced q tries o e (rw prepared at k) n
+    low-found e k n = searched-low t accepted left holds closed unplaced q tries o small most v a e (rw prepared at k) n
 
-    pub high-taken : (d e : ℕ) → Search lowTest (w .low) d → d ≡ 0 → Search highTest (w .high) e → Taken t left unplaced e
+    pub high-found : (d e : ℕ) → Search lowTest (w .low) d → d ≡ 0 → Search highTest (w .high) e → Searched t left unplaced tries most v e
     unfolding trialsOf
-    high-taken d e k z l = taken-high t accepted left holds closed unplaced q tries o d e (rw prepared at k) z (rw prepared at l)
+    high-found d e k z l = searched-high t accepted left holds closed unplaced q tries o small most v a d e (rw prepared at k) z (rw prepared at l)
 
   -- the row at the entry taken
   module _ (left unplaced : ℕ) (q : Unplaced t left unplaced) where

@@ -17,6 +17,7 @@ ghost use Rattle.periods.specs.Entries.{entriesTo, Entries};
 ghost use Rattle.trials.specs.Keys.{keyOf, keyIn, Soon};
 ghost use Rattle.trials.specs.Prepared.{trialsOf};
 ghost use Rattle.trials.specs.Opening.{cleared, openTo};
+ghost use Rattle.trials.specs.Allowed.{FirstOf};
 use rules::Table;
 
 // What a planning works out once: the rows by rising release, the trial sequence, each row's entry in it from 0, the entries of LO and of HI rows as
@@ -162,4 +163,22 @@ pub fn open_entries<'a>(
         k += 1;
     }
     tries
+}
+
+// The first entries of a word: as many as this, or all where they are no more (rule 23.6).
+pub fn first_entries(word: u64, most: u32) -> u64
+    ensures { λ r. ⌜ FirstOf word most r ⌝ }
+{
+    if sweep::how_many(word) <= most {
+        return word;
+    }
+    let mut seat: u32 = 0;
+    let mut found: u32 = 0;
+    while found < most {
+        seat += 1;
+        if sweep::has(word, seat as u8) {
+            found += 1;
+        }
+    }
+    word & sweep::first_rows(seat)
 }

@@ -2,7 +2,7 @@
 //! 13.17 are among them. Works are in work units, clocks in slots, ceilings in trials.
 
 use super::waits::{broken_above, chain};
-use super::{at_loading, no_order, ordered, p1, row, table};
+use super::{at_loading, either_place, no_order, ordered, p1, row, table};
 use crate::plan::{Counted, Plan};
 use crate::table::{Row, Table};
 
@@ -32,9 +32,8 @@ pub fn unplanned(number: u32) -> Counted {
 /// A table of rows that are all released at 0, where N and G are 1. Each row has its work, its
 /// deadline, its level and the row that it follows.
 fn from_zero(rows: &[[u32; 4]]) -> Table {
-    let figures = |&[work, deadline, level, follows]: &[u32; 4]| {
-        row([0, work, deadline, level, 0, follows])
-    };
+    let figures =
+        |&[work, deadline, level, follows]: &[u32; 4]| row([0, work, deadline, level, 0, follows]);
     let rows: Vec<Row> = rows.iter().map(figures).collect();
     Table::of(1, 1, 0, &rows)
 }
@@ -54,29 +53,32 @@ pub fn crowded() -> Table {
     from_zero(&[[2, 2, 1, 0]; 3])
 }
 
-/// The same below a LO row that has time for all.
-fn crowded_below_one() -> Table {
+/// The same with a LO row before them that has time for all, and so takes the lowest place.
+fn crowded_above_one() -> Table {
     let high = [2, 2, 1, 0];
     from_zero(&[[1, 9, 0, 0], high, high, high])
 }
 
-/// Row 1 is late below row 2, which comes after it in the trial sequence and is in time.
+/// Row 1 is tried first and is late below row 2, which is in time below row 1.
 fn most_of_two() -> Table {
     from_zero(&[[2, 2, 0, 0], [1, 3, 1, 0]])
 }
 
-/// A table of so many rows, up to 64, that takes the most trials there can be (rule 23.3).
+/// A table of so many rows, from 1 to 64, that takes the most trials there can be (rule 23.3).
 ///
-/// All rows are LO and have the same deadline. They are tried from row 1 on, and the last
-/// one left is released a slot before all others left. Alone in that slot it gets the 1 work
-/// unit that it promises. But it takes 2 slots, and so each row above it in the table, tried
-/// below it, has its promised part too late: of what is done at G, row 1 takes 64 slots, and
-/// if the other rows took nothing it would be done at the deadline. At N it takes 1 slot, so
-/// that every row finishes in time.
+/// All rows are LO and have the same deadline, so that they are tried from row 1 on. Of the
+/// rows left the last one passes, and no other: it is released a slot before the others and
+/// gets the 1 work unit that it promises in that slot, but it takes a second slot. At G row 1
+/// takes all the time that there is from its own release on, and with this second slot it is
+/// late; so is the 1 work unit of any row below it. At N it takes 1 slot, and no row finishes
+/// after its deadline.
 pub fn most_tried(rows: u32) -> Table {
     let (speed, last) = (64, rows - 1);
-    let mut all = vec![row([last, speed, last + speed, 0, speed])];
-    all.extend((0..last).rev().map(|release| row([release, 2 * speed, last + speed, 0, 1])));
+    let deadline = last + speed;
+    let first = row([last, speed, deadline, 0, speed]);
+    let other = |release| row([release, 2 * speed, deadline, 0, 1]);
+    let mut all = vec![first];
+    all.extend((0..last).rev().map(other));
     Table::of(speed, 1, 0, &all)
 }
 
@@ -105,43 +107,136 @@ fn at(what: &'static str, table: Table, ceiling: u32, answer: Counted) -> Ceilin
 /// The cases of rule 13.17.
 fn ceilings_of_the_rule() -> Vec<CeilingCase> {
     let of_p1 = counted(ordered(&[1, 2, 3, 4]), 6);
-    let in_row_order = |trials| counted(ordered(&[1, 2]), trials);
-    let no_rows = Table { n: 0, ..crowded() };
-    let late_release = from_zero(&[[1, 0, 0, 0]]);
+    let first_above = |trials| counted(ordered(&[1, 2]), trials);
+    let alone = from_zero(&[[1, 1, 1, 0]]);
+    let (no_rows, no_time) = (from_zero(&[]), from_zero(&[[1, 0, 0, 0]]));
     vec![
         at("P1 at its count", p1(), 6, of_p1),
         at("P1, a trial to spare", p1(), 7, of_p1),
         at("P1 at 4 × 5 / 2", p1(), 10, of_p1),
         at("P1 at the highest ceiling", p1(), u32::MAX, of_p1),
         at("P1, a trial too few", p1(), 5, over(5)),
-        at("P1 with one trial", p1(), 1, over(1)),
-        at("P1 without a trial", p1(), 0, over(0)),
-        at("the first row is skipped", skipped_first(), 2, in_row_order(2)),
-        at("so it is, a trial too few", skipped_first(), 1, over(1)),
+        at("P1, one trial", p1(), 1, over(1)),
+        at("P1, no trial", p1(), 0, over(0)),
+        at(
+            "the first row is skipped",
+            skipped_first(),
+            2,
+            first_above(2),
+        ),
+        at("a skip and a trial too few", skipped_first(), 1, over(1)),
         at(
             "stuck, and a row is skipped",
             stuck_by_a_skip(),
             1,
             counted(no_order(0b11), 1),
         ),
-        at("so it is, without a trial", stuck_by_a_skip(), 0, over(0)),
+        at("a skip and no trial", stuck_by_a_skip(), 0, over(0)),
         at(
             "stuck after a place",
-            crowded_below_one(),
+            crowded_above_one(),
             4,
             counted(no_order(0b1110), 4),
         ),
-        at("so it is, a trial too few", crowded_below_one(), 3, over(3)),
-        at("a place, and no trial for the next", crowded_below_one(), 1, over(1)),
+        at("all but the last trial", crowded_above_one(), 3, over(3)),
+        at("the trial of one place", crowded_above_one(), 1, over(1)),
         at("stuck at once", crowded(), 3, counted(no_order(0b111), 3)),
-        at("so it is, and no order is correct", crowded(), 2, over(2)),
-        at("a row alone", from_zero(&[[1, 1, 1, 0]]), 1, counted(ordered(&[1]), 1)),
-        at("a row alone, without a trial", from_zero(&[[1, 1, 1, 0]]), 0, over(0)),
-        at("the most of two rows", most_of_two(), 3, in_row_order(3)),
+        at("a trial too few to be stuck", crowded(), 2, over(2)),
+        at("a row alone", alone, 1, counted(ordered(&[1]), 1)),
+        at("a row alone, no trial", alone, 0, over(0)),
+        at("the most of two rows", most_of_two(), 3, first_above(3)),
         at("the most but one", most_of_two(), 2, over(2)),
-        at("no rows", no_rows, 0, unplanned(3)),
-        at("no rows, and trials for three", no_rows, 6, unplanned(3)),
-        at("a release that is the deadline", late_release, 0, unplanned(5)),
-        at("the same, and trials for three", late_release, 6, unplanned(5)),
+        at("no rows, no trial", no_rows, 0, unplanned(3)),
+        at("no rows, 6 trials", no_rows, 6, unplanned(3)),
+        at("released at its deadline", no_time, 0, unplanned(5)),
+        at("the same, 6 trials", no_time, 6, unplanned(5)),
+    ]
+}
+
+/// Ceilings of more bits, waits, loading, promised parts, tables of 64 rows, and every number
+/// of the checks on tables.
+fn more_ceilings() -> Vec<CeilingCase> {
+    let of_p1 = counted(ordered(&[1, 2, 3, 4]), 6);
+    let falling: Vec<u8> = (1..=64).rev().collect();
+    let rising: Vec<u8> = (1..=64).collect();
+    let waiting = |second| table(1, 1, &[[1, 1, 9, 0, 0, 0], second]);
+    let too_many = Table { n: 65, ..crowded() };
+    vec![
+        at("P1 at 256", p1(), 256, of_p1),
+        at("P1 at 65,536", p1(), 1 << 16, of_p1),
+        at("P1 at 2,147,483,648", p1(), 1 << 31, of_p1),
+        at("a chain", chain(1, 2), 3, counted(ordered(&[1, 2, 3]), 3)),
+        at("a chain, a trial too few", chain(1, 2), 2, over(2)),
+        at(
+            "two rows follow one",
+            chain(1, 1),
+            3,
+            counted(ordered(&[1, 3, 2]), 3),
+        ),
+        at(
+            "a wait is broken above",
+            broken_above(),
+            4,
+            counted(ordered(&[1, 2, 3]), 4),
+        ),
+        at("K 0", at_loading(0), 2, counted(ordered(&[2, 1]), 2)),
+        at("K 1", at_loading(1), 3, counted(ordered(&[1, 2]), 3)),
+        at("K 1, a trial too few", at_loading(1), 2, over(2)),
+        at("K 2", at_loading(2), 2, counted(no_order(0b11), 2)),
+        at("r 0", either_place(0), 2, counted(ordered(&[2, 1]), 2)),
+        at("r 2", either_place(2), 3, counted(ordered(&[1, 2]), 3)),
+        at("r 2, a trial too few", either_place(2), 2, over(2)),
+        at(
+            "64 rows alike",
+            alike(64, 64),
+            64,
+            counted(ordered(&falling), 64),
+        ),
+        at("64 rows, a trial too few", alike(64, 64), 63, over(63)),
+        at(
+            "64 rows, stuck at once",
+            alike(64, 63),
+            64,
+            counted(no_order(u64::MAX), 64),
+        ),
+        at(
+            "the most of 64 rows",
+            most_tried(64),
+            2_080,
+            counted(ordered(&rising), 2_080),
+        ),
+        at(
+            "all but the last of 2,080",
+            most_tried(64),
+            2_079,
+            over(2_079),
+        ),
+        at("65 rows", too_many, 1, unplanned(3)),
+        at("G above N", table(2, 3, &[[0, 1, 9, 0]]), 0, unplanned(4)),
+        at("K of 17", p1().with_loading(17), u32::MAX, unplanned(11)),
+        at(
+            "more promised than work",
+            table(1, 1, &[[0, 1, 9, 0, 2]]),
+            0,
+            unplanned(12),
+        ),
+        at(
+            "it follows itself",
+            waiting([1, 1, 9, 0, 0, 2]),
+            1,
+            unplanned(13),
+        ),
+        at(
+            "it follows a row of a later release",
+            waiting([0, 1, 9, 0, 0, 1]),
+            u32::MAX,
+            unplanned(14),
+        ),
+        at(
+            "HI follows LO",
+            waiting([1, 1, 9, 1, 0, 1]),
+            0,
+            unplanned(15),
+        ),
     ]
 }

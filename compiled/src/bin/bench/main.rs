@@ -2,14 +2,15 @@
 //!
 //!     cargo run --offline --release --bin bench
 //!     cargo run --offline --release --bin bench -- plans
+//!     cargo run --offline --release --bin bench -- ceilings
 //!     cargo run --offline --release --bin bench -- slots
 //!     cargo run --offline --release --bin bench -- commits
 //!     cargo run --offline --release --bin bench -- searches
 //!
 //! The headline is the ratio: the library's time divided by plain Rust's, both
 //! from this run, this machine and the same inputs. No time is asserted. With the
-//! word `plans` planning alone is timed, with the word `slots` one slot and forward, with
-//! the word `commits` asking and committing.
+//! word `plans` planning alone is timed, with the word `ceilings` planning at ceilings, with
+//! the word `slots` one slot and forward, with the word `commits` asking and committing.
 //! With the word `searches` nothing is timed: each search for a least speed is made
 //! once, for tools/plannings.sh, which counts its plannings.
 
@@ -37,6 +38,7 @@ fn main() {
     match std::env::args().nth(1).as_deref() {
         Some("searches") => searches::make_each_once(),
         Some("plans") => measure_plans(),
+        Some("ceilings") => measure_ceilings(),
         Some("slots") => measure_slots(),
         Some("commits") => measure_commits(),
         _ => measure_all(),
@@ -47,6 +49,12 @@ fn main() {
 fn measure_plans() {
     print_conditions();
     plans::measure();
+}
+
+/// Planning at ceilings alone.
+fn measure_ceilings() {
+    print_conditions();
+    plans::measure_ceilings();
 }
 
 /// One slot and forward alone.
@@ -77,6 +85,7 @@ fn print_conditions() {
 
 fn measure_all() {
     measure_plans();
+    plans::measure_ceilings();
     pairs::print_head();
     for_each_count(|n| measure_judge(&hard(n)));
     for_each_count(|n| measure_write(&hard(n)));

@@ -85,6 +85,31 @@ pub fn measure_with_two(
     );
 }
 
+/// Prints the head of the table of calls that are measured at ceilings.
+pub fn print_head_with_ceilings() {
+    println!(
+        "{:<28}{:>5}{:>9}{:>8}{:>8}{:>16}{:>16}{:>8}",
+        "what", "rows", "ceiling", "trials", "number", "library", "no ceiling", "ratio"
+    );
+}
+
+/// Measures a call at a ceiling and the one without, and prints their line, with the rows, the
+/// ceiling, the trials made and the number, and the ratio of the first to the second.
+pub fn measure_with_ceiling(
+    what: &str,
+    [rows, ceiling, trials, number]: [u32; 4],
+    within: &mut dyn FnMut(),
+    without: &mut dyn FnMut(),
+) {
+    let [of_within, of_without] = best([within, without]);
+    println!(
+        "{what:<28}{rows:>5}{ceiling:>9}{trials:>8}{number:>8}{:>16}{:>16}{:>8.2}",
+        in_words(of_within),
+        in_words(of_without),
+        of_within / of_without
+    );
+}
+
 /// Nanoseconds that each of these takes: the best of its batches, which take turns
 /// with those of the others.
 fn best<const COUNT: usize>(mut calls: [&mut dyn FnMut(); COUNT]) -> [f64; COUNT] {

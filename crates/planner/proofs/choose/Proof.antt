@@ -1,10 +1,11 @@
 -- The loop's invariant: the choice goes on from the rows left and the rows placed, the place is how many rows are left, their entries are the unplaced ones, and
 -- what is known of the busy periods at either speed is so of the rows left.
-use Prim.Native.Nat.{ℕ, _≤_, _<_, _-_}
+use Prim.Native.Nat.{ℕ, _≤_, _<_, _+_, _-_, _^_}
 use native.Mathlib.Omega.{arith}
 use borrow.Author.Needs.{needs}
-use mathlib.Core.Path.{_≡_, refl, sym, ap, subst}
+use mathlib.Core.Path.{_≡_, refl, sym, ap, subst, _∙_}
 use mathlib.Core.Logic.{⊎-elim}
+use lib.Bits.{bitAnd}
 use lib.Count.{ones}
 use lib.ListN.{getD}
 use Rattle.rules.specs.Rows.{at}
@@ -15,22 +16,25 @@ use Rattle.sweep.specs.Padded.{zeros}
 use Rattle.periods.specs.Trying.{KnownAt}
 use Rattle.trials.specs.Prepared.{leftOf}
 use Rattle.trials.specs.Taking.{Unplaced, Opened, Taken, unplaced-start}
-use Rattle.trials.specs.Turns.{KnownIn, known-same, entries-small, followed-few, opened-now, normal-speed, degraded-speed, degraded-parts, open-entries, normal-first, degraded-first, low-taken, high-taken, taken-range}
+use Rattle.trials.specs.Allowed.{below, below-most}
+use Rattle.trials.specs.Counting.{Searched}
+use Rattle.trials.specs.Turns.{KnownIn, known-same, entries-small, followed-few, opened-now, tries-small, normal-speed, degraded-speed, degraded-parts, open-entries, normal-first, degraded-first, low-found, high-found, taken-range}
 use Rattle.trials.specs.Turns.{row-is, row-some, normal-within, degraded-within, unplaced-next, normal-next, degraded-next}
-use Rattle.planner.specs.Placing.{Placing, placing-start, placing-done, placing-stuck, placing-turn, taker-range, taker-bit}
+use Rattle.planner.specs.Placing.{Placing, Tally, placing-start, tally-start, counted-done, counted-stuck, counted-over, placing-turn, tally-turn, taker-range, taker-bit}
 use Rattle.planner.proofs.choose.Statement.{statement}
 use Rattle.planner.proofs.choose.Tie as tie
 
 abbrev Inv-loop : tie.InvT-loop
-Inv-loop t n free w order₀ left₀ unplaced₀ place₀ period₀ changed₀ passing₀ slow-period₀ slow-changed₀ slow-passing₀ order left unplaced place period changed passing
-    slow-period slow-changed slow-passing =
+Inv-loop ceiling t n free w order₀ left₀ unplaced₀ place₀ period₀ changed₀ passing₀ slow-period₀ slow-changed₀ slow-passing₀ made₀ order left unplaced place period changed passing
+    slow-period slow-changed slow-passing made =
     (place ≤ 64) × Placing t order left place × Unplaced t left unplaced
     × KnownAt (w .queue) (t .n) (t .release) (t .deadline) (w .normal) (w .entry) left period changed passing
     × KnownAt (w .queue) (t .n) (t .release) (t .deadline) (w .degraded) (w .entry) left slow-period slow-changed slow-passing
+    × Tally t ceiling left place made
 
 abbrev μ-loop : tie.MeasureT-loop
-μ-loop t n free w order₀ left₀ unplaced₀ place₀ period₀ changed₀ passing₀ slow-period₀ slow-changed₀ slow-passing₀ order left unplaced place period changed passing
-    slow-period slow-changed slow-passing = ones left
+μ-loop ceiling t n free w order₀ left₀ unplaced₀ place₀ period₀ changed₀ passing₀ slow-period₀ slow-changed₀ slow-passing₀ made₀ order left unplaced place period changed passing
+    slow-period slow-changed slow-passing made = ones left
 
 -- the places of the code, each from a later one: the start, a turn, the trials at N, those at G
 abbrev prepared : tie.At-loop Inv-loop μ-loop → tie.After-prepare Inv-loop μ-loop
@@ -39,8 +43,11 @@ prepared l = l .before .before .before
 abbrev start : tie.At-loop Inv-loop μ-loop → tie.Start Inv-loop μ-loop
 start l = prepared l .before .before .before .before
 
+abbrev allowed-of : tie.After-period Inv-loop μ-loop → tie.After-first-entries Inv-loop μ-loop
+allowed-of c = c .before .before .before .before .before .before .before .before .before .before .before .before
+
 abbrev opened-of : tie.After-period Inv-loop μ-loop → tie.After-open-entries Inv-loop μ-loop
-opened-of c = c .before .before .before .before .before .before .before .before .before .before .before .before
+opened-of c = allowed-of c .before
 
 abbrev turn-of : tie.After-period Inv-loop μ-loop → tie.In-loop Inv-loop μ-loop
 turn-of c = opened-of c .before .before .before .before .before
@@ -72,6 +79,7 @@ loop-holds c =
       unplaced-start t (s .pre) (first .result) (first .ensures),
       normal-first t (s .pre) (w .prepare .result) (w .prepare .ensures) (first .result),
       degraded-first t (s .pre) (w .prepare .result) (w .prepare .ensures) (first .result),
+      tally-start t (s .pre) (s .args .ceiling) (first .result) (c .how-many .result) (first .ensures) (c .how-many .ensures),
     )
 
 open-entries-requires : tie.Need-open-entries-requires Inv-loop μ-loop
@@ -92,6 +100,21 @@ tried-now c =
     opened-now (s .args .t1) (s .pre) (w .prepare .result) (w .prepare .ensures) (w .before .zero-after .result) (w .before .zero-after .ensures) (l .loop .left) (l .loop .unplaced)
     (c .open-entries .result) (l .loop .inv .2) (c .open-entries .ensures)
 
+sub-first-entries : tie.Need-sub-first-entries Inv-loop μ-loop
+sub-first-entries c = c .before .before .before .before .before .before .loop .inv .5 .within
+
+-- their word fits
+tried-small : (c : tie.After-open-entries Inv-loop μ-loop) → c .open-entries .result < 2 ^ 64
+tried-small c =
+    let l = c .before .before .before .before .before .before in
+    let w = prepared l in
+    let s = start l in
+    tries-small (s .args .t1) (s .pre) (w .prepare .result) (w .prepare .ensures) (w .before .zero-after .result) (l .loop .left) (l .loop .unplaced)
+    (c .open-entries .result) (l .loop .inv .2) (c .open-entries .ensures)
+
+first-entries-requires : tie.Need-first-entries-requires Inv-loop μ-loop
+first-entries-requires c κs = search needs
+
 first-low-requires : tie.Need-first-low-requires Inv-loop μ-loop
 first-low-requires c κs =
     let l = turn-of c .before in
@@ -102,8 +125,8 @@ first-low-requires c κs =
       normal-speed t (s .pre) v (w .prepare .ensures),
       degraded-parts t (s .pre) v (w .prepare .ensures),
       l .loop .inv .3,
-      open-entries t (s .pre) v (w .prepare .ensures) (l .loop .left) (l .loop .unplaced) (opened-of c .open-entries .result) (v .low)
-          (l .loop .inv .2) (tried-now (opened-of c)),
+      open-entries t (s .pre) v (w .prepare .ensures) (l .loop .left) (l .loop .unplaced) (opened-of c .open-entries .result) (s .args .ceiling - l .loop .made)
+          (allowed-of c .first-entries .result) (v .low) (l .loop .inv .2) (tried-now (opened-of c)) (allowed-of c .first-entries .ensures),
     )
 
 first-in-time-requires : tie.Need-first-in-time-requires Inv-loop μ-loop
@@ -115,8 +138,9 @@ first-in-time-requires c κs =
     let v = w .prepare .result in (
       degraded-speed t (s .pre) v (w .prepare .ensures),
       l .loop .inv .4,
-      open-entries t (s .pre) v (w .prepare .ensures) (l .loop .left) (l .loop .unplaced) (opened-of (failed c .before .before) .open-entries .result) (v .high)
-          (l .loop .inv .2) (tried-now (opened-of (failed c .before .before))),
+      open-entries t (s .pre) v (w .prepare .ensures) (l .loop .left) (l .loop .unplaced) (opened-of (failed c .before .before) .open-entries .result)
+          (s .args .ceiling - l .loop .made) (allowed-of (failed c .before .before) .first-entries .result) (v .high) (l .loop .inv .2)
+          (tried-now (opened-of (failed c .before .before))) (allowed-of (failed c .before .before) .first-entries .ensures),
     )
 
 -- after both searches: the entry of the row that takes the place, and what is known at G
@@ -130,18 +154,31 @@ module _ (c : tie.Joined1 Inv-loop μ-loop) where
   abbrev begun : tie.Start Inv-loop μ-loop
   begun = start head
 
-  taken : Taken (begun .args .t1) (head .loop .left) (head .loop .unplaced) (c .if1 .entry)
-  taken =
+  abbrev opening : tie.After-open-entries Inv-loop μ-loop
+  opening = opened-of (c .before .before)
+
+  abbrev allowing : tie.After-first-entries Inv-loop μ-loop
+  allowing = allowed-of (c .before .before)
+
+  -- the trials that the ceiling has left
+  abbrev rest : ℕ
+  rest = begun .args .ceiling - head .loop .made
+
+  abbrev Result : ℕ → Type 0
+  Result = Searched (begun .args .t1) (head .loop .left) (head .loop .unplaced) (opening .open-entries .result) rest (allowing .first-entries .result)
+
+  searched : Result (c .if1 .entry)
+  searched =
       let w = prepared head .prepare in
       let i = head .loop .inv in
       ⊎-elim
-      (λ v. subst (Taken (begun .args .t1) (head .loop .left) (head .loop .unplaced)) (sym (v .13))
-      (high-taken (begun .args .t1) (begun .pre) (w .result) (w .ensures) (head .loop .left) (head .loop .unplaced) (i .1 .holds) (i .1 .closed) (i .2)
-      (opened-of (c .before .before) .open-entries .result) (tried-now (opened-of (c .before .before)))
+      (λ v. subst Result (sym (v .13))
+      (high-found (begun .args .t1) (begun .pre) (w .result) (w .ensures) (head .loop .left) (head .loop .unplaced) (i .1 .holds) (i .1 .closed) (i .2)
+      (opening .open-entries .result) (tried-now opening) (tried-small opening) rest (allowing .first-entries .result) (allowing .first-entries .ensures)
       (c .before .first-low .result .found) (v .9 .result .found) (c .before .first-low .ensures .0) (v .0 .taken) (v .9 .ensures .0)))
-      (λ v. subst (Taken (begun .args .t1) (head .loop .left) (head .loop .unplaced)) (sym (v .4))
-      (low-taken (begun .args .t1) (begun .pre) (w .result) (w .ensures) (head .loop .left) (head .loop .unplaced) (i .1 .holds) (i .1 .closed) (i .2)
-      (opened-of (c .before .before) .open-entries .result) (tried-now (opened-of (c .before .before)))
+      (λ v. subst Result (sym (v .4))
+      (low-found (begun .args .t1) (begun .pre) (w .result) (w .ensures) (head .loop .left) (head .loop .unplaced) (i .1 .holds) (i .1 .closed) (i .2)
+      (opening .open-entries .result) (tried-now opening) (tried-small opening) rest (allowing .first-entries .result) (allowing .first-entries .ensures)
       (c .before .first-low .result .found) (c .before .first-low .ensures .0) (v .0 .left)))
       (c .if1 .came)
 
@@ -158,13 +195,41 @@ module _ (c : tie.Joined1 Inv-loop μ-loop) where
       (v .1) (v .2) (v .3) (head .loop .inv .4))
       (c .if1 .came)
 
+refused-requires : tie.Need-refused-requires Inv-loop μ-loop
+refused-requires c κs = search needs
+
 returns : tie.Need-returns Inv-loop μ-loop
 returns c =
-    let j = c .before in
+    let j = c .before .before .before in
     let l = head j in
     let s = begun j in
-    placing-stuck (s .args .t1) (s .pre) (l .loop .order) (l .loop .left) (l .loop .place) (l .loop .inv .1) (turn j .loop-test .taken)
-    (taken j .none (c .if2 .taken))
+    c .refused .ensures
+    ∙ counted-over (s .args .t1) (s .pre) (l .loop .order) (l .loop .left) (l .loop .place) (l .loop .inv .1) (turn j .loop-test .taken) (s .args .ceiling)
+    (l .loop .made) (l .loop .inv .5) (searched j .over (c .before .before .if2 .taken) (c .before .if3 .taken))
+
+how-many-requires-2 : tie.Need-how-many-requires-2 Inv-loop μ-loop
+how-many-requires-2 c κs = search needs
+
+add-t60 : tie.Need-add-t60 Inv-loop μ-loop
+add-t60 c =
+    let j = c .before .before .before in
+    omega (
+      arith,
+      c .how-many2 .ensures,
+      allowing j .first-entries .ensures .few,
+      head j .loop .inv .5 .within,
+      begun j .fits .ceiling .fits,
+    )
+
+returns-2 : tie.Need-returns-2 Inv-loop μ-loop
+returns-2 c =
+    let j = c .before .before .before in
+    let l = head j in
+    let s = begun j in
+    let none = searched j .stuck (c .before .before .if2 .taken) (c .before .if3 .left) in
+    counted-stuck (s .args .t1) (s .pre) (l .loop .order) (l .loop .left) (l .loop .place) (l .loop .inv .1) (turn j .loop-test .taken) (s .args .ceiling)
+    (l .loop .made) (c .how-many2 .result) (l .loop .inv .5) (none .0) (none .1 ∙ sym (c .how-many2 .ensures))
+    (omega (arith, c .how-many2 .ensures, allowing j .first-entries .ensures .few, l .loop .inv .5 .within))
 
 -- the row taken is left
 module _ (c : tie.Else2 Inv-loop μ-loop) where
@@ -174,6 +239,10 @@ module _ (c : tie.Else2 Inv-loop μ-loop) where
   abbrev first : tie.Start Inv-loop μ-loop
   first = begun (c .before)
 
+  -- the row that takes the place
+  taken : Taken (first .args .t1) (entered .loop .left) (entered .loop .unplaced) (c .before .if1 .entry)
+  taken = searched (c .before) .taken (c .if2 .left)
+
   abbrev mine : ℕ
   mine = getD (prepared entered .prepare .result .sequence) (c .before .if1 .entry - 1) 0
 
@@ -181,19 +250,19 @@ module _ (c : tie.Else2 Inv-loop μ-loop) where
   entry-range =
       let w = prepared entered .prepare in
       taken-range (first .args .t1) (first .pre) (w .result) (w .ensures) (entered .loop .left) (entered .loop .unplaced)
-      (entered .loop .inv .2) (c .before .if1 .entry) (taken (c .before)) (c .if2 .left)
+      (entered .loop .inv .2) (c .before .if1 .entry) taken (c .if2 .left)
 
   is : mine ≡ taker (first .args .t1) (leftOf (first .args .t1) (entered .loop .left))
   is =
       let w = prepared entered .prepare in
       row-is (first .args .t1) (first .pre) (w .result) (w .ensures) (entered .loop .left) (entered .loop .unplaced)
-      (entered .loop .inv .2) (c .before .if1 .entry) (taken (c .before)) (c .if2 .left)
+      (entered .loop .inv .2) (c .before .if1 .entry) taken (c .if2 .left)
 
   some : mine ≡ 0 → ⊥
   some =
       let w = prepared entered .prepare in
       row-some (first .args .t1) (first .pre) (w .result) (w .ensures) (entered .loop .left) (entered .loop .unplaced)
-      (entered .loop .inv .2) (c .before .if1 .entry) (taken (c .before)) (c .if2 .left)
+      (entered .loop .inv .2) (c .before .if1 .entry) taken (c .if2 .left)
 
   range : (1 ≤ mine) × (mine ≤ 64)
   range =
@@ -209,12 +278,43 @@ module _ (c : tie.Else2 Inv-loop μ-loop) where
   slow-within =
       let w = prepared entered .prepare in
       degraded-within (first .args .t1) (first .pre) (w .result) (w .ensures) (entered .loop .left) (entered .loop .unplaced)
-      (entered .loop .inv .2) (c .before .if1 .entry) (taken (c .before)) (c .if2 .left) held
+      (entered .loop .inv .2) (c .before .if1 .entry) taken (c .if2 .left) held
       (c .before .if1 .slow-period) (c .before .if1 .slow-changed) (c .before .if1 .slow-passing) (known (c .before))
 
 -- the places after a row was taken, from a later one
-abbrev took : tie.After-how-many2 Inv-loop μ-loop → tie.Else2 Inv-loop μ-loop
-took c = c .before .before .before .before .before
+abbrev took : tie.After-how-many4 Inv-loop μ-loop → tie.Else2 Inv-loop μ-loop
+took c = c .before .before .before .before .before .before .before
+
+abbrev counting : tie.After-how-many4 Inv-loop μ-loop → tie.After-how-many3 Inv-loop μ-loop
+counting c = c .before .before .before .before
+
+first-rows-requires-2 : tie.Need-first-rows-requires-2 Inv-loop μ-loop
+first-rows-requires-2 c κs = omega (arith, entry-range (c .before) .1, facts _ (first (c .before) .pre) .few)
+
+how-many-requires-3 : tie.Need-how-many-requires-3 Inv-loop μ-loop
+how-many-requires-3 c κs = search needs
+
+-- the trials made at a place are those up to the entry found, and the ceiling has so many left
+module _ (c : tie.After-how-many3 Inv-loop μ-loop) where
+  abbrev found : tie.Else2 Inv-loop μ-loop
+  found = c .before .before .before
+
+  last-is : c .how-many3 .result ≡ below (allowing (found .before) .first-entries .result) (found .before .if1 .entry)
+  last-is = c .how-many3 .ensures ∙ ap (λ (m : ℕ). ones (bitAnd (allowing (found .before) .first-entries .result) m)) (c .before .first-rows2 .ensures)
+
+  last-most : entered found .loop .made + c .how-many3 .result ≤ begun (found .before) .args .ceiling
+  last-most =
+      let j = found .before in
+      omega (
+        arith,
+        last-is,
+        below-most (j .if1 .entry) (allowing j .first-entries .result),
+        allowing j .first-entries .ensures .few,
+        head j .loop .inv .5 .within,
+      )
+
+add-made : tie.Need-add-made Inv-loop μ-loop
+add-made c = omega (arith, last-most c, begun (found c .before) .fits .ceiling .fits)
 
 sub-row : tie.Need-sub-row Inv-loop μ-loop
 sub-row c = search needs
@@ -223,34 +323,34 @@ cast-row : tie.Need-cast-row Inv-loop μ-loop
 cast-row c = search needs
 
 element-copy-out-row : tie.Need-element-copy-out-row Inv-loop μ-loop
-element-copy-out-row c = let r = entry-range (c .before) in omega (arith, r .0, r .1, facts _ (first (c .before) .pre) .few)
+element-copy-out-row c = let e = found c in let r = entry-range e in omega (arith, r .0, r .1, facts _ (first e .pre) .few)
 
 sub-i : tie.Need-sub-i Inv-loop μ-loop
-sub-i c = range (c .before .before) .0
+sub-i c = range (found (c .before)) .0
 
 cast-i : tie.Need-cast-i Inv-loop μ-loop
-cast-i c = omega (arith, range (c .before .before) .1)
+cast-i c = omega (arith, range (found (c .before)) .1)
 
 sub-order : tie.Need-sub-order Inv-loop μ-loop
-sub-order c = search needs
+sub-order c = turn (found (c .before) .before) .loop-test .taken
 
 cast-order : tie.Need-cast-order Inv-loop μ-loop
-cast-order c = search needs
+cast-order c = omega (arith, head (found (c .before) .before) .loop .inv .0)
 
 array-write-order : tie.Need-array-write-order Inv-loop μ-loop
-array-write-order c = search needs
+array-write-order c = let j = found (c .before) .before in omega (arith, turn j .loop-test .taken, head j .loop .inv .0)
 
 without-requires : tie.Need-without-requires Inv-loop μ-loop
-without-requires c κs = let e = c .before .before in (range e .0, range e .1, held e)
+without-requires c κs = let e = found (c .before) in (range e .0, range e .1, held e)
 
 without-requires-2 : tie.Need-without-requires-2 Inv-loop μ-loop
 without-requires-2 c κs =
-    let e = c .before .before .before in
+    let e = found (c .before .before) in
     let r = entry-range e in
     (r .0, omega (arith, r .1, facts _ (first e .pre) .few), r .2)
 
-how-many-requires-2 : tie.Need-how-many-requires-2 Inv-loop μ-loop
-how-many-requires-2 c κs = search needs
+how-many-requires-4 : tie.Need-how-many-requires-4 Inv-loop μ-loop
+how-many-requires-4 c κs = search needs
 
 array-read-changed : tie.Need-array-read-changed Inv-loop μ-loop
 array-read-changed c = let r = range (took c) in omega (arith, r .0, r .1)
@@ -262,7 +362,7 @@ cast-changed c =
     let l = entered e in
     let w = prepared l .prepare in
     let h = normal-within (s .args .t1) (s .pre) (w .result) (w .ensures) (l .loop .left) (l .loop .unplaced)
-    (l .loop .inv .2) (e .before .if1 .entry) (taken (e .before)) (e .if2 .left) (held e) _
+    (l .loop .inv .2) (e .before .if1 .entry) (taken e) (e .if2 .left) (held e) _
     (e .before .before .first-low .result .changed) (e .before .before .first-low .result .passing) (e .before .before .first-low .ensures .1) in
     omega (arith, h)
 
@@ -273,7 +373,7 @@ shl-changed c =
     let l = entered e in
     let w = prepared l .prepare in
     let h = normal-within (s .args .t1) (s .pre) (w .result) (w .ensures) (l .loop .left) (l .loop .unplaced)
-    (l .loop .inv .2) (e .before .if1 .entry) (taken (e .before)) (e .if2 .left) (held e) _
+    (l .loop .inv .2) (e .before .if1 .entry) (taken e) (e .if2 .left) (held e) _
     (e .before .before .first-low .result .changed) (e .before .before .first-low .result .passing) (e .before .before .first-low .ensures .1) in
     h
 
@@ -303,25 +403,28 @@ loop-again c =
     let high = e .before .if1 in
     let p = placing-turn t (s .pre) (l .loop .order) (l .loop .left) (l .loop .place) (l .loop .inv .1)
     (turn (e .before) .loop-test .taken) (mine e) (is e) (some e)
-    (gone .result) (c .before .how-many2 .result) (gone .ensures) (c .before .how-many2 .ensures) in
+    (gone .result) (c .before .how-many4 .result) (gone .ensures) (c .before .how-many4 .ensures) in
     let near = normal-within t (s .pre) (w .result) (w .ensures) (l .loop .left) (l .loop .unplaced)
-    (l .loop .inv .2) (e .before .if1 .entry) (taken (e .before)) (e .if2 .left) (held e) _ (low .result .changed) (low .result .passing) (low .ensures .1) in (
+    (l .loop .inv .2) (e .before .if1 .entry) (taken e) (e .if2 .left) (held e) _ (low .result .changed) (low .result .passing) (low .ensures .1) in (
       omega (arith, p .few, facts _ (s .pre) .few),
       p,
       rw (gone .ensures, c .before .before .without2 .ensures) (unplaced-next t (s .pre) (w .result) (w .ensures) (l .loop .left) (l .loop .unplaced)
-          (l .loop .inv .2) (e .before .if1 .entry) (taken (e .before)) (e .if2 .left) (held e)),
+          (l .loop .inv .2) (e .before .if1 .entry) (taken e) (e .if2 .left) (held e)),
       rw (gone .ensures, one-shl _ near) (normal-next t (s .pre) (w .result) (w .ensures) (l .loop .left) (l .loop .unplaced)
-          (l .loop .inv .2) (e .before .if1 .entry) (taken (e .before)) (e .if2 .left) (held e) _ (low .result .changed) (low .result .passing) (low .ensures .1)),
+          (l .loop .inv .2) (e .before .if1 .entry) (taken e) (e .if2 .left) (held e) _ (low .result .changed) (low .result .passing) (low .ensures .1)),
       rw (gone .ensures, one-shl (at (high .slow-period) (mine e)) (slow-within e)) (degraded-next t (s .pre) (w .result) (w .ensures) (l .loop .left) (l .loop .unplaced)
-          (l .loop .inv .2) (e .before .if1 .entry) (taken (e .before)) (e .if2 .left) (held e)
+          (l .loop .inv .2) (e .before .if1 .entry) (taken e) (e .if2 .left) (held e)
           (high .slow-period) (high .slow-changed) (high .slow-passing) (known (e .before))),
+      tally-turn t (s .pre) (l .loop .order) (l .loop .left) (l .loop .place) (l .loop .inv .1) (turn (e .before) .loop-test .taken) (mine e) (is e) (some e)
+          (s .args .ceiling) (l .loop .made) (counting (c .before) .how-many3 .result) (gone .result) (c .before .how-many4 .result) (l .loop .inv .5)
+          (searched (e .before) .made (e .if2 .left) ∙ sym (last-is (counting (c .before)))) (last-most (counting (c .before))) (gone .ensures) (c .before .how-many4 .ensures),
     )
 
-returns-2 : tie.Need-returns-2 Inv-loop μ-loop
-returns-2 c =
+returns-3 : tie.Need-returns-3 Inv-loop μ-loop
+returns-3 c =
     let l = c .before in
     let s = start l in
-    placing-done (s .args .t1) (s .pre) (l .loop .order) (l .loop .left) (l .loop .place) (l .loop .inv .1) (omega arith)
+    counted-done (s .args .t1) (s .pre) (l .loop .order) (l .loop .left) (l .loop .place) (l .loop .inv .1) (s .args .ceiling) (l .loop .made) (l .loop .inv .5) (omega arith)
 
 pub choose-spec : {M : Type 1} → statement M
 choose-spec =
@@ -335,9 +438,18 @@ choose-spec =
     how-many-requires
     loop-holds
     open-entries-requires
+    sub-first-entries
+    first-entries-requires
     first-low-requires
     first-in-time-requires
+    refused-requires
     returns
+    how-many-requires-2
+    add-t60
+    returns-2
+    first-rows-requires-2
+    how-many-requires-3
+    add-made
     sub-row
     cast-row
     element-copy-out-row
@@ -348,7 +460,7 @@ choose-spec =
     array-write-order
     without-requires
     without-requires-2
-    how-many-requires-2
+    how-many-requires-4
     array-read-changed
     cast-changed
     shl-changed
@@ -357,4 +469,4 @@ choose-spec =
     shl-slow-changed
     loop-less
     loop-again
-    returns-2)
+    returns-3)

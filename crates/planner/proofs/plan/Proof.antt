@@ -1,42 +1,35 @@
--- A refused table answers for itself; for an accepted one the choice does.
+-- The ceiling is not below what an accepted table takes.
+use Prim.Native.Nat.{ℕ, min, _≤_}
 use borrow.Author.Needs.{needs}
-use mathlib.Core.Path.{sym, _∙_}
+use mathlib.Core.Path.{_≡_, ap, sym, _∙_}
+use native.Mathlib.Omega.{arith}
+use Rattle.rules.specs.declared.Table.{Table}
 use Rattle.rules.specs.Tables.{Accepted}
-use Rattle.rules.specs.Choice.{planOf}
+use Rattle.theory.specs.Facts.{facts}
+use Rattle.ceiling.specs.declared.Counted.{Counted}
+use Rattle.ceiling.specs.Ceiling.{trialCount, mostTrials}
+use Rattle.ceiling.specs.Bounds.{count-most, planned-within}
 use Rattle.planner.specs.Promise.{promised}
 use Rattle.planner.proofs.plan.Statement.{statement}
 use Rattle.planner.proofs.plan.Tie as tie
 
-check-table-requires : tie.Need-check-table-requires
-check-table-requires c κs = search needs
+-- of an accepted table all rows count
+enough : (t : Table) → Accepted t → trialCount t ≤ mostTrials (min (t .n) 64)
+enough t a = let e : min (t .n) 64 ≡ t .n = omega (arith, facts t a .few) in rw e (count-most t)
 
-enum-known-check : tie.Need-enum-known-check
-enum-known-check c = search needs
+most-trials-requires : tie.Need-most-trials-requires
+most-trials-requires c κs = search needs
 
-enum-told : tie.Need-enum-told
-enum-told c = search needs
-
-accepted : (c : tie.After-enum-told) → Accepted (c .before .before .before .args .t)
-accepted c = sym (c .before .before .check-table .ensures) ∙ c .enum-told .given .1
-
-choose-requires : tie.Need-choose-requires
-choose-requires c κs = accepted c
+plan-within-requires : tie.Need-plan-within-requires
+plan-within-requires c κs = search needs
 
 returns : tie.Need-returns
-unfolding planOf
-returns c = promised _ _ (rw (sym (c .before .before .before .check-table .ensures) ∙ c .before .check .given .1))
-
-returns-2 : tie.Need-returns-2
-unfolding planOf
-returns-2 c = promised _ _ (rw (accepted (c .before)) (c .choose .ensures))
+returns c =
+    let t = c .before .before .before .args .t in
+    let most = c .before .before .most-trials in
+    let within = c .before .plan-within in
+    promised t (within .result .planning)
+    (ap (λ (r : Counted). r .planning) (within .ensures) ∙ planned-within t (most .result) (λ a. omega (arith, enough t a, most .ensures)))
 
 pub plan-spec : {M : Type 1} → statement M
-plan-spec =
-    tie.close
-    (tie.spec
-    check-table-requires
-    enum-known-check
-    enum-told
-    choose-requires
-    returns
-    returns-2)
+plan-spec = tie.close (tie.spec most-trials-requires plan-within-requires returns)
