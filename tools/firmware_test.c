@@ -66,6 +66,7 @@ static struct {
     int starts_over;         /* whether the job of the next slot, and its counter, begin again from 0 in it */
     const jb_table *next;    /* the sheet whose jobs come with the next board_new_sheet */
     uint32_t sheets;         /* how often a new sheet was told */
+    uint32_t others;         /* how often other work was done between plannings */
     int to_last_slot;        /* whether slots that supply nothing pass up to the clock's last slot before a tick comes */
 } board;
 
@@ -73,6 +74,7 @@ static uint32_t real_supply(uint32_t slot) {
     return board.supply[slot < COURSE ? slot : COURSE - 1];
 }
 
+void board_other_work(void);
 void board_start(void);
 void board_run_until_tick(uint32_t row);
 uint32_t board_units(uint32_t row);
@@ -89,6 +91,11 @@ static void pass_to_last_slot(jb_run *run) {
     must(jb_work_forward(run, nothing, JB_LAST_CLOCK - 1 - run->clock, &worked) == JB_OK, "the slots up to the last are not worked");
     must(run->clock == JB_LAST_CLOCK - 1, "the last slot is not the coming one");
     free(nothing);
+}
+
+void board_other_work(void) {
+    must(!board.started && board.slots == 0, "other work of power-up is done after the board has started");
+    must(board.others++ < 6, "a table is planned more than seven times");
 }
 
 void board_start(void) {
@@ -208,19 +215,25 @@ static void follow(jb_table *table, uint32_t row) {
     table->follows[last] = released && table->level[row - 1] >= table->level[last] ? row : 0;
 }
 
-/* A table that has a correct order, with or without loading, promised parts and rows that follow rows, and that order. */
+/* A table within the limits, with or without loading, promised parts and rows that follow rows. */
+static jb_table any_table(void) {
+    uint32_t normal = 1 + below(12), rows = 1 + below(below(8) == 0 ? 20 : 6);
+    uint32_t loading = below(2) ? 0 : 1 + below(4);
+    jb_table table = empty_table(normal, 1 + below(normal), loading);
+    while (table.n < rows) {
+        uint32_t release = 3 + below(20);
+        add_row(&table, release, 1 + below(5 * normal), release + 1 + below(8 + (8 + loading) * rows), below(2));
+        promise(&table, below(3) ? 0 : below(table.work[table.n - 1] + 1));
+        follow(&table, below(2) ? 0 : below(table.n));
+    }
+    return table;
+}
+
+/* Such a table that has a correct order, and that order. */
 static jb_table planned_table(uint8_t order[JB_ROWS]) {
     for (;;) {
         uint64_t left;
-        uint32_t normal = 1 + below(12), rows = 1 + below(below(8) == 0 ? 20 : 6);
-        uint32_t loading = below(2) ? 0 : 1 + below(4);
-        jb_table table = empty_table(normal, 1 + below(normal), loading);
-        while (table.n < rows) {
-            uint32_t release = 3 + below(20);
-            add_row(&table, release, 1 + below(5 * normal), release + 1 + below(8 + (8 + loading) * rows), below(2));
-            promise(&table, below(3) ? 0 : below(table.work[table.n - 1] + 1));
-            follow(&table, below(2) ? 0 : below(table.n));
-        }
+        jb_table table = any_table();
         uint32_t number = jb_plan_table(&table, order, &left);
         must(number == JB_OK || number == JB_NO_ORDER, "a table within the limits is answered %u", number);
         if (number == JB_OK) {
@@ -1097,6 +1110,116 @@ static void least_speeds(void) {
     puts("least speeds: one less is answered 7, with more the order stays correct; with every number but 0, speed 0 and an order of zeros");
 }
 
+/* ---- planning at a ceiling ---- */
+
+/* What planning at a ceiling answers. */
+typedef struct {
+    uint32_t number;
+    uint8_t order[JB_ROWS];
+    uint64_t left;
+    uint32_t trials;
+} planning;
+
+/* Planning this table at a ceiling, in trials, with figures that are none of an answer where it goes. */
+static planning plan_at(const jb_table *table, uint32_t ceiling) {
+    planning made;
+    memset(&made, 7, sizeof made);
+    made.number = jb_plan_table_within(table, ceiling, made.order, &made.left, &made.trials);
+    return made;
+}
+
+static int same_planning(const planning *one, const planning *other) {
+    return one->number == other->number && memcmp(one->order, other->order, JB_ROWS) == 0 && one->left == other->left && one->trials == other->trials;
+}
+
+/* The planner's answer to a table within the limits, with the trials that it takes: no ceiling from there on gives another one, and each below it 19. */
+static planning at_every_ceiling(const jb_table *table) {
+    const uint32_t most = jb_most_trials(table->n);
+    const planning whole = plan_at(table, most);
+    const uint32_t enough[] = {whole.trials, whole.trials + 1, JB_MOST_TRIALS, UINT32_MAX};
+    planning over = {JB_OVER_CEILING, {0}, 0, 0}, made;
+    uint8_t order[JB_ROWS];
+    uint64_t left;
+    must(jb_plan_table(table, order, &left) == whole.number, "the most trials that rows take do not give the planner's number");
+    must(memcmp(order, whole.order, JB_ROWS) == 0 && left == whole.left, "they do not give the planner's order and rows left");
+    must(whole.trials >= 1 && whole.trials <= most, "%u rows take %u trials", table->n, whole.trials);
+    for (size_t index = 0; index < sizeof enough / sizeof enough[0]; index++) {
+        made = plan_at(table, enough[index]);
+        must(same_planning(&made, &whole), "a ceiling of %u trials changes an answer", enough[index]);
+    }
+    for (over.trials = 0; over.trials < whole.trials; over.trials++) {
+        made = plan_at(table, over.trials);
+        must(same_planning(&made, &over), "a ceiling of %u trials, with %u to be made, is not 19 with zeros", over.trials, whole.trials);
+    }
+    return whole;
+}
+
+/* So many rows, a multiple of 4, of which LO rows fail at many places: each group has three LO rows that just fit, and a HI row with time. */
+static jb_table hard_table(uint32_t rows) {
+    jb_table table = empty_table(5, 2, 0);
+    for (uint32_t group = 0; group < rows / 4; group++) {
+        for (uint32_t place = 1; place <= 3; place++) {
+            add_row(&table, 8 * group, 5, 8 * group + place, JB_LO);
+        }
+        add_row(&table, 8 * group, 5, 3000 - group, JB_HI);
+    }
+    return table;
+}
+
+/*
+ * The loop's plannings of a table: 64 trials, then twice as many and so on, with other work in between, until they are enough; together less
+ * than three times the trials that the table takes, if these are more than 64. What plot answers is the planner's number.
+ */
+static void planned_beside(const jb_table *table) {
+    const planning whole = at_every_ceiling(table);
+    uint32_t stopped = 0, made = 0, ceiling = 64;
+    jb_run run;
+    for (; ceiling < whole.trials; ceiling *= 2) {
+        stopped++;
+        made += plan_at(table, ceiling).trials;
+    }
+    must(stopped == 0 || made + whole.trials < 3 * whole.trials, "doubled ceilings take three times the trials or more");
+    new_board(table, table->normal, table->normal, 0);
+    must(plot(table, &run) == whole.number, "the loop does not answer what the planner answers");
+    must(board.others == stopped, "other work is done %u times, with %u trials to be made", board.others, whole.trials);
+    must(board.started == (whole.number == JB_OK), "the board is started without an order, or not with one");
+    must(whole.number != JB_OK || memcmp(run.order, whole.order, JB_ROWS) == 0, "the loop runs another order");
+}
+
+/* A table that is refused is so at every ceiling, with 0 trials and zeros. */
+static void refused_at_ceilings(void) {
+    static const uint32_t ceilings[] = {0, 1, JB_MOST_TRIALS, UINT32_MAX};
+    jb_table table = hard_table(8);
+    table.loading = JB_MOST_LOADING + 1;
+    const planning none = {JB_LOADING, {0}, 0, 0};
+    for (size_t index = 0; index < sizeof ceilings / sizeof ceilings[0]; index++) {
+        const planning made = plan_at(&table, ceilings[index]);
+        must(same_planning(&made, &none), "K 17 is not refused alike at a ceiling of %u trials", ceilings[index]);
+    }
+}
+
+/* Ceilings: 19 below the trials that a table takes, the planner's answer from there on; the loop's plannings beside other work. */
+static void ceilings(void) {
+    uint32_t answers[2] = {0, 0};
+    for (int trial = 0; trial < TABLES; trial++) {
+        jb_table table = any_table();
+        planned_beside(&table);
+        answers[at_every_ceiling(&table).number == JB_OK]++;
+    }
+    must(answers[0] > 0 && answers[1] > 0, "not both answers come up");
+    for (uint32_t rows = 4; rows <= JB_ROWS; rows += 4) {
+        jb_table table = hard_table(rows);
+        planned_beside(&table);
+        must(rows != JB_ROWS || (at_every_ceiling(&table).trials == 1552 && board.others == 5), "64 hard rows take another count of trials");
+        table.deadline[rows - 2] = table.deadline[rows - 4]; /* the last group: two rows of one slot by one deadline */
+        planned_beside(&table);
+        must(at_every_ceiling(&table).number == JB_NO_ORDER, "two rows have one slot, and there is an order");
+    }
+    refused_at_ceilings();
+    puts("at a ceiling: 19 and zeros below the trials that a table takes, the planner's 0 or 7 from there on, whatever the ceiling");
+    puts("planning beside other work: ceilings of 64 trials and twice as many each time, and the answer is the planner's");
+}
+
 /* ---- new sheets ---- */
 
 /* A table that has a correct order, and what asking for its sheet answers: this table and that order. */
@@ -1457,6 +1580,7 @@ int main(void) {
     sheet_of_record();
     list_of_jobs();
     least_speeds();
+    ceilings();
     new_sheets();
     wrong_proposals();
     last_sheet();

@@ -16,7 +16,8 @@ sys.dont_write_bytecode = True  # of the module beside this file
 from machine_code import functions_of, reached, with_call, with_instruction
 
 KEEPS = "periods::first_in_time"
-PLAN = {"jb_plan", "jb_ask", "jb_least_degraded", "jb_least_normal", "jb_read_least_degraded", "jb_read_least_normal", "jb_program"}
+PLAN = {"jb_plan", "jb_plan_within", "jb_ask", "jb_least_degraded", "jb_least_normal", "jb_read_least_degraded", "jb_read_least_normal",
+        "jb_program"}
 BELOW = re.compile(r"-0x([0-9a-f]+)\(%rsp|^mov +%rsp,%rbp")
 
 

@@ -9,6 +9,7 @@ ghost use mir.Val.{ofZ};
 ghost use Prim.Native.Nat.{_+_, _-_};
 ghost use lib.ListN.{length, replicate};
 ghost use Rattle.rules.specs.Choice.{planOf};
+ghost use Rattle.ceiling.specs.Ceiling.{planWithin};
 ghost use Rattle.rules.specs.Fields.{fitsField, written};
 ghost use Rattle.rules.specs.Judge.{judgeOf, tableOf};
 ghost use Rattle.rules.specs.Numbers.{checkNumber, plannedNumber, rowsLeft, verdictNumber, verdictYes, verdictRow, verdictSlack};
@@ -137,8 +138,8 @@ pub extern "C" fn jb_field(figure: u32, field: &mut [u8; 8]) -> u32
     if figure < 100000000 { 1 } else { 0 }
 }
 
-// Plans an order for a table, all zero where none is made. Gives 0, 7 with the word of the rows left, or a refusal's number (rules 4.6,
-// 4.8, 4.10, 11.3).
+// Plans an order for a table, all zero where none is made, at a ceiling that is always enough (rule 23.9). Gives 0, 7 with the word of the rows left, or a
+// refusal's number (rules 4.6, 4.8, 4.10, 11.3).
 #[no_mangle]
 pub extern "C" fn jb_plan(table: &[u32; 388], order: &mut [u8; 64], left: &mut u64) -> u32
     ensures { λ r. ⌜ (let planning = planOf (tableIn (now (table .entry))) in
@@ -153,6 +154,34 @@ pub extern "C" fn jb_plan(table: &[u32; 388], order: &mut [u8; 64], left: &mut u
     let numbers = numbers::plan_numbers(answer);
     *order = made;
     *left = numbers.left;
+    numbers.number
+}
+
+// Plans an order for a table at a ceiling, in trials, and tells the trials made (rules 23.4 to 23.7). Gives 0, 7 with the word of the rows left, 19 if
+// the planning takes more trials, or a refusal's number (rule 11.11); the order is all zero where none is made.
+#[no_mangle]
+pub extern "C" fn jb_plan_within(
+    table: &[u32; 388],
+    ceiling: u32,
+    order: &mut [u8; 64],
+    left: &mut u64,
+    trials: &mut u32,
+) -> u32
+    ensures { λ r. ⌜ (let counted = planWithin ceiling (tableIn (now (table .entry))) in
+        (r ≡ plannedNumber (counted .planning .answer))
+        × (now (order .exit) ≡ counted .planning .order)
+        × (now (left .exit) ≡ rowsLeft (counted .planning .answer))
+        × (now (trials .exit) ≡ counted .trials)) ⌝ }
+{
+    let t = words::table_in(table);
+    let counted = planner::plan_within(t, ceiling);
+    let planning = counted.planning;
+    let made = planning.order;
+    let answer = planning.answer;
+    let numbers = numbers::plan_numbers(answer);
+    *order = made;
+    *left = numbers.left;
+    *trials = counted.trials;
     numbers.number
 }
 

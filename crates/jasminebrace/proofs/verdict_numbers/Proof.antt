@@ -1,6 +1,6 @@
 -- Each arm is one case of the four definitions; a slack is read back from its bits.
 use borrow.Author.Needs.{needs}
-use mathlib.Core.Path.{sym, ap, _∙_}
+use mathlib.Core.Path.{sym, ap, _∙_, refl}
 use mir.Syntax.{w32}
 use mir.Val.{SFits}
 use mir.Facts.{toZ-ofZ}
@@ -40,7 +40,7 @@ returns-2 c =
 
 returns-3 : tie.Need-returns-3
 unfolding verdictNumber verdictYes verdictRow verdictSlack
-returns-3 c = search needs
+returns-3 c = rw (c .before .before .verdict3 .given .1) (c .refusal-number .ensures, refl, refl, refl)
 
 pub verdict-numbers-spec : {M : Type 1} → statement M
 verdict-numbers-spec =

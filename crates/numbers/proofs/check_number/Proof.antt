@@ -19,7 +19,7 @@ returns c = search needs
 
 returns-2 : tie.Need-returns-2
 unfolding checkNumber
-returns-2 c = search needs
+returns-2 c = rw (c .before .before .check .given .1) (c .refusal-number .ensures)
 
 pub check-number-spec : {M : Type 1} → statement M
 check-number-spec =

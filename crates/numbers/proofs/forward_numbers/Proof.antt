@@ -1,5 +1,6 @@
 -- Each arm is one case of the definition.
 use borrow.Author.Needs.{needs}
+use mathlib.Core.Path.{refl}
 use Rattle.record.specs.Answers.{forwardSaid}
 use Rattle.numbers.proofs.forward_numbers.Statement.{statement}
 use Rattle.numbers.proofs.forward_numbers.Tie as tie
@@ -26,7 +27,7 @@ returns-2 c = search needs
 
 returns-3 : tie.Need-returns-3
 unfolding forwardSaid
-returns-3 c = search needs
+returns-3 c = rw (c .before .before .answer3 .given .1) (c .refusal-number .ensures, refl)
 
 pub forward-numbers-spec : {M : Type 1} → statement M
 forward-numbers-spec =

@@ -1,5 +1,6 @@
 -- Each arm is one case of the two definitions.
 use borrow.Author.Needs.{needs}
+use mathlib.Core.Path.{refl}
 use Rattle.rules.specs.Numbers.{searchedNumber, searchedSpeed}
 use Rattle.numbers.proofs.search_numbers.Statement.{statement}
 use Rattle.numbers.proofs.search_numbers.Tie as tie
@@ -26,7 +27,7 @@ returns-2 c = search needs
 
 returns-3 : tie.Need-returns-3
 unfolding searchedNumber searchedSpeed
-returns-3 c = search needs
+returns-3 c = rw (c .before .before .answer2 .given .1) (c .refusal-number .ensures, refl)
 
 pub search-numbers-spec : {M : Type 1} → statement M
 search-numbers-spec =

@@ -1,5 +1,6 @@
 -- Each arm is one case of the definition.
 use borrow.Author.Needs.{needs}
+use mathlib.Core.Path.{refl}
 use Rattle.record.specs.Answers.{slotSaid}
 use Rattle.numbers.proofs.slot_numbers.Statement.{statement}
 use Rattle.numbers.proofs.slot_numbers.Tie as tie
@@ -22,7 +23,7 @@ returns c = search needs
 
 returns-2 : tie.Need-returns-2
 unfolding slotSaid
-returns-2 c = search needs
+returns-2 c = rw (c .before .before .answer2 .given .1) (c .refusal-number .ensures, refl)
 
 pub slot-numbers-spec : {M : Type 1} → statement M
 slot-numbers-spec =
