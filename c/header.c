@@ -850,6 +850,7 @@ static const ceiling_case CEILING_CASES[] = {
 /* Every ceiling below the trials that a table takes is answered 19 with the ceiling as trials; from there on the answer is the planner's. */
 static void look_at_ceilings(void) {
     const uint8_t zeros[JB_ROWS] = {0};
+    const uint32_t high[] = {256, 65536, 1u << 31, UINT32_MAX};
     for (unsigned index = 0; index < sizeof CEILING_CASES / sizeof CEILING_CASES[0]; index++) {
         const ceiling_case *expected = &CEILING_CASES[index];
         const jb_table table = table_of_rows(expected->normal, expected->degraded, expected->rows, 4);
@@ -863,7 +864,9 @@ static void look_at_ceilings(void) {
         for (uint32_t ceiling = expected->trials; ceiling <= most + 1; ceiling++) {
             look_at_ceiling(&table, ceiling, expected->number, expected->order, expected->left, expected->trials);
         }
-        look_at_ceiling(&table, UINT32_MAX, expected->number, expected->order, expected->left, expected->trials);
+        for (unsigned other = 0; other < sizeof high / sizeof high[0]; other++) {
+            look_at_ceiling(&table, high[other], expected->number, expected->order, expected->left, expected->trials);
+        }
         look(jb_plan_table(&table, order, &left) == expected->number, "number without a ceiling, ceiling case", index);
         look(left == expected->left && memcmp(order, expected->order, sizeof order) == 0, "plan without a ceiling, ceiling case", index);
     }

@@ -86,13 +86,13 @@
  *     jb_read                  8,192
  *     jb_write                 5,120
  *     jb_field                   512
- *     jb_plan                 10,240
- *     jb_plan_within          TO-MEASURE
- *     jb_ask                  12,032
- *     jb_least_degraded       13,824
- *     jb_least_normal         13,824
- *     jb_read_least_degraded  13,824
- *     jb_read_least_normal    13,824
+ *     jb_plan                 11,264
+ *     jb_plan_within          11,008
+ *     jb_ask                  12,800
+ *     jb_least_degraded       14,592
+ *     jb_least_normal         14,592
+ *     jb_read_least_degraded  14,592
+ *     jb_read_least_normal    14,592
  *     jb_judge                10,240
  *     jb_judge_rows           12,800
  *     jb_finishes              7,680
@@ -102,7 +102,7 @@
  *     jb_slot                 17,920
  *     jb_forward              16,896
  *     jb_commit               28,672
- *     jb_program              16,128
+ *     jb_program              15,360
  *     jb_version                 512
  * The functions of the last part add the few words of their own frame. But jb_need,
  * jb_allowance and jb_is_dropped_for_deadline call jb_finishes on a table of their

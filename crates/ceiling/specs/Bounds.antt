@@ -85,7 +85,7 @@ count-most t =
 -- a ceiling
 
 -- a table is accepted or not
-by-accepted : {P : Type 0} (t : Table) → (Accepted t → P) → ((Accepted t → ⊥) → P) → P
+pub by-accepted : {P : Type 0} (t : Table) → (Accepted t → P) → ((Accepted t → ⊥) → P) → P
 by-accepted {P} t f g = go (checkTable t) refl
   where
     go : (c : Check) → checkTable t ≡ c → P

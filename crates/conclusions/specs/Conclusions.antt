@@ -4,7 +4,7 @@
 -- work units, speeds in work units per slot.
 use Prim.Native.Nat.{ℕ, _+_, _-_, _*_, _/_, _%_, _^_, _≤_, _<_, max, min}
 use mathlib.Core.Bool.{true, false, cond}
-use mathlib.Core.Logic.{_⊎_}
+use mathlib.Core.Logic.{_⊎_, _↔_}
 use mathlib.Core.Path.{_≡_}
 use mathlib.Core.List.{List, [], _∷_, _++_}
 use lib.IntN.{ℤ, pos, _-ℤ_}
@@ -13,6 +13,7 @@ use lib.Signed.{ltZ}
 use Rattle.rules.specs.declared.Table.{Table}
 use Rattle.rules.specs.Calls.{Call, one, forward, Said, tellAll, supplyFrom}
 use Rattle.rules.specs.Choice.{choice, padded, word, planOf}
+use Rattle.ceiling.specs.Ceiling.{trialCount, planWithin}
 use Rattle.rules.specs.Fields.{valueOf, isField}
 use Rattle.rules.specs.Lists.{count, rowsTo, sum}
 use Rattle.rules.specs.Meaning.{Serves}
@@ -242,6 +243,26 @@ pub record Planner (t : Table) (number : ℕ) (order : List ℕ) (left : ℕ) : 
       → ((o : List ℕ) → isOrder t o ≡ true → Serves t o → ⊥) × (order ≡ replicate 64 0) × (left ≡ word (choice t .left)) × (choice t .left ≡ [] → ⊥)
   -- with any other number all is zero (rules 10.3 to 10.5, 10.11 to 10.15)
   pub refused : (number ≡ 0 → ⊥) → (number ≡ 7 → ⊥) → (order ≡ replicate 64 0) × (left ≡ 0)
+
+-- ---- The planner at power-up, beside other work: a ceiling on its trials (section 23 of the rules).
+
+pub record PlannerWithin (t : Table) (ceiling number : ℕ) (order : List ℕ) (left trials : ℕ) : Type 0 where
+  -- the number is 19 exactly if the table is accepted and takes more trials than the ceiling; then order and rows left are zeros, and the trials are the
+  -- ceiling (rules 10.19, 23.5)
+  pub nineteen : (number ≡ 19) ↔ (Accepted t × (ceiling < trialCount t))
+  pub over : number ≡ 19 → (order ≡ replicate 64 0) × (left ≡ 0) × (trials ≡ ceiling)
+  -- with any other number all is as the planner without a ceiling answers it (rules 23.4, 23.7)
+  pub planner : (number ≡ 19 → ⊥) → Planner t number order left
+  -- with 0 and 7 the trials are the table's count, and a refused table has none (rules 23.4, 23.7)
+  pub counted : (number ≡ 0) ⊎ (number ≡ 7) → trials ≡ trialCount t
+  pub refused : (Accepted t → ⊥) → trials ≡ 0
+  -- no trial is above the ceiling, and no table takes more than n × (n + 1) / 2 (rules 23.3, 23.6)
+  pub within : trials ≤ ceiling
+  pub most : trialCount t ≤ t .n * (t .n + 1) / 2
+  -- asked again at a higher ceiling, whatever is not 19 is answered the same: number, order, rows left and trials (rule 23.8)
+  pub again : (number ≡ 19 → ⊥) → (higher : ℕ) → ceiling ≤ higher
+      → (plannedNumber (planWithin higher t .planning .answer) ≡ number) × (planWithin higher t .planning .order ≡ order)
+      × (rowsLeft (planWithin higher t .planning .answer) ≡ left) × (planWithin higher t .trials ≡ trials)
 
 -- ---- The maker who buys a cooler: the least workable speed is the least at which some order serves (section 18 of the rules).
 

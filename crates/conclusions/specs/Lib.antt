@@ -6,6 +6,7 @@ pub mod Limits
 pub mod Refusals
 pub mod Ordered
 pub mod Planned
+pub mod Ceilings
 pub mod Author
 pub mod Rooms
 pub mod Back

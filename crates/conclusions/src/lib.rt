@@ -3,7 +3,7 @@
 ghost use mathlib.Core.Path.{_≡_};
 ghost use lib.ListN.{getD};
 ghost use Rattle.words.specs.Words.{tableIn};
-ghost use Rattle.conclusions.specs.Conclusions.{TableAuthor, SheetBack, SheetAgain, NumberField, Text, Planner, LeastFound, LeastRead, FreshRecord, Proposing, Committing, FirmwareWriter, Forwarding, Drawn, SalesDesk, Listing};
+ghost use Rattle.conclusions.specs.Conclusions.{TableAuthor, SheetBack, SheetAgain, NumberField, Text, Planner, PlannerWithin, LeastFound, LeastRead, FreshRecord, Proposing, Committing, FirmwareWriter, Forwarding, Drawn, SalesDesk, Listing};
 
 // What reading a sheet and writing its table back said: both numbers, and the length in bytes.
 pub struct Again {
@@ -117,6 +117,19 @@ pub fn planner(table: &[u32; 388], order: &mut [u8; 64], left: &mut u64) -> u32
     ensures { λ r. ⌜ Planner (tableIn (now (table .entry))) r (now (order .exit)) (now (left .exit)) ⌝ }
 {
     jasminebrace::jb_plan(table, order, left)
+}
+
+// A planner at power-up, beside other work, asks for an order at a ceiling, in trials.
+pub fn planner_within(
+    table: &[u32; 388],
+    ceiling: u32,
+    order: &mut [u8; 64],
+    left: &mut u64,
+    trials: &mut u32,
+) -> u32
+    ensures { λ r. ⌜ PlannerWithin (tableIn (now (table .entry))) ceiling r (now (order .exit)) (now (left .exit)) (now (trials .exit)) ⌝ }
+{
+    jasminebrace::jb_plan_within(table, ceiling, order, left, trials)
 }
 
 // A maker who buys a cooler asks for the least degraded speed that is enough, in work units per slot.

@@ -1,6 +1,6 @@
 -- The claim about a table and a whole list of calls, commits among them (rules 9.5 to 9.12, 9.18 to 9.20, 22.7 to 22.9): one closed statement, `Demand3`, at the
 -- end of this file. Every name in it is a definition of the rules or what a contract equates a function's result with: `planOf` is what the planner answers,
--- `freshOf` the fresh record, `oneSlot` and `forwardOver` (in `makeDay`) the two run calls, and `commitOf` a commit.
+-- and `planWithin` what it answers at a ceiling, `freshOf` the fresh record, `oneSlot` and `forwardOver` (in `makeDay`) the two run calls, and `commitOf` a commit.
 use Prim.Native.Nat.{ℕ, _+_, _≤_}
 use mathlib.Core.Bool.{true, not}
 use mathlib.Core.Logic.{_↔_, _⊎_}
@@ -14,6 +14,7 @@ use Rattle.rules.specs.declared.Table.{Table}
 use Rattle.rules.specs.declared.Check.the-variants.{Passed}
 use Rattle.rules.specs.Calls.{supplyFrom}
 use Rattle.rules.specs.Choice.{choice, word, planFrom, planOf}
+use Rattle.ceiling.specs.Ceiling.{trialCount, mostTrials, planWithin}
 use Rattle.rules.specs.Correct.{KeptIn, Correct, CorrectOrder, earliest, Window, WindowTo}
 use Rattle.proposal.specs.Days.{Act, InHand, begun, DayTold, tellDay, runCalls}
 use Rattle.rules.specs.Lists.{all}
@@ -83,10 +84,13 @@ pub record CommitRight (r : Run) (t : Table) (o : List ℕ) : Type 0 where
   pub early : r .clock ≤ earliest t
   pub left : commitOf r t o .run ≡ startRun t o (r .clock)
 
--- The claim of one table and one list of acts (rules 9.9 to 9.12, 9.18 to 9.20, 22.8, 22.9).
+-- The claim of one table and one list of acts (rules 9.9 to 9.12, 9.18 to 9.20, 22.8, 22.9, 23.10).
 pub record Claim (t : Table) (acts : List Act) : Type 0 where
   -- the plan is the one made from the choice: 0 with the order it made, or 7 with the rows it left (rules 4.6, 9.9)
   pub plan : planOf t ≡ planFrom (choice t)
+  -- so it is at every ceiling that is not below the count of trials, with the count, and n × (n + 1) / 2 is such a ceiling (rules 23.3, 23.4, 23.10)
+  pub ceiling : (c : ℕ) → trialCount t ≤ c → planWithin c t ≡ record { planning = planOf t; trials = trialCount t }
+  pub enough : trialCount t ≤ mostTrials (t .n)
   -- the table has a correct order exactly if the choice leaves no row (rules 4.10, 9.9)
   pub exists : CorrectOrder t ↔ (choice t .left ≡ [])
   -- then the planner's number is 0; else it is 7, with the rows left as a word and an order of zeros (rules 4.6, 4.8, 9.9)

@@ -13,6 +13,7 @@ use Rattle.record.specs.Records.{recordOf, startRun, freshOf}
 use Rattle.rules.specs.declared.Table.{Table}
 use Rattle.rules.specs.declared.Check.the-variants.{Passed}
 use Rattle.rules.specs.Calls.{lastClock, Call, one, forward, Said, tellOne, tellForward, tell, supplyFrom}
+use Rattle.ceiling.specs.Bounds.{count-most, within-count}
 use Rattle.rules.specs.Choice.{choice, word, padded, planFrom, planOf}
 use Rattle.rules.specs.Correct.{KeptIn, Correct, CorrectOrder, earliest, Window, WindowTo}
 use Rattle.proposal.specs.Days.{Act, run, commit, InHand, begun, tellAct, tellDay, runCalls}
@@ -223,6 +224,8 @@ pub demand-3 : Demand3
 demand-3 t accepted acts =
     record {
       plan = plan-is t accepted;
+      ceiling = within-count t accepted;
+      enough = count-most t;
       exists = exists t accepted;
       zero = zero t accepted;
       seven = seven t accepted;
