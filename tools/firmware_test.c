@@ -1186,6 +1186,20 @@ static void planned_beside(const jb_table *table) {
     must(whole.number != JB_OK || memcmp(run.order, whole.order, JB_ROWS) == 0, "the loop runs another order");
 }
 
+/* A sheet that is read and then planned at a ceiling, with an order: the table and the order are those that asking for it answers. */
+static void as_asked(const jb_table *table) {
+    uint8_t sheet[JB_LONGEST_SHEET], order[JB_ROWS];
+    uint32_t length;
+    uint64_t left;
+    jb_table read, asked;
+    must(jb_write_table(table, sheet, sizeof sheet, &length) == JB_OK, "the table has no sheet");
+    must(jb_read_table(sheet, length, &read) == JB_OK, "the sheet is not read");
+    const planning made = plan_at(&read, jb_most_trials(read.n));
+    must(jb_ask_sheet(sheet, length, &asked, order, &left) == made.number && left == made.left, "asking answers another number, or other rows left");
+    must(memcmp(order, made.order, JB_ROWS) == 0, "asking answers another order");
+    must(made.number != JB_OK || memcmp(&asked, &read, sizeof read) == 0, "asking answers another table");
+}
+
 /* A table that is refused is so at every ceiling, with 0 trials and zeros. */
 static void refused_at_ceilings(void) {
     static const uint32_t ceilings[] = {0, 1, JB_MOST_TRIALS, UINT32_MAX};
@@ -1204,6 +1218,7 @@ static void ceilings(void) {
     for (int trial = 0; trial < TABLES; trial++) {
         jb_table table = any_table();
         planned_beside(&table);
+        as_asked(&table);
         answers[at_every_ceiling(&table).number == JB_OK]++;
     }
     must(answers[0] > 0 && answers[1] > 0, "not both answers come up");
@@ -1217,7 +1232,7 @@ static void ceilings(void) {
     }
     refused_at_ceilings();
     puts("at a ceiling: 19 and zeros below the trials that a table takes, the planner's 0 or 7 from there on, whatever the ceiling");
-    puts("planning beside other work: ceilings of 64 trials and twice as many each time, and the answer is the planner's");
+    puts("planning beside other work: ceilings of 64 trials and twice as many each time, and the answer is the planner's, as when a sheet is asked for");
 }
 
 /* ---- new sheets ---- */
