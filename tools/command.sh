@@ -1800,6 +1800,8 @@ done
 for bad in x -1 1.5 '' 5x x5 0x5 1000X5 2x2x2 4294967296 1x4294967296 99999999999999999999x1 ' 5'; do
     case_is 3 '' "jasminebrace: not a supply from 0 to 4294967295, nor a count from 1 and a supply as 1000x5: '$bad'" run p1.sheet 5 "$bad"
 done
+case_is 2 '' 'number 19: planning the table takes more trials than the ceiling' plan --ceiling 5 p1.sheet
+case_is 3 '' 'jasminebrace: --ceiling belongs to plan' judge p1.sheet --ceiling 5 1
 ln -s loop.sheet loop.sheet
 case_is 3 '' 'jasminebrace: loop.sheet cannot be opened: Too many levels of symbolic links' plan loop.sheet
 case_is 3 '' 'jasminebrace: /proc/self/mem cannot be read: Input/output error' plan /proc/self/mem

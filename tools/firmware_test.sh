@@ -98,6 +98,13 @@ spoil 'if (number == JB_OK && jb_coming_row(run, &row) == JB_UNSOUND) {
     }' 'if (number == JB_OK) {
         number = jb_coming_row(run, &row);
     }'
+# Planning beside other work: the ceiling not raised, 19 taken for an answer, no other work, the last ceiling at once.
+spoil '        ceiling *= 2;
+' ''
+spoil 'while (number == JB_OVER_CEILING) {' 'while (0) {'
+spoil '        board_other_work();
+' ''
+spoil '        ceiling *= 2;' '        ceiling = JB_MOST_TRIALS;'
 
 # The archive has no variables of its own, and is x86-64 Linux code.
 objdump -h "$archive" | awk '$2 ~ /^\.(data|bss|tdata|tbss)/ && $3 !~ /^0+$/ { print $2, $3; found = 1 } END { exit found }' >"$built/variables" ||

@@ -3,11 +3,13 @@
 use Prim.Native.Nat.{ℕ}
 use mathlib.Core.Bool.{Bool, true, false, _&&_}
 use mathlib.Core.List.{List, [], _∷_, _++_}
-use lib.Dec.{T, eqb}
+use lib.Dec.{T, eqb, lit≤}
+use mathlib.Core.Path.{_≡_, refl}
 use Rattle.rules.specs.declared.Row.{Row}
 use Rattle.rules.specs.declared.Table.{Table}
 use Rattle.rules.specs.Cases.{job, following}
-use Rattle.rules.specs.Choice.{planOf, padded, unfollowed, passes, sequence, choice, fill, taker, word}
+use Rattle.rules.specs.Correct.{CorrectOrder}
+use Rattle.rules.specs.Choice.{padded, unfollowed, passes, sequence, choice, fill, taker, word}
 use Rattle.rules.specs.Judge.{tableOf}
 use Rattle.rules.specs.Lists.{same}
 use Rattle.rules.specs.Need.{workSlots}
@@ -15,6 +17,7 @@ use Rattle.rules.specs.Numbers.{refusalNumber, plannedNumber, rowsLeft}
 use Rattle.rules.specs.Slots.{fresh, isPending, isWaiting, isReady, chosen, isOver, brought, serve, slot}
 use Rattle.rules.specs.Tables.{rowOk, tailOk, promiseOk, checkWait, checkTable}
 use Rattle.rules.specs.Worst.{horizon, worstFinish, promisedMoment, slack, meets}
+use Rattle.theory.specs.Results.{choice-order, choice-correct, choice-none}
 use Rattle.ceiling.specs.declared.Counted.{Counted}
 use Rattle.ceiling.specs.Ceiling.{trialsAt, trialsFrom, trialCount, mostTrials, planWithin}
 
@@ -116,6 +119,22 @@ unfolding planWithin trialCount trialsFrom trialsAt padded unfollowed passes seq
 ceiling-cases-hold = tt
 
 -- Two tables answered 19: P1 at 5, which has a correct order, and three rows with slots for one at 2, which have none (rule 23.11).
-pub either-way : T (eqb (plannedNumber (planOf first .answer)) 0 && eqb (plannedNumber (planOf (steady crowd) .answer)) 7)
-unfolding planOf padded unfollowed passes sequence choice fill taker word tableOf workSlots refusalNumber plannedNumber horizon worstFinish promisedMoment slack meets fresh isPending isWaiting isReady chosen isOver brought serve slot rowOk tailOk promiseOk checkWait checkTable
-either-way = tt
+pub record EitherWay : Type 0 where
+  pub first-over : plannedNumber (planWithin 5 first .planning .answer) ≡ 19
+  pub first-has : CorrectOrder first
+  pub crowd-over : plannedNumber (planWithin 2 (steady crowd) .planning .answer) ≡ 19
+  pub crowd-none : CorrectOrder (steady crowd) → ⊥
+
+pub either-way : EitherWay
+unfolding planWithin trialCount trialsFrom trialsAt padded unfollowed passes sequence choice fill taker word tableOf workSlots refusalNumber plannedNumber rowsLeft horizon worstFinish promisedMoment slack meets fresh isPending isWaiting isReady chosen isOver brought serve slot rowOk tailOk promiseOk checkWait checkTable
+either-way =
+    record {
+      first-over = refl;
+      first-has = record {
+        order = padded (choice first .placed);
+        passes = choice-order first refl refl;
+        correct = choice-correct first refl refl;
+      };
+      crowd-over = refl;
+      crowd-none = λ o. choice-none (steady crowd) refl 1 (lit≤ tt) (o .order) (o .passes) (o .correct);
+    }
