@@ -9,7 +9,7 @@ ghost use Rattle.rules.specs.Lists.{all, allZero, count, rowsTo};
 ghost use Rattle.rules.specs.Need.{workSlots, need};
 ghost use Rattle.rules.specs.Tables.{countOk, speedsOk, loadingOk, andThen, checkTable};
 ghost use Rattle.rules.specs.Orders.{checkBoth};
-ghost use Rattle.rules.specs.Lent.{checkRoom};
+ghost use Rattle.texts.specs.Lent.{checkRoom};
 ghost use Rattle.checks.specs.Limits.{limitsOk, limitsIn, partOk, partIn, tailIn, waitAt};
 ghost use Rattle.checks.specs.Keeping.{waitsTo, Numbered, keptTo, arranged, orderAt};
 use rules::Check;

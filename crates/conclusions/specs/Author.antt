@@ -14,9 +14,9 @@ use Rattle.rules.specs.declared.Check.the-variants.{Passed, Refused}
 use Rattle.rules.specs.Lists.{all, allZero, rowsTo}
 use Rattle.rules.specs.Numbers.{refusalNumber, checkNumber}
 use Rattle.rules.specs.Rows.{at, followsOf, isHigh}
-use Rattle.rules.specs.Sheets as Sheets
-use Rattle.rules.specs.Sheets.{isLine, numberAt, lineOf, columnOf, checkSheet, readChecked, readOf}
 use Rattle.rules.specs.Tables.{countOk, speedsOk, loadingOk, rowOk, promiseOk, checkWait, tailOk, checkTable, Accepted, FullTable}
+use Rattle.texts.specs.Sheets as Sheets
+use Rattle.texts.specs.Sheets.{isLine, numberAt, lineOf, columnOf, checkSheet, readChecked, readOf}
 use Rattle.theory.specs.Facts.{facts, Follows, follows}
 use Rattle.theory.specs.Tests.{not-both, and-left, and-right, and-both}
 use Rattle.checks.specs.Limits.{limitsOk, partOk}

@@ -11,12 +11,12 @@ use Rattle.rules.specs.declared.Refusal.the-variants.{RowCount}
 use Rattle.rules.specs.declared.Check.{Check}
 use Rattle.rules.specs.declared.Check.the-variants.{Passed, Refused}
 use Rattle.rules.specs.declared.Reading.{Reading}
-use Rattle.rules.specs.Fields.{fitsField, written}
-use Rattle.rules.specs.Lent.{WrittenBack, writeChecked}
 use Rattle.rules.specs.Numbers.{refusalNumber, checkNumber}
-use Rattle.rules.specs.Sheets as Sheets
-use Rattle.rules.specs.Sheets.{numberAt, checkSheet, readChecked, readOf, sheetOf, checkWrite, writeOf}
 use Rattle.rules.specs.Tables.{checkTable, Accepted, FullTable, zeroTable}
+use Rattle.texts.specs.Fields.{fitsField, written}
+use Rattle.texts.specs.Lent.{WrittenBack, writeChecked}
+use Rattle.texts.specs.Sheets as Sheets
+use Rattle.texts.specs.Sheets.{numberAt, checkSheet, readChecked, readOf, sheetOf, checkWrite, writeOf}
 use Rattle.theory.specs.Tests.{by-ltb}
 use Rattle.fields.specs.Values.{value-written, field-written, last-digits}
 use Rattle.fields.specs.Lengths.{written-long}

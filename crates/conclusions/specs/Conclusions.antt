@@ -14,20 +14,20 @@ use Rattle.rules.specs.declared.Table.{Table}
 use Rattle.rules.specs.Calls.{Call, one, forward, Said, tellAll, supplyFrom}
 use Rattle.rules.specs.Choice.{choice, padded, word, planOf}
 use Rattle.ceiling.specs.Ceiling.{trialCount, planWithin}
-use Rattle.rules.specs.Fields.{valueOf, isField}
 use Rattle.rules.specs.Lists.{count, rowsTo, sum}
 use Rattle.rules.specs.Meaning.{Serves}
 use Rattle.rules.specs.Need.{need}
 use Rattle.rules.specs.Numbers.{checkNumber, plannedNumber, rowsLeft}
 use Rattle.rules.specs.Orders.{isOrder, checkBoth}
-use Rattle.rules.specs.Program.{programText}
-use Rattle.rules.specs.Reports.{figure}
 use Rattle.rules.specs.Rows.{at}
-use Rattle.rules.specs.Sheets.{isLine, numberAt, readOf}
 use Rattle.rules.specs.Running.{runAfter}
 use Rattle.rules.specs.Slots.{startAt, chosen, after}
 use Rattle.rules.specs.Tables.{checkTable, Accepted}
 use Rattle.rules.specs.Worst.{horizon, worstSpeed, slack}
+use Rattle.texts.specs.Fields.{valueOf, isField}
+use Rattle.texts.specs.Program.{programText}
+use Rattle.texts.specs.Reports.{figure}
+use Rattle.texts.specs.Sheets.{isLine, numberAt, readOf}
 use Rattle.record.specs.Answers.{slotSaid, forwardSaid}
 use Rattle.record.specs.Records.{isSound, startRun, oneSlot, forwardOver}
 use Rattle.words.specs.Words.{tableIn, wordsOf, runIn, stateWords}

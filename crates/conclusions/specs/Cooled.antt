@@ -18,9 +18,9 @@ use Rattle.rules.specs.Correct.{CorrectOrder}
 use Rattle.rules.specs.Meaning.{Serves, correct-serves, serves-correct}
 use Rattle.rules.specs.Numbers.{checkNumber, searchedNumber, searchedSpeed}
 use Rattle.rules.specs.Orders.{isOrder}
-use Rattle.rules.specs.Sheets.{readOf}
-use Rattle.rules.specs.Speeds.{atSpeed, slowest, fastest, leastSpeed, searchChecked, searchOf, searchRead, searchSheet}
 use Rattle.rules.specs.Tables.{checkTable, Accepted, FullTable}
+use Rattle.texts.specs.Sheets.{readOf}
+use Rattle.searches.specs.Speeds.{atSpeed, slowest, fastest, leastSpeed, searchChecked, searchOf, searchRead, searchSheet}
 use Rattle.theory.specs.Speeds.{accepted-at, order-at}
 use Rattle.theory.specs.Tests.{by-eqb}
 use Rattle.planner.specs.Promise.{refusal-number, promised}

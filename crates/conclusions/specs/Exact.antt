@@ -12,11 +12,11 @@ use Rattle.rules.specs.declared.Refusal.the-variants.{NoRoom}
 use Rattle.rules.specs.declared.Check.{Check}
 use Rattle.rules.specs.declared.Check.the-variants.{Passed, Refused}
 use Rattle.rules.specs.declared.Reading.{Reading}
-use Rattle.rules.specs.Fields.{fitsField, written, valueOf, isField}
 use Rattle.rules.specs.Numbers.{refusalNumber, checkNumber}
-use Rattle.rules.specs.Lent.{WrittenBack}
-use Rattle.rules.specs.Sheets.{readOf, sheetOf, checkWrite, writeOf}
 use Rattle.rules.specs.Tables.{checkTable}
+use Rattle.texts.specs.Fields.{fitsField, written, valueOf, isField}
+use Rattle.texts.specs.Lent.{WrittenBack}
+use Rattle.texts.specs.Sheets.{readOf, sheetOf, checkWrite, writeOf}
 use Rattle.theory.specs.Tests.{by-ltb, by-eqb}
 use Rattle.fields.specs.Lengths.{written-long}
 use Rattle.fields.specs.Values.{last-digits}

@@ -12,17 +12,17 @@ use lib.Signed.{ltZ}
 use Rattle.rules.specs.declared.Table.{Table}
 use Rattle.rules.specs.declared.Check.{Check}
 use Rattle.rules.specs.declared.Check.the-variants.{Passed, Refused}
-use Rattle.rules.specs.Lent.{WrittenBack, writeChecked}
-use Rattle.rules.specs.Fields.{valueOf}
 use Rattle.rules.specs.Judge.{tightest, judgeOf}
 use Rattle.rules.specs.Lists.{rowsTo, joined}
 use Rattle.rules.specs.Meaning.{correct-serves, serves-correct}
 use Rattle.rules.specs.Numbers.{refusalNumber, checkNumber, verdictRow, verdictSlack}
 use Rattle.rules.specs.Orders.{isOrder, checkOrder, checkBoth}
-use Rattle.rules.specs.Reports.{figure, figures, jobLine, needsOf, lateRows, lastLine, reportText, checkReport, reportOf}
 use Rattle.rules.specs.Rows.{at, needOf}
 use Rattle.rules.specs.Tables.{andThen, checkTable}
 use Rattle.rules.specs.Worst.{horizon, worstSpeed, worstFinish, slack}
+use Rattle.texts.specs.Lent.{WrittenBack, writeChecked}
+use Rattle.texts.specs.Fields.{valueOf}
+use Rattle.texts.specs.Reports.{figure, figures, jobLine, needsOf, lateRows, lastLine, reportText, checkReport, reportOf}
 use Rattle.theory.specs.Facts.{Row, in-rows, both-pass, both-accepted, both-order}
 use Rattle.theory.specs.Places.{order-rows, order-long, place-row}
 use Rattle.theory.specs.Tests.{by-bool, by-eqb}

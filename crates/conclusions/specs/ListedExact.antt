@@ -14,13 +14,13 @@ use Rattle.rules.specs.declared.Refusal.{Refusal}
 use Rattle.rules.specs.declared.Refusal.the-variants.{NoRoom}
 use Rattle.rules.specs.declared.Check.{Check}
 use Rattle.rules.specs.declared.Check.the-variants.{Passed, Refused}
-use Rattle.rules.specs.Lent.{WrittenBack}
 use Rattle.rules.specs.Lists.{rowsTo, joined}
 use Rattle.rules.specs.Numbers.{refusalNumber, checkNumber}
 use Rattle.rules.specs.Orders.{checkBoth}
-use Rattle.rules.specs.Reports.{figure, figures, jobLine, needsOf, lateRows, lastLine, reportText, checkReport, reportOf}
 use Rattle.rules.specs.Rows.{at, needOf}
 use Rattle.rules.specs.Worst.{worstFinish, slack}
+use Rattle.texts.specs.Lent.{WrittenBack}
+use Rattle.texts.specs.Reports.{figure, figures, jobLine, needsOf, lateRows, lastLine, reportText, checkReport, reportOf}
 use Rattle.theory.specs.Facts.{both-pass, both-accepted, both-order}
 use Rattle.theory.specs.Places.{place-row}
 use Rattle.theory.specs.Room.{too-short}

@@ -10,9 +10,9 @@ use Rattle.rules.specs.declared.Table.{Table}
 use Rattle.rules.specs.declared.Sought.the-variants.{Degraded, Normal}
 use Rattle.rules.specs.Meaning.{Serves, correct-serves, serves-correct}
 use Rattle.rules.specs.Orders.{isOrder}
-use Rattle.rules.specs.Speeds.{withSpeeds, atSpeed}
 use Rattle.rules.specs.Tables.{Accepted}
 use Rattle.rules.specs.Worst.{slack}
+use Rattle.searches.specs.Speeds.{withSpeeds, atSpeed}
 use Rattle.theory.specs.Facts.{is-row}
 use Rattle.theory.specs.Results.{larger-speeds, slack-larger}
 use Rattle.words.specs.Words.{tableIn}

@@ -18,8 +18,8 @@ use Rattle.rules.specs.Meaning.{Serves, correct-serves, serves-correct}
 use Rattle.rules.specs.Numbers.{refusalNumber, checkNumber, plannedNumber, rowsLeft}
 use Rattle.rules.specs.Orders.{isOrder, checkBoth}
 use Rattle.rules.specs.Rows.{at, isRow}
-use Rattle.rules.specs.Sheets.{readOf}
 use Rattle.rules.specs.Tables.{Accepted, zeroTable}
+use Rattle.texts.specs.Sheets.{readOf}
 use Rattle.theory.specs.Facts.{both-pass, facts, is-row}
 use Rattle.theory.specs.Finishes.{earliest-first}
 use Rattle.theory.specs.Tests.{by-bool}

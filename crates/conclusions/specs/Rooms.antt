@@ -5,9 +5,9 @@ use mathlib.Core.Path.{_≡_, refl}
 use native.Mathlib.Omega.{arith}
 use Rattle.rules.specs.declared.Check.{Check}
 use Rattle.rules.specs.declared.Check.the-variants.{Passed, Refused}
-use Rattle.rules.specs.Lent.{checkRoom}
 use Rattle.rules.specs.Numbers.{refusalNumber, checkNumber}
 use Rattle.rules.specs.Tables.{andThen}
+use Rattle.texts.specs.Lent.{checkRoom}
 use Rattle.theory.specs.Room.{too-short, long-enough}
 use Rattle.theory.specs.Tests.{by-ltb}
 

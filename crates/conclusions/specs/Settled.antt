@@ -12,8 +12,8 @@ use lib.ListN.{getD}
 use Rattle.rules.specs.Calls.{Call, supplyFrom}
 use Rattle.rules.specs.Running.{runAfter}
 use Rattle.rules.specs.Slots.{chosen}
-use Rattle.rules.specs.Sheets.{numberAt}
 use Rattle.rules.specs.Tables.{Accepted}
+use Rattle.texts.specs.Sheets.{numberAt}
 use Rattle.theory.specs.Tests.{by-ltb, by-leb, by-eqb}
 use Rattle.words.specs.Words.{tableIn}
 use Rattle.conclusions.specs.declared.Begun.{Begun}

@@ -4,7 +4,7 @@ use mathlib.Core.List.{List, _++_}
 use mathlib.Core.Path.{_≡_, refl, sym, ap, _∙_}
 use lib.ListN.{length, take, drop, replicate}
 use lib.Seq.{take-at, drop-at}
-use Rattle.rules.specs.Program.{programText}
+use Rattle.texts.specs.Program.{programText}
 use Rattle.conclusions.specs.Conclusions.{Text}
 
 pub wrote : (input text : List ℕ) → text ≡ programText input ++ replicate (1617 - length (programText input)) 0 → Text input (length (programText input)) text

@@ -10,8 +10,8 @@ use lib.Dec.{leb}
 use lib.ListN.{length, getD, drop, length-take, length-drop}
 use borrow.Author.Tests.{leb-true}
 use lib.Seq.{drop-cons, getD-take, getD-drop, take-append-le, drop-append-le}
-use Rattle.rules.specs.Fields.{weights, digitOf, fieldAt}
 use Rattle.rules.specs.Lists.{all}
+use Rattle.texts.specs.Fields.{weights, digitOf, fieldAt}
 use Rattle.theory.specs.Tests.{and-left, and-right}
 use Rattle.fields.specs.declared.Field.{Field}
 use Rattle.fields.specs.declared.Field.the-variants.{Number, Bad}

@@ -9,8 +9,8 @@ use borrow.Author.Tests.{leb-true}
 use lib.Dec.{leb}
 use lib.ListN.{length, getD, take, set}
 use lib.Seq.{take-all, take-suc, take-suc-set}
-use Rattle.rules.specs.Fields.{weights, digitAt, written}
 use Rattle.rules.specs.Lists.{all}
+use Rattle.texts.specs.Fields.{weights, digitAt, written}
 use Rattle.theory.specs.Tests.{and-left, and-right}
 
 -- an entry of a mapped list

@@ -12,9 +12,9 @@ use lib.IntN.{ℤ, pos, negsuc, natAbs}
 use lib.ListN.{length, getD, drop, set}
 use lib.Seq.{paste, paste-suc}
 use lib.Signed.{ltZ}
-use Rattle.rules.specs.Fields.{weights, digitAt, written, digitOf, weigh, valueOf}
 use Rattle.rules.specs.Lists.{count}
-use Rattle.rules.specs.Reports.{columns, figureAt, figure}
+use Rattle.texts.specs.Fields.{weights, digitAt, written, digitOf, weigh, valueOf}
+use Rattle.texts.specs.Reports.{columns, figureAt, figure}
 use Rattle.theory.specs.Counts.{In, count-other, in-head, in-tail}
 use Rattle.theory.specs.Tests.{by-bool, by-leb, and-left, and-false}
 use Rattle.fields.specs.Digits.{entry-map}

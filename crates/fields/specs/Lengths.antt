@@ -6,8 +6,8 @@ use native.Mathlib.Nat.{mul-suc}
 use native.Mathlib.Numerals.{add-one}
 use native.Mathlib.Omega.{arith}
 use lib.ListN.{length, length-append}
-use Rattle.rules.specs.Fields.{written, line}
 use Rattle.rules.specs.Lists.{rowsTo, joined}
+use Rattle.texts.specs.Fields.{written, line}
 use Rattle.theory.specs.Places.{length-rows}
 
 pub written-long : (v : ℕ) → length (written v) ≡ 8

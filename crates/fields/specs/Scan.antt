@@ -8,8 +8,8 @@ use native.Mathlib.Omega.{arith}
 use lib.Dec.{eqb, leb, ltb}
 use lib.ListN.{length}
 use borrow.Author.Tests.{lt-ltb, le-leb, lt-leb, eq-eqb, ne-eqb}
-use Rattle.rules.specs.Fields.{weights, digitAt, written, digitOf, weigh, valueOf, isField}
 use Rattle.rules.specs.Lists.{same}
+use Rattle.texts.specs.Fields.{weights, digitAt, written, digitOf, weigh, valueOf, isField}
 use Rattle.theory.specs.Tests.{by-bool, by-ltb, by-leb, by-eqb}
 use Rattle.fields.specs.declared.Field.{Field}
 use Rattle.fields.specs.declared.Field.the-variants.{Number, Bad}

@@ -8,8 +8,8 @@ use native.Mathlib.Omega.{arith}
 use lib.Dec.{eqb}
 use lib.ListN.{getD}
 use borrow.Author.Tests.{le-leb, eq-eqb}
-use Rattle.rules.specs.Fields.{digitAt, written, digitOf, weigh, valueOf, isField}
 use Rattle.rules.specs.Lists.{same}
+use Rattle.texts.specs.Fields.{digitAt, written, digitOf, weigh, valueOf, isField}
 use Rattle.theory.specs.Tests.{by-bool, by-leb}
 use Rattle.fields.specs.Scan.{powers}
 

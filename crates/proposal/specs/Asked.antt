@@ -18,8 +18,8 @@ use Rattle.rules.specs.Correct.{Correct}
 use Rattle.rules.specs.Judge.{judgeOf}
 use Rattle.rules.specs.Numbers.{refusalNumber, checkNumber, plannedNumber, rowsLeft, verdictYes}
 use Rattle.rules.specs.Orders.{isOrder, checkBoth}
-use Rattle.rules.specs.Sheets.{readOf}
 use Rattle.rules.specs.Tables.{checkTable, Accepted, zeroTable}
+use Rattle.texts.specs.Sheets.{readOf}
 use Rattle.theory.specs.Facts.{both-pass}
 use Rattle.theory.specs.Tests.{by-bool}
 use Rattle.planner.specs.Promise.{refusal-number, promised}

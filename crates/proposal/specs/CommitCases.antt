@@ -13,19 +13,19 @@ use Rattle.rules.specs.Calls.{one, forward, Said, tellOne, tellForward}
 use Rattle.rules.specs.Cases.{sixFigures, promising, following, job}
 use Rattle.rules.specs.Choice.{planOf, padded, unfollowed, passes, sequence, choice, fill, taker, word}
 use Rattle.proposal.specs.Days.{Act, run, commit, InHand, begun, tellDay}
-use Rattle.rules.specs.Fields.{digitAt, digitOf, isField, valueOf, written}
 use Rattle.rules.specs.Judge.{tableOf, judgeOf, tightest}
 use Rattle.rules.specs.Lists.{same}
 use Rattle.rules.specs.Need.{workSlots}
 use Rattle.rules.specs.Numbers.{refusalNumber, checkNumber, plannedNumber, rowsLeft, verdictYes}
 use Rattle.rules.specs.Orders.{isArrangement, isOrder, checkOrder, checkBoth}
+use Rattle.texts.specs.Fields.{digitAt, digitOf, isField, valueOf, written}
 use Rattle.proposal.specs.Proposals.{askOf, allClosed, releasedFrom, checkTurn, checkProposal}
 use Rattle.rules.specs.Rows.{at}
 use Rattle.rules.specs.Running.{closeLate, runSlot}
-use Rattle.rules.specs.Sheets.{readOf, checkSheet, isLine, numberAt, columnOf, tableIn, rowLine, sheetOf}
 use Rattle.rules.specs.Slots.{fresh, isPending, isWaiting, isReady, chosen, isOver, brought, serve, slot}
 use Rattle.rules.specs.Tables.{rowOk, tailOk, promiseOk, checkWait, checkTable, zeroTable}
 use Rattle.rules.specs.Worst.{horizon, worstFinish, promisedMoment, slack, meets}
+use Rattle.texts.specs.Sheets.{readOf, checkSheet, isLine, numberAt, columnOf, tableIn, rowLine, sheetOf}
 use Rattle.proposal.specs.Commits.{checkCommit, commitOf}
 
 pub data Case : Type 0 where

@@ -18,9 +18,9 @@ use Rattle.rules.specs.Lists.{all}
 use Rattle.rules.specs.Numbers.{verdictYes}
 use Rattle.rules.specs.Orders.{checkBoth}
 use Rattle.rules.specs.Rows.{at, rowsOf, releaseOf}
-use Rattle.rules.specs.Sheets.{readOf}
 use Rattle.rules.specs.Slots.{State}
 use Rattle.rules.specs.Tables.{andThen, zeroTable}
+use Rattle.texts.specs.Sheets.{readOf}
 
 -- nothing is proposed: table and order are zeros (rule 22.2)
 abbrev pub nothingAsked : Planned → Asking

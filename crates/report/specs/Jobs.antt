@@ -15,7 +15,7 @@ use Rattle.rules.specs.Rows.{at, rowsOf, deadlineOf, workOf, needOf}
 use Rattle.rules.specs.Orders.{checkBoth}
 use Rattle.rules.specs.Worst.{worstFinish, slack}
 use Rattle.rules.specs.Choice.{padded}
-use Rattle.rules.specs.Reports.{figures, isLate, jobLine}
+use Rattle.texts.specs.Reports.{figures, isLate, jobLine}
 use Rattle.theory.specs.Caps.{slots-most}
 use Rattle.theory.specs.Facts.{Row, is-row, facts, both-accepted, both-order}
 use Rattle.theory.specs.Places.{place-row}

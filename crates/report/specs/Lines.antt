@@ -9,12 +9,12 @@ use Rattle.rules.specs.declared.Table.{Table}
 use Rattle.rules.specs.declared.Refusal.{Refusal}
 use Rattle.rules.specs.declared.Check.{Check}
 use Rattle.rules.specs.declared.Check.the-variants.{Passed, Refused}
-use Rattle.rules.specs.Lent.{checkRoom, writeChecked}
 use Rattle.rules.specs.Lists.{rowsTo, joined}
 use Rattle.rules.specs.Orders.{checkBoth}
-use Rattle.rules.specs.Reports.{figure, figures, jobLine, needsOf, lateRows, lastLine, reportText, checkReport, reportOf}
 use Rattle.rules.specs.Rows.{at, needOf}
 use Rattle.rules.specs.Worst.{worstFinish, slack}
+use Rattle.texts.specs.Lent.{checkRoom, writeChecked}
+use Rattle.texts.specs.Reports.{figure, figures, jobLine, needsOf, lateRows, lastLine, reportText, checkReport, reportOf}
 use Rattle.fields.specs.Figures.{figure-long}
 use Rattle.fields.specs.Lengths.{joined-long}
 use Rattle.theory.specs.Room.{both-passed, room-passed, long-enough}

@@ -17,9 +17,9 @@ use Rattle.rules.specs.Judge.{judgeOf}
 use Rattle.rules.specs.Lists.{rowsTo, sum}
 use Rattle.rules.specs.Numbers.{verdictYes}
 use Rattle.rules.specs.Orders.{isOrder, checkBoth}
-use Rattle.rules.specs.Reports.{figure, isLate, needsOf, lateRows}
 use Rattle.rules.specs.Rows.{at, rowsOf, needOf}
 use Rattle.rules.specs.Worst.{worstFinish, slack}
+use Rattle.texts.specs.Reports.{figure, isLate, needsOf, lateRows}
 use Rattle.theory.specs.Counts.{sum-append, sum-part, sum-zero, sum-most}
 use Rattle.theory.specs.Facts.{Row, row-is, is-row, in-rows, rows-in, both-accepted, both-order}
 use Rattle.theory.specs.Places.{length-rows, place-row, sum-lines}

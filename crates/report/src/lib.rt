@@ -9,7 +9,7 @@ ghost use lib.ListN.{length};
 ghost use Rattle.rules.specs.declared.Check.the-variants.{Passed};
 ghost use Rattle.rules.specs.Lists.{rowsTo, joined};
 ghost use Rattle.rules.specs.Orders.{checkBoth};
-ghost use Rattle.rules.specs.Reports.{figure, figures, isLate, jobLine, needsOf, lateRows, reportText, checkReport, reportOf};
+ghost use Rattle.texts.specs.Reports.{figure, figures, isLate, jobLine, needsOf, lateRows, reportText, checkReport, reportOf};
 ghost use Rattle.fields.specs.Wrote.{Wrote};
 ghost use Rattle.report.specs.Jobs.{Timed, JobOf};
 use judge::Times;

@@ -1,7 +1,7 @@
--- The starred cases P1 to P8 (rules 13.1 to 13.8) and tables at the limits (rule 13.9) as one table, computed from the definitions and
--- checked by one theorem, with cases of our own beside them: on the planner's choice, the judge, checks 3 to 6, calls on paper, and parts of
--- definitions. Here no job loads; LoadingCases has tables in which jobs do. Each of the faults 14.1 to 14.5 of the rules meets one here, and
--- each from 14.6 on one there, in SpeedCases, in LateCases, in PromiseCases, in WaitCases or in record/specs/RecordCases; not every change of a definition does.
+-- The starred cases P1 to P8 (rules 13.1 to 13.8) and tables at the limits (rule 13.9) as one table, computed from the definitions and checked by one
+-- theorem, with cases of our own beside them: on the planner's choice, the judge, checks 3 to 6, calls on paper, and parts of definitions. Here no
+-- job loads; LoadingCases has tables in which jobs do. Each of the faults 14.1 to 14.5 of the rules meets one here, and each from 14.6 on one there,
+-- in searches/specs/SpeedCases, in LateCases, in PromiseCases, in WaitCases or in record/specs/RecordCases; not every change of a definition does.
 use Prim.Native.Nat.{ℕ, suc, _+_, _-_, _≤_, _<_}
 use mathlib.Core.Bool.{Bool, true, false, not, _&&_}
 use mathlib.Core.List.{List, [], _∷_, _++_, map}

@@ -12,16 +12,8 @@ pub mod Choice
 pub mod Judge
 pub mod Calls
 pub mod Numbers
-pub mod Fields
-pub mod Lent
-pub mod Sheets
-pub mod Program
-pub mod Reports
-pub mod Speeds
 pub mod Cases
 pub mod LoadingCases
-pub mod SpeedCases
 pub mod PromiseCases
 pub mod WaitCases
 pub mod LateCases
-pub mod TextCases

@@ -1,5 +1,6 @@
 -- Tables in which LO rows are promised a part (rule 1.11, section 20 of the rules), beside all others, in which none is: one table of cases, computed
--- from the definitions and checked by one theorem (rule 13.14). Each of the faults 14.23 to 14.29 meets one here.
+-- from the definitions and checked by one theorem (rule 13.14). Each of the faults 14.23 to 14.29 meets one here, but for 14.26: it meets one in
+-- searches/specs/SpeedCases, where the least speeds of such tables stand.
 use Prim.Native.Nat.{ℕ}
 use mathlib.Core.Bool.{true, false, not}
 use mathlib.Core.List.{List, [], _∷_, _++_}
@@ -7,18 +8,15 @@ use lib.Dec.{T}
 use lib.IntN.{pos, negsuc}
 use lib.ListN.{replicate}
 use Rattle.rules.specs.declared.Table.{Table}
-use Rattle.rules.specs.declared.Sought.the-variants.{Degraded, Normal}
 use Rattle.rules.specs.Calls.{forward, tellOne, tellForward, tellAll}
 use Rattle.rules.specs.Cases.{Case, planned, stopped, fails, ran, judged, accepted, refused, ordered, told, gives, lists, yes, promising, job, end, allHold}
 use Rattle.rules.specs.Choice.{planOf, padded, unfollowed, passes, sequence, choice, fill, taker, word}
 use Rattle.rules.specs.Judge.{tableOf, judgeOf, tightest}
 use Rattle.rules.specs.Need.{workSlots}
-use Rattle.rules.specs.Numbers.{refusalNumber, checkNumber, plannedNumber, rowsLeft, searchedNumber, searchedSpeed, verdictNumber, verdictYes, verdictRow, verdictSlack}
+use Rattle.rules.specs.Numbers.{refusalNumber, checkNumber, plannedNumber, rowsLeft, verdictNumber, verdictYes, verdictRow, verdictSlack}
 use Rattle.rules.specs.Orders.{isArrangement, isOrder, checkOrder, checkBoth}
 use Rattle.rules.specs.Running.{closeLate, runSlot}
 use Rattle.rules.specs.Slots.{fresh, isPending, isWaiting, isReady, chosen, allowance, isOver, brought, serve, slot}
-use Rattle.rules.specs.Speeds.{makesOrder, leastSpeed, searchOf}
-use Rattle.rules.specs.SpeedCases.{found, nothing}
 use Rattle.rules.specs.Tables.{rowOk, tailOk, promiseOk, checkWait, checkTable}
 use Rattle.rules.specs.Worst.{horizon, worstFinish, promisedMoment, slack, meets}
 
@@ -50,13 +48,9 @@ p1 r = tableOf (job 0 20 10 1 ∷ promising 5 15 10 0 r ∷ job 5 11 19 1 ∷ jo
 abbrev loaded : ℕ → Table
 loaded k = tableOf (promising 0 8 9 0 4 ∷ []) 8 2 k
 
--- the table of lemma 2 of Guo and Baruah at a G, with r of row 2's work promised (SpeedCases has it without)
+-- the table of lemma 2 of Guo and Baruah at a G, with r of row 2's work promised (searches/specs/SpeedCases has it without)
 abbrev cooler : ℕ → ℕ → Table
 cooler g r = tableOf (job 0 200 20 1 ∷ promising 0 180 18 0 r ∷ []) 20 g 0
-
--- a LO and a HI row at an N and a G
-abbrev sought : ℕ → ℕ → ℕ → Table
-sought n g r = tableOf (promising 0 6 3 0 r ∷ job 0 4 9 1 ∷ []) n g 0
 
 -- Plans and verdicts. A promise that fails though the row is in time at N, and one that is kept at the deadline just; one that makes an allowance
 -- longer, so that the HI row below fails; all of the work promised, and nothing; a row whose two slacks tie and one whose promise is the tighter;
@@ -123,19 +117,6 @@ runs =
     ∷ yes (not (isOver (coarse 5 6) 1 5 5))
     ∷ []
 
--- The least G with a promise and without one, and no N that helps a promise which fails at G.
-abbrev searches : List Case
-searches =
-    found Degraded (sought 6 6 0) 1 (2 ∷ 1 ∷ [])
-    ∷ found Degraded (sought 6 6 3) 1 (1 ∷ 2 ∷ [])
-    ∷ found Degraded (sought 6 1 4) 2 (1 ∷ 2 ∷ [])
-    ∷ found Normal (sought 6 2 4) 2 (1 ∷ 2 ∷ [])
-    ∷ found Normal (tableOf (promising 0 1000 1 0 999 ∷ []) 999 999 0) 1000 (1 ∷ [])
-    ∷ nothing Normal (tableOf (promising 0 1000 1 0 1000 ∷ []) 1000 999 0) 7
-    ∷ nothing Degraded (sought 6 1 7) 12
-    ∷ nothing Normal (sought 6 1 7) 12
-    ∷ []
-
 -- check 12: after 3, 4, 11, and after every row has passed 5 with no figure after the last, before 6 (rules 5.9, 10.12, 11.3)
 abbrev checks : List Case
 checks =
@@ -163,6 +144,6 @@ checks =
     ∷ ordered (above 10) (2 ∷ 1 ∷ [])
     ∷ []
 
-pub promise-cases-hold : T (allHold (verdicts ++ times ++ runs ++ searches ++ checks))
-unfolding planOf padded unfollowed passes sequence choice fill taker word tableOf judgeOf tightest workSlots refusalNumber checkNumber plannedNumber rowsLeft searchedNumber searchedSpeed verdictNumber verdictYes verdictRow verdictSlack isArrangement isOrder checkOrder checkBoth fresh isPending isWaiting isReady chosen isOver brought serve slot rowOk tailOk promiseOk checkWait checkTable horizon worstFinish promisedMoment slack meets makesOrder leastSpeed searchOf tellOne tellForward tellAll closeLate runSlot
+pub promise-cases-hold : T (allHold (verdicts ++ times ++ runs ++ checks))
+unfolding planOf padded unfollowed passes sequence choice fill taker word tableOf judgeOf tightest workSlots refusalNumber checkNumber plannedNumber rowsLeft verdictNumber verdictYes verdictRow verdictSlack isArrangement isOrder checkOrder checkBoth fresh isPending isWaiting isReady chosen isOver brought serve slot rowOk tailOk promiseOk checkWait checkTable horizon worstFinish promisedMoment slack meets tellOne tellForward tellAll closeLate runSlot
 promise-cases-hold = tt

@@ -9,18 +9,15 @@ use lib.ListN.{replicate}
 use Rattle.rules.specs.declared.Row.{Row}
 use Rattle.rules.specs.declared.Table.{Table}
 use Rattle.rules.specs.declared.Refusal.the-variants.{NotLower, ReleasedLater, FollowsLow}
-use Rattle.rules.specs.declared.Sought.the-variants.{Normal}
 use Rattle.rules.specs.Calls.{forward, tellOne, tellForward, tellAll}
 use Rattle.rules.specs.Cases.{Case, planned, stopped, judged, accepted, refused, ordered, disordered, told, gives, lists, yes, sixFigures, promising, following, job, allHold}
 use Rattle.rules.specs.Choice.{planOf, padded, unfollowed, tried, passes, sequence, choice, fill, taker, word}
 use Rattle.rules.specs.Judge.{tableOf, judgeOf, tightest}
 use Rattle.rules.specs.Need.{workSlots}
-use Rattle.rules.specs.Numbers.{refusalNumber, checkNumber, plannedNumber, rowsLeft, searchedNumber, searchedSpeed, verdictNumber, verdictYes, verdictRow, verdictSlack}
+use Rattle.rules.specs.Numbers.{refusalNumber, checkNumber, plannedNumber, rowsLeft, verdictNumber, verdictYes, verdictRow, verdictSlack}
 use Rattle.rules.specs.Orders.{isAbove, isArrangement, isOrder, checkOrder, checkBoth}
 use Rattle.rules.specs.Running.{closeLate, runSlot}
 use Rattle.rules.specs.Slots.{fresh, isPending, isWaiting, isReady, chosen, isOver, brought, serve, slot}
-use Rattle.rules.specs.SpeedCases.{found}
-use Rattle.rules.specs.Speeds.{makesOrder, leastSpeed, searchOf}
 use Rattle.rules.specs.Tables.{rowOk, tailOk, promiseOk, checkWait, checkTable}
 use Rattle.rules.specs.Worst.{horizon, worstFinish, promisedMoment, slack, meets}
 
@@ -57,15 +54,16 @@ abbrev broken : Table
 broken = steady (job 0 1 9 1 ∷ following 0 1 2 0 1 ∷ job 0 1 9 1 ∷ [])
 
 -- two rows of two work units, the second to follow row w
-abbrev cooler : ℕ → Table
+abbrev pub cooler : ℕ → Table
 cooler w = tableOf (job 0 2 4 0 ∷ following 0 2 3 0 w ∷ []) 2 1 0
 
 -- a row of a release and a level, and one of another release and level to follow row w
 abbrev two : ℕ → ℕ → ℕ → ℕ → ℕ → Table
 two a level b other w = steady (job a 1 9 level ∷ following b 1 9 other w ∷ [])
 
--- Plans and verdicts. A row that follows a follower; a wait that makes it a 7, where with w at 0 it is not; a skip by which another row gets a place, and
--- which looks at the rows left alone; a trial above whose row a wait is broken; and a wait that asks for a faster processor.
+-- Plans and verdicts. A row that follows a follower; a wait that makes it a 7, where with w at 0 it is not; a skip by which another row gets a place,
+-- and which looks at the rows left alone; a trial above whose row a wait is broken; and a wait that asks for a faster processor, whose least speeds
+-- stand in searches/specs/SpeedCases.
 abbrev verdicts : List Case
 verdicts =
     planned (chain 1 2) (1 ∷ 2 ∷ 3 ∷ []) (pos 8 ∷ pos 7 ∷ pos 6 ∷ [])
@@ -84,8 +82,6 @@ verdicts =
     ∷ gives (worstFinish broken (2 ∷ 1 ∷ 3 ∷ []) 3) 3
     ∷ planned (two 0 1 0 1 1) (1 ∷ 2 ∷ []) (pos 8 ∷ pos 7 ∷ [])
     ∷ planned (cooler 1) (1 ∷ 2 ∷ []) (pos 3 ∷ pos 1 ∷ [])
-    ∷ found Normal (cooler 1) 2 (1 ∷ 2 ∷ [])
-    ∷ found Normal (cooler 0) 1 (2 ∷ 1 ∷ [])
     ∷ []
 
 -- Runs. A follower, HI or LO, is not run while the row that it follows is open, preempted or not, late or not, even by numbers that have it above that row; it runs once that
@@ -170,5 +166,5 @@ checks =
     ∷ []
 
 pub wait-cases-hold : T (allHold (verdicts ++ runs ++ checks))
-unfolding planOf padded unfollowed passes sequence choice fill taker word tableOf judgeOf tightest workSlots refusalNumber checkNumber plannedNumber rowsLeft searchedNumber searchedSpeed verdictNumber verdictYes verdictRow verdictSlack isArrangement isOrder checkOrder checkBoth fresh isPending isWaiting isReady chosen isOver brought serve slot rowOk tailOk promiseOk checkWait checkTable horizon worstFinish promisedMoment slack meets makesOrder leastSpeed searchOf tellOne tellForward tellAll closeLate runSlot
+unfolding planOf padded unfollowed passes sequence choice fill taker word tableOf judgeOf tightest workSlots refusalNumber checkNumber plannedNumber rowsLeft verdictNumber verdictYes verdictRow verdictSlack isArrangement isOrder checkOrder checkBoth fresh isPending isWaiting isReady chosen isOver brought serve slot rowOk tailOk promiseOk checkWait checkTable horizon worstFinish promisedMoment slack meets tellOne tellForward tellAll closeLate runSlot
 wait-cases-hold = tt

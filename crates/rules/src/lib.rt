@@ -1,5 +1,6 @@
-// The words of the product: what a row, a table and each answer about them hold. An order is sixty-four row numbers (rule 5.6).
-// What they mean stands in specs/; this file has no function. Row 1 is the first (rule 1.3). Rules are those of docs/RULES.md.
+// The words of the product: what a row, a table and each answer about them hold. An order is sixty-four row numbers (rule 5.6). What they mean stands
+// in specs/, and for texts and searches in the crates of these names; this file has no function. Row 1 is the first (rule 1.3). Rules are those of
+// docs/RULES.md.
 
 // A job: release and deadline in slots, work in work units, level 0 (LO) or 1 (HI), the part of the work that a LO job is promised, in work
 // units, and the row that the job follows, 0 if it follows none (rules 1.1, 1.2, 1.11, 1.12).

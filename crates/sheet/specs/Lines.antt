@@ -7,9 +7,9 @@ use native.Mathlib.Numerals.{add-one}
 use native.Mathlib.Omega.{arith}
 use lib.Dec.{eqb}
 use lib.ListN.{length, getD, take, set, replicate, length-map}
-use Rattle.rules.specs.Fields.{isField, fieldAt}
 use Rattle.rules.specs.Lists.{all, rowsTo}
-use Rattle.rules.specs.Sheets.{isLine, numberAt, lineOf, columnOf}
+use Rattle.texts.specs.Fields.{isField, fieldAt}
+use Rattle.texts.specs.Sheets.{isLine, numberAt, lineOf, columnOf}
 use Rattle.checks.specs.RowLists.{all-rows-more, all-rows-fail, all-rows-each}
 use Rattle.theory.specs.Places.{length-rows}
 use Rattle.theory.specs.Tests.{and-left}

@@ -13,11 +13,11 @@ use Rattle.rules.specs.declared.Table.{Table}
 use Rattle.rules.specs.declared.Check.{Check}
 use Rattle.rules.specs.declared.Check.the-variants.{Passed, Refused}
 use Rattle.rules.specs.declared.Reading.{Reading}
-use Rattle.rules.specs.Fields.{written, isField, fieldAt, line}
 use Rattle.rules.specs.Lists.{allZero, rowsTo, joined}
 use Rattle.rules.specs.Rows.{at, releaseOf, workOf, deadlineOf, promisedOf, followsOf}
-use Rattle.rules.specs.Sheets.{isLine, numberAt, columnOf, tableIn, checkSheet, readChecked, readOf, rowLine, sheetOf}
 use Rattle.rules.specs.Tables.{tailOk, Accepted, FullTable}
+use Rattle.texts.specs.Fields.{written, isField, fieldAt, line}
+use Rattle.texts.specs.Sheets.{isLine, numberAt, columnOf, tableIn, checkSheet, readChecked, readOf, rowLine, sheetOf}
 use Rattle.checks.specs.RowLists.{zero-at}
 use Rattle.theory.specs.Facts.{clash, Row, TableFacts, facts, accepted-tail}
 use Rattle.theory.specs.Tests.{by-eqb, by-ltb, and-left, and-right}

@@ -11,10 +11,10 @@ use lib.ListN.{length, getD, replicate, length-map, length-take, length-append, 
 use lib.Seq.{getD-take, getD-append-add, ext-getD, getD-set-same, getD-set-other}
 use Rattle.rules.specs.declared.Table.{Table}
 use Rattle.rules.specs.declared.Check.the-variants.{Passed}
-use Rattle.rules.specs.Fields.{written, valueOf, isField, fieldAt}
 use Rattle.rules.specs.Lists.{all, same, rowsTo}
-use Rattle.rules.specs.Sheets.{isLine, numberAt, lineOf, columnOf, tableIn, checkSheet}
 use Rattle.rules.specs.Tables.{countOk, Accepted}
+use Rattle.texts.specs.Fields.{written, valueOf, isField, fieldAt}
+use Rattle.texts.specs.Sheets.{isLine, numberAt, lineOf, columnOf, tableIn, checkSheet}
 use Rattle.theory.specs.Places.{length-rows}
 use Rattle.theory.specs.Facts.{clash}
 use Rattle.theory.specs.Tests.{by-bool, by-ltb, by-eqb, and-left, and-right}

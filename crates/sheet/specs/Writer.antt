@@ -9,12 +9,12 @@ use Rattle.rules.specs.declared.Refusal.{Refusal}
 use Rattle.rules.specs.declared.Refusal.the-variants.{NoRoom}
 use Rattle.rules.specs.declared.Check.{Check}
 use Rattle.rules.specs.declared.Check.the-variants.{Passed, Refused}
-use Rattle.rules.specs.Fields.{written, line}
 use Rattle.rules.specs.Lists.{rowsTo, joined}
 use Rattle.rules.specs.Rows.{at, releaseOf, workOf, deadlineOf, promisedOf, followsOf}
-use Rattle.rules.specs.Lent.{checkRoom, writeChecked}
-use Rattle.rules.specs.Sheets.{rowLine, sheetOf, checkWrite, writeOf}
 use Rattle.rules.specs.Tables.{checkTable, Accepted}
+use Rattle.texts.specs.Fields.{written, line}
+use Rattle.texts.specs.Lent.{checkRoom, writeChecked}
+use Rattle.texts.specs.Sheets.{rowLine, sheetOf, checkWrite, writeOf}
 use Rattle.theory.specs.Room as Room
 use Rattle.theory.specs.Room.{both-passed, room-passed}
 use Rattle.fields.specs.Lengths.{line-long, joined-long}

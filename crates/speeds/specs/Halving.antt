@@ -18,8 +18,8 @@ use Rattle.rules.specs.Choice.{planOf}
 use Rattle.rules.specs.Correct.{CorrectOrder}
 use Rattle.rules.specs.Lists.{first}
 use Rattle.rules.specs.Numbers.{refusalNumber, plannedNumber}
-use Rattle.rules.specs.Speeds.{atSpeed, slowest, fastest, InRange, makesOrder, speedsOf, leastSpeed, searchedAt}
 use Rattle.rules.specs.Tables.{Accepted}
+use Rattle.searches.specs.Speeds.{atSpeed, slowest, fastest, InRange, makesOrder, speedsOf, leastSpeed, searchedAt}
 use Rattle.theory.specs.Facts.{facts}
 use Rattle.theory.specs.Speeds.{accepted-at, exists-at}
 use Rattle.theory.specs.Tests.{by-bool, not-both}

@@ -18,9 +18,9 @@ use Rattle.rules.specs.Correct.{Correct, CorrectOrder}
 use Rattle.rules.specs.Lists.{first}
 use Rattle.rules.specs.Numbers.{plannedNumber, searchedNumber, searchedSpeed}
 use Rattle.rules.specs.Orders.{isOrder}
-use Rattle.rules.specs.Sheets.{readOf}
-use Rattle.rules.specs.Speeds.{atSpeed, slowest, fastest, InRange, LeastSpeed, makesOrder, speedsOf, leastSpeed, searchedAt, searchRefused, searchChecked, searchOf, searchRead, searchSheet}
 use Rattle.rules.specs.Tables.{checkTable, Accepted}
+use Rattle.texts.specs.Sheets.{readOf}
+use Rattle.searches.specs.Speeds.{atSpeed, slowest, fastest, InRange, LeastSpeed, makesOrder, speedsOf, leastSpeed, searchedAt, searchRefused, searchChecked, searchOf, searchRead, searchSheet}
 use Rattle.theory.specs.Facts.{clash}
 use Rattle.theory.specs.Tests.{by-eqb, not-both}
 use Rattle.theory.specs.Results.{least-exact, larger-at}

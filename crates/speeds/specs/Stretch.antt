@@ -4,7 +4,7 @@ use mathlib.Core.Bool.{Bool, true, false}
 use mathlib.Core.Path.{_≡_, refl}
 use native.Mathlib.Omega.{arith}
 use Rattle.rules.specs.Lists.{first}
-use Rattle.rules.specs.Speeds.{speedsFrom}
+use Rattle.searches.specs.Speeds.{speedsFrom}
 use Rattle.theory.specs.Tests.{by-bool, by-eqb}
 
 -- none passes

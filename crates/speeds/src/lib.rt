@@ -3,8 +3,8 @@
 ghost use mathlib.Core.Path.{_≡_};
 ghost use Prim.Native.Nat.{_+_, _-_, _*_, _/_, _≤_};
 ghost use Rattle.rules.specs.Numbers.{plannedNumber};
-ghost use Rattle.rules.specs.Speeds.{atSpeed, slowest, fastest, leastSpeed, searchedAt, searchRefused};
 ghost use Rattle.rules.specs.Tables.{Accepted};
+ghost use Rattle.searches.specs.Speeds.{atSpeed, slowest, fastest, leastSpeed, searchedAt, searchRefused};
 ghost use lib.Dec.{eqb};
 ghost use Rattle.speeds.specs.Halving.{Halving};
 ghost use Rattle.speeds.specs.Promise.{Promise, SheetPromise};

@@ -12,13 +12,13 @@ use Rattle.rules.specs.declared.Reading.{Reading}
 use Rattle.rules.specs.declared.Planning.{Planning}
 use Rattle.rules.specs.declared.Planned.{Planned}
 use Rattle.rules.specs.declared.Planned.the-variants as Plans
-use Rattle.rules.specs.Fields.{line}
 use Rattle.rules.specs.Lists.{rowsTo, joined}
 use Rattle.rules.specs.Numbers.{refusalNumber}
 use Rattle.rules.specs.Tables.{Accepted}
-use Rattle.rules.specs.Sheets.{tableIn, checkSheet, readChecked, readOf}
 use Rattle.rules.specs.Choice.{planOf}
-use Rattle.rules.specs.Program.{placeLine, planText, readText, programText}
+use Rattle.texts.specs.Fields.{line}
+use Rattle.texts.specs.Sheets.{tableIn, checkSheet, readChecked, readOf}
+use Rattle.texts.specs.Program.{placeLine, planText, readText, programText}
 use Rattle.theory.specs.Facts.{clash, facts}
 use Rattle.sheet.specs.SheetsDiffer.{accepts}
 use Rattle.text.specs.Lines.{pair-long, places-long}

@@ -5,11 +5,11 @@ use mathlib.Core.List.{List, [], _∷_}
 use lib.IntN.{natAbs}
 use lib.ListN.{length}
 use Rattle.rules.specs.declared.Table.{Table}
-use Rattle.rules.specs.Fields.{line}
 use Rattle.rules.specs.Lists.{rowsTo, joined}
-use Rattle.rules.specs.Program.{placeLine}
 use Rattle.rules.specs.Rows.{at}
 use Rattle.rules.specs.Worst.{slack}
+use Rattle.texts.specs.Fields.{line}
+use Rattle.texts.specs.Program.{placeLine}
 use Rattle.fields.specs.Lengths.{line-long, joined-long}
 
 pub pair-long : (a b : ℕ) → length (line (a ∷ b ∷ [])) ≡ 17

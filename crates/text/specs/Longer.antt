@@ -14,8 +14,8 @@ use Rattle.rules.specs.declared.Refusal.the-variants.{Length, Malformed, RowCou
 use Rattle.rules.specs.declared.Check.{Check}
 use Rattle.rules.specs.declared.Check.the-variants.{Refused}
 use Rattle.rules.specs.Tables.{countOk}
-use Rattle.rules.specs.Sheets.{isLine, numberAt, tableIn, checkSheet, readChecked, readOf}
-use Rattle.rules.specs.Program.{readText, programText}
+use Rattle.texts.specs.Sheets.{isLine, numberAt, tableIn, checkSheet, readChecked, readOf}
+use Rattle.texts.specs.Program.{readText, programText}
 use Rattle.theory.specs.Tests.{by-bool, by-leb, and-right}
 use Rattle.fields.specs.Bytes.{field-within}
 

@@ -14,9 +14,9 @@ use Rattle.rules.specs.Orders.{isOrder}
 use Rattle.rules.specs.Correct.{Correct}
 use Rattle.rules.specs.Worst.{meets}
 use Rattle.rules.specs.Choice.{padded}
-use Rattle.rules.specs.Fields.{line}
 use Rattle.rules.specs.Numbers.{plannedNumber}
-use Rattle.rules.specs.Program.{placeLine}
+use Rattle.texts.specs.Fields.{line}
+use Rattle.texts.specs.Program.{placeLine}
 use Rattle.theory.specs.Facts.{Row, facts}
 use Rattle.theory.specs.Places as Places
 use Rattle.theory.specs.Promised.{latest, meets-is, natural, all-meet}

@@ -22,7 +22,7 @@ use Rattle.rules.specs.Correct.{KeptIn, Correct, CorrectOrder, earliest, Window
 use Rattle.rules.specs.Running.{runAfter, RunServes}
 use Rattle.rules.specs.Worst.{worstSpeed, horizon, worstFinish, promisedMoment, slack}
 use Rattle.rules.specs.Choice.{lowest, unfollowed, passes, choice, padded}
-use Rattle.rules.specs.Speeds.{withSpeeds, atSpeed, slowest, fastest, InRange, LeastSpeed}
+use Rattle.searches.specs.Speeds.{withSpeeds, atSpeed, slowest, fastest, InRange, LeastSpeed}
 use Rattle.theory.specs.Tests.{by-bool, not-is}
 use Rattle.theory.specs.Counts.{In, Within, Same, in-head, in-tail, in-last, erase-last, count-append, sum-within, sum-most}
 use Rattle.theory.specs.Sorting.{Sorted}

@@ -5,8 +5,8 @@ use borrow.Author.Tests.{lt-ltb, le-ltb}
 use Rattle.rules.specs.declared.Refusal.the-variants.{NoRoom}
 use Rattle.rules.specs.declared.Check.{Check}
 use Rattle.rules.specs.declared.Check.the-variants.{Passed, Refused}
-use Rattle.rules.specs.Lent.{checkRoom}
 use Rattle.rules.specs.Tables.{andThen}
+use Rattle.texts.specs.Lent.{checkRoom}
 use Rattle.theory.specs.Tests.{by-ltb}
 use Rattle.theory.specs.Facts.{clash}
 

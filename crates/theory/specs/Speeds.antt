@@ -17,7 +17,7 @@ use Rattle.rules.specs.Correct.{Correct, CorrectOrder}
 use Rattle.rules.specs.Worst.{worstSpeed, worstFinish, promisedMoment}
 use Rattle.rules.specs.declared.Sought.{Sought}
 use Rattle.rules.specs.declared.Sought.the-variants.{Degraded, Normal}
-use Rattle.rules.specs.Speeds.{withSpeeds, atSpeed, slowest, fastest, InRange, LeastSpeed}
+use Rattle.searches.specs.Speeds.{withSpeeds, atSpeed, slowest, fastest, InRange, LeastSpeed}
 use Rattle.theory.specs.Tests.{by-bool, by-leb}
 use Rattle.theory.specs.Counts.{In, Once, sum-le}
 use Rattle.theory.specs.Backlog.{backlog, backlog-mono, finish-first, brings, arrivals}

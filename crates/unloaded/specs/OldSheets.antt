@@ -10,11 +10,11 @@ use Rattle.rules.specs.declared.Refusal.the-variants.{Length, Malformed, RowCou
 use Rattle.rules.specs.declared.Check.{Check}
 use Rattle.rules.specs.declared.Check.the-variants.{Refused}
 use Rattle.rules.specs.declared.Reading.{Reading}
-use Rattle.rules.specs.Fields.{written, line}
 use Rattle.rules.specs.Lists.{all, rowsTo, joined}
 use Rattle.rules.specs.Rows.{rowsOf}
-use Rattle.rules.specs.Sheets.{isLine, numberAt, readChecked}
 use Rattle.rules.specs.Tables.{countOk}
+use Rattle.texts.specs.Fields.{written, line}
+use Rattle.texts.specs.Sheets.{isLine, numberAt, readChecked}
 use Rattle.unwaited.specs.OldSheets.{rowLine}
 use Rattle.unwaited.specs.OldTexts.{readText}
 use Rattle.unwaited.specs.Unwaited.{checkTable}

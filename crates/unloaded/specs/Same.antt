@@ -14,11 +14,11 @@ use Rattle.rules.specs.Correct.{Correct}
 use Rattle.rules.specs.Judge.{judgeOf}
 use Rattle.rules.specs.Lists.{allZero}
 use Rattle.rules.specs.Need.{workSlots}
-use Rattle.rules.specs.Reports.{reportOf}
 use Rattle.rules.specs.Rows.{needOf, workOf}
 use Rattle.rules.specs.Slots.{State, after}
-use Rattle.rules.specs.Speeds.{searchOf}
 use Rattle.rules.specs.Worst.{slack}
+use Rattle.texts.specs.Reports.{reportOf}
+use Rattle.searches.specs.Speeds.{searchOf}
 use Rattle.record.specs.declared.Run.{Run}
 use Rattle.record.specs.Records.{isSound, freshOf, comingSlot, oneSlot, forwardOver}
 use Rattle.theory.specs.Cells.{brought-all}

@@ -9,11 +9,11 @@ use lib.Seq.{take-all, take-take, drop-at, length-take-le, take-append-add}
 use Rattle.rules.specs.declared.Table.{Table}
 use Rattle.rules.specs.declared.Check.{Check}
 use Rattle.rules.specs.declared.Check.the-variants.{Passed, Refused}
-use Rattle.rules.specs.Fields.{written}
 use Rattle.rules.specs.Lists.{allZero}
-use Rattle.rules.specs.Program.{programText}
-use Rattle.rules.specs.Sheets.{readChecked}
 use Rattle.rules.specs.Tables.{zeroTable}
+use Rattle.texts.specs.Fields.{written}
+use Rattle.texts.specs.Program.{programText}
+use Rattle.texts.specs.Sheets.{readChecked}
 use Rattle.theory.specs.Tests.{by-ltb}
 use Rattle.fields.specs.Lengths.{written-long}
 use Rattle.unwaited.specs.OldSheets.{lineSize, widen}

@@ -13,11 +13,11 @@ use borrow.Author.Tests.{lt-ltb, le-ltb, leb-true, eqb-true, eq-eqb, ne-eqb}
 use Rattle.rules.specs.declared.Table.{Table}
 use Rattle.rules.specs.declared.Refusal.the-variants.{Malformed}
 use Rattle.rules.specs.declared.Check.the-variants.{Passed, Refused}
-use Rattle.rules.specs.Fields.{digitAt, written, line, valueOf, isField, fieldAt}
 use Rattle.rules.specs.Lists.{all, allZero, rowsTo, joined}
 use Rattle.rules.specs.Rows.{rowsOf}
-use Rattle.rules.specs.Sheets.{isLine, numberAt, checkSheet, readOf, sheetOf}
 use Rattle.rules.specs.Tables.{countOk, zeroTable}
+use Rattle.texts.specs.Fields.{digitAt, written, line, valueOf, isField, fieldAt}
+use Rattle.texts.specs.Sheets.{isLine, numberAt, checkSheet, readOf, sheetOf}
 use Rattle.theory.specs.Agree.{map-agree, all-agree}
 use Rattle.theory.specs.Tests.{by-bool, by-ltb, by-eqb, and-left, and-right}
 use Rattle.theory.specs.Facts.{all-in, clash}

@@ -9,17 +9,17 @@ use Rattle.rules.specs.declared.Table.{Table}
 use Rattle.rules.specs.Calls.{one, forward}
 use Rattle.rules.specs.Cases.{sixFigures}
 use Rattle.rules.specs.Choice.{padded, sequence, word}
-use Rattle.rules.specs.Fields.{digitAt, digitOf, written, valueOf, isField}
 use Rattle.rules.specs.Judge.{tableOf}
 use Rattle.rules.specs.Lists.{same}
 use Rattle.rules.specs.Numbers.{refusalNumber, checkNumber, plannedNumber, rowsLeft, verdictNumber, verdictYes, verdictRow}
 use Rattle.rules.specs.Orders.{isArrangement}
 use Rattle.rules.specs.Rows.{at, rowsOf}
-use Rattle.rules.specs.Sheets.{isLine, numberAt}
 use Rattle.rules.specs.Running.{closeLate}
 use Rattle.rules.specs.Slots.{State, fresh, isPending}
 use Rattle.rules.specs.Tables.{rowOk}
-use Rattle.rules.specs.TextCases.{bytes}
+use Rattle.texts.specs.Fields.{digitAt, digitOf, written, valueOf, isField}
+use Rattle.texts.specs.Sheets.{isLine, numberAt}
+use Rattle.texts.specs.TextCases.{bytes}
 use Rattle.record.specs.Records.{recordOf, tailSound}
 use Rattle.unwaited.specs.OldRecords as Records
 use Rattle.unwaited.specs.Unwaited as Then

@@ -18,9 +18,9 @@ use Rattle.rules.specs.Orders.{checkBoth}
 use Rattle.rules.specs.Rows.{needFor}
 use Rattle.rules.specs.Running.{runSlot, runAfter, RunServes}
 use Rattle.rules.specs.Slots.{State, allowance, isOver, slot, after}
-use Rattle.rules.specs.Speeds.{searchOf}
 use Rattle.rules.specs.Tables.{checkTable}
 use Rattle.rules.specs.Worst.{worstFinish, slack}
+use Rattle.searches.specs.Speeds.{searchOf}
 use Rattle.unwaited.specs.Same as Since
 use Rattle.unwaited.specs.Same.{loaded, column-none}
 use Rattle.unwaited.specs.SameAnswers as Answers

@@ -13,9 +13,9 @@ use Rattle.rules.specs.declared.Check.the-variants.{Passed, Refused}
 use Rattle.rules.specs.declared.Sought.{Sought}
 use Rattle.rules.specs.Lists.{allZero}
 use Rattle.rules.specs.Rows.{at}
-use Rattle.rules.specs.Sheets.{isLine, numberAt, readOf, sheetOf}
-use Rattle.rules.specs.Speeds.{searchSheet}
 use Rattle.rules.specs.Tables.{countOk, zeroTable}
+use Rattle.texts.specs.Sheets.{isLine, numberAt, readOf, sheetOf}
+use Rattle.searches.specs.Speeds.{searchSheet}
 use Rattle.unwaited.specs.OldSheets as Old
 use Rattle.unwaited.specs.OldSheets.{lineSize, widen}
 use Rattle.unwaited.specs.Same as Tables

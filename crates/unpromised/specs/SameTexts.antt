@@ -6,8 +6,8 @@ use mathlib.Core.Path.{_≡_, _∙_}
 use lib.ListN.{take}
 use Rattle.rules.specs.declared.Table.{Table}
 use Rattle.rules.specs.Lists.{allZero}
-use Rattle.rules.specs.Program.{programText}
-use Rattle.rules.specs.Reports.{reportOf}
+use Rattle.texts.specs.Program.{programText}
+use Rattle.texts.specs.Reports.{reportOf}
 use Rattle.unwaited.specs.OldSheets as Old
 use Rattle.unwaited.specs.OldSheets.{keptOf, widen}
 use Rattle.unwaited.specs.OldTexts as Texts

@@ -13,12 +13,12 @@ use Rattle.rules.specs.declared.Check.the-variants.{Passed, Refused}
 use Rattle.rules.specs.declared.Reading.{Reading}
 use Rattle.rules.specs.declared.Sought.{Sought}
 use Rattle.rules.specs.declared.Searching.{Searching}
-use Rattle.rules.specs.Fields.{written, line}
 use Rattle.rules.specs.Lists.{all, rowsTo, joined}
 use Rattle.rules.specs.Rows.{at, rowsOf, releaseOf, workOf, deadlineOf, promisedOf, followsOf}
-use Rattle.rules.specs.Sheets.{isLine, numberAt, readChecked}
-use Rattle.rules.specs.Speeds.{searchRefused}
 use Rattle.rules.specs.Tables.{countOk}
+use Rattle.texts.specs.Fields.{written, line}
+use Rattle.texts.specs.Sheets.{isLine, numberAt, readChecked}
+use Rattle.searches.specs.Speeds.{searchRefused}
 use Rattle.unwaited.specs.Unwaited.{Past, checkTable, searchOf}
 
 -- the bytes of a row's line, f fields and its end, and the byte at which row i's line starts

@@ -10,13 +10,13 @@ use Rattle.rules.specs.declared.Check.{Check}
 use Rattle.rules.specs.declared.Check.the-variants as Checks
 use Rattle.rules.specs.declared.Planned.{Planned}
 use Rattle.rules.specs.declared.Planned.the-variants as Plans
-use Rattle.rules.specs.Fields.{line}
-use Rattle.rules.specs.Lent.{checkRoom, WrittenBack, writeChecked}
 use Rattle.rules.specs.Lists.{rowsTo, sum, joined}
 use Rattle.rules.specs.Numbers.{refusalNumber}
-use Rattle.rules.specs.Reports.{figures, isLate}
 use Rattle.rules.specs.Rows.{at, rowsOf, deadlineOf}
 use Rattle.rules.specs.Tables.{andThen}
+use Rattle.texts.specs.Fields.{line}
+use Rattle.texts.specs.Lent.{checkRoom, WrittenBack, writeChecked}
+use Rattle.texts.specs.Reports.{figures, isLate}
 use Rattle.unwaited.specs.OldSheets.{fieldsOf, readOf, keptOf}
 use Rattle.unwaited.specs.Unwaited as Then
 use Rattle.unwaited.specs.Unwaited.{Past}

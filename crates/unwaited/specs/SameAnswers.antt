@@ -19,7 +19,7 @@ use Rattle.rules.specs.Judge.{leastSlack, tightest, judgeChecked, judgeOf}
 use Rattle.rules.specs.Lists.{all, count, keep, erase}
 use Rattle.rules.specs.Numbers.{plannedNumber}
 use Rattle.rules.specs.Rows.{rowsOf, followsOf}
-use Rattle.rules.specs.Speeds.{atSpeed, speedsOf, makesOrder, leastSpeed, searchChecked, searchOf}
+use Rattle.searches.specs.Speeds.{atSpeed, speedsOf, makesOrder, leastSpeed, searchChecked, searchOf}
 use Rattle.theory.specs.Agree.{first-agree}
 use Rattle.theory.specs.Choosing.{same-sequence}
 use Rattle.theory.specs.Counts.{In, count-erase-same, count-erase-other}

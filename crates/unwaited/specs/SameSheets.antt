@@ -16,9 +16,9 @@ use Rattle.rules.specs.declared.Check.{Check}
 use Rattle.rules.specs.declared.Check.the-variants.{Passed, Refused}
 use Rattle.rules.specs.declared.Sought.{Sought}
 use Rattle.rules.specs.Lists.{allZero}
-use Rattle.rules.specs.Sheets.{isLine, numberAt, columnOf, tableIn, checkSheet, readChecked, readOf, rowLine, sheetOf}
-use Rattle.rules.specs.Speeds.{searchRead, searchSheet}
 use Rattle.rules.specs.Tables.{countOk, checkTable, zeroTable}
+use Rattle.texts.specs.Sheets.{isLine, numberAt, columnOf, tableIn, checkSheet, readChecked, readOf, rowLine, sheetOf}
+use Rattle.searches.specs.Speeds.{searchRead, searchSheet}
 use Rattle.theory.specs.Facts.{clash}
 use Rattle.theory.specs.Tests.{by-bool, and-left}
 use Rattle.unwaited.specs.OldSheets as Old

@@ -15,14 +15,14 @@ use Rattle.rules.specs.declared.Check.the-variants.{Passed, Refused}
 use Rattle.rules.specs.declared.Planned.the-variants.{Ordered}
 use Rattle.rules.specs.declared.Planning.{Planning}
 use Rattle.rules.specs.Choice.{padded, choice, planChecked, planOf}
-use Rattle.rules.specs.Fields.{line}
 use Rattle.rules.specs.Lists.{rowsTo}
-use Rattle.rules.specs.Program.{placeLine, planText, readText, programText}
-use Rattle.rules.specs.Reports.{isLate, jobLine, needsOf, lateRows, lastLine, reportText, checkReport, reportOf}
 use Rattle.rules.specs.Rows.{at, rowsOf, deadlineOf, needOf}
-use Rattle.rules.specs.Sheets.{readOf}
 use Rattle.rules.specs.Tables.{Accepted, checkTable}
 use Rattle.rules.specs.Worst.{slack, meets}
+use Rattle.texts.specs.Fields.{line}
+use Rattle.texts.specs.Program.{placeLine, planText, readText, programText}
+use Rattle.texts.specs.Reports.{isLate, jobLine, needsOf, lateRows, lastLine, reportText, checkReport, reportOf}
+use Rattle.texts.specs.Sheets.{readOf}
 use Rattle.theory.specs.Agree.{joined-agree}
 use Rattle.theory.specs.Counts.{sum-eq}
 use Rattle.theory.specs.Facts.{facts}

@@ -32,9 +32,9 @@ use Rattle.rules.specs.Rows.{at, put, isRow, rowsOf, releaseOf, workOf, deadlin
 use Rattle.rules.specs.Running.{closeLate}
 use Rattle.rules.specs.Slots as Slots
 use Rattle.rules.specs.Slots.{State, isPending, idle, course}
-use Rattle.rules.specs.Speeds.{atSpeed, speedsOf, searchRefused}
 use Rattle.rules.specs.Tables.{countOk, speedsOk, loadingOk, rowOk, promiseOk, andThen}
 use Rattle.rules.specs.Worst.{worstSpeed, leftFrom, lesser}
+use Rattle.searches.specs.Speeds.{atSpeed, speedsOf, searchRefused}
 
 -- The rules at a time before w. Where a table states k as its K: the slots that c work units need at s work units per slot; what a slot that supplies v
 -- work units brings a row that has used u slots before it; and whether check 11 lets k through. And whether there were promised parts: where there were

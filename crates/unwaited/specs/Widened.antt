@@ -10,9 +10,9 @@ use native.Mathlib.Omega.{arith}
 use lib.ListN.{length, getD, take, drop, replicate, length-append, length-take, length-drop, take-append-drop}
 use lib.Seq.{take-at, drop-at, length-take-le, drop-drop, getD-drop}
 use borrow.Author.Tests.{le-leb, lt-leb}
-use Rattle.rules.specs.Fields.{digitAt, digitOf, written, valueOf, isField, fieldAt}
 use Rattle.rules.specs.Lists.{all, rowsTo, joined}
-use Rattle.rules.specs.Sheets.{isLine, numberAt}
+use Rattle.texts.specs.Fields.{digitAt, digitOf, written, valueOf, isField, fieldAt}
+use Rattle.texts.specs.Sheets.{isLine, numberAt}
 use Rattle.checks.specs.RowLists.{all-append}
 use Rattle.theory.specs.Agree.{all-agree}
 use Rattle.theory.specs.Tests.{by-leb, by-eqb, and-true}

@@ -11,10 +11,10 @@ use lib.Seq.{take-at, take-all, take-take, drop-at, length-take-le, getD-take}
 use borrow.Author.Tests.{lt-ltb, le-ltb, leb-true, eq-eqb, ne-eqb}
 use Rattle.rules.specs.declared.Table.{Table}
 use Rattle.rules.specs.declared.Check.{Check}
-use Rattle.rules.specs.Fields.{written, line, valueOf, fieldAt}
 use Rattle.rules.specs.Lists.{rowsTo, joined}
-use Rattle.rules.specs.Sheets.{isLine, numberAt}
 use Rattle.rules.specs.Tables.{countOk}
+use Rattle.texts.specs.Fields.{written, line, valueOf, fieldAt}
+use Rattle.texts.specs.Sheets.{isLine, numberAt}
 use Rattle.theory.specs.Tests.{by-bool, by-ltb, by-eqb, and-right}
 use Rattle.fields.specs.Bytes.{field-within}
 use Rattle.fields.specs.Lengths.{written-long, line-long, joined-long}

@@ -1,6 +1,6 @@
 -- Fewer bytes than the text has, or as many and more.
 use borrow.Author.Tests.{lt-ltb, le-ltb}
-use Rattle.rules.specs.Lent.{checkRoom}
+use Rattle.texts.specs.Lent.{checkRoom}
 use Rattle.checks.proofs.check_room.Statement.{statement}
 use Rattle.checks.proofs.check_room.Tie as tie
 

@@ -1,7 +1,7 @@
 -- A byte below "0" or above "9" adds nothing, and any other its distance from "0".
 use borrow.Author.Tests.{le-leb, lt-leb}
 use native.Mathlib.Omega.{arith}
-use Rattle.rules.specs.Fields.{digitOf}
+use Rattle.texts.specs.Fields.{digitOf}
 use borrow.Author.Needs.{needs}
 use Rattle.fields.proofs.digit.Statement.{statement}
 use Rattle.fields.proofs.digit.Tie as tie

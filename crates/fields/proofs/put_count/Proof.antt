@@ -2,7 +2,7 @@
 use borrow.Author.Needs.{needs}
 use mathlib.Core.Path.{ap}
 use native.Mathlib.Omega.{arith}
-use Rattle.rules.specs.Reports.{figure}
+use Rattle.texts.specs.Reports.{figure}
 use Rattle.theory.specs.Signed.{as-signed}
 use Rattle.fields.specs.Wrote.{wrote-as}
 use Rattle.fields.proofs.put_count.Statement.{statement}

@@ -5,7 +5,7 @@ use borrow.Author.Tests.{not-true, not-false}
 use mathlib.Core.Path.{_≡_, sym, _∙_}
 use native.Mathlib.Omega.{arith}
 use lib.ListN.{getD}
-use Rattle.rules.specs.Fields.{weights, fieldAt}
+use Rattle.texts.specs.Fields.{weights, fieldAt}
 use Rattle.fields.specs.Scan.{fieldIn}
 use Rattle.fields.specs.Bytes.{rest, byte-start, byte-go, byte-stop, byte-end, adds-le}
 use Rattle.fields.proofs.read_field.Statement.{statement}

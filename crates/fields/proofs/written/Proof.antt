@@ -4,7 +4,7 @@ use borrow.Author.Needs.{needs}
 use mathlib.Core.Path.{_≡_, refl}
 use native.Mathlib.Omega.{arith}
 use lib.ListN.{length, take, length-set}
-use Rattle.rules.specs.Fields.{written}
+use Rattle.texts.specs.Fields.{written}
 use Rattle.fields.specs.Digits.{weight-some, byte-more, bytes-all}
 use Rattle.fields.proofs.written.Statement.{statement}
 use Rattle.fields.proofs.written.Tie as tie

@@ -2,7 +2,7 @@
 use borrow.Author.Needs.{needs}
 use mathlib.Core.Path.{ap, _∙_}
 use Rattle.rules.specs.declared.Sought.the-variants.{Normal}
-use Rattle.rules.specs.Speeds.{searchOf}
+use Rattle.searches.specs.Speeds.{searchOf}
 use Rattle.jasminebrace.specs.Searches.{told-same}
 use Rattle.jasminebrace.proofs.jb_least_normal.Statement.{statement}
 use Rattle.jasminebrace.proofs.jb_least_normal.Tie as tie

@@ -4,7 +4,7 @@ use mathlib.Core.List.{List, _++_}
 use mathlib.Core.Path.{ap, _∙_}
 use Prim.Native.Nat.{ℕ}
 use lib.ListN.{length}
-use Rattle.rules.specs.Program.{programText}
+use Rattle.texts.specs.Program.{programText}
 use Rattle.jasminebrace.specs.Zeros.{drop-zeros}
 use Rattle.jasminebrace.proofs.jb_program.Statement.{statement}
 use Rattle.jasminebrace.proofs.jb_program.Tie as tie

@@ -4,7 +4,7 @@ use mathlib.Core.Path.{ap, _∙_}
 use Rattle.rules.specs.declared.Table.{Table}
 use Rattle.rules.specs.declared.Writing.{Writing}
 use Rattle.rules.specs.Numbers.{checkNumber}
-use Rattle.rules.specs.Reports.{reportOf}
+use Rattle.texts.specs.Reports.{reportOf}
 use Rattle.jasminebrace.proofs.jb_report.Statement.{statement}
 use Rattle.jasminebrace.proofs.jb_report.Tie as tie
 

@@ -4,7 +4,7 @@ use mathlib.Core.Path.{ap, _∙_}
 use Rattle.rules.specs.declared.Table.{Table}
 use Rattle.rules.specs.declared.Writing.{Writing}
 use Rattle.rules.specs.Numbers.{checkNumber}
-use Rattle.rules.specs.Sheets.{writeOf}
+use Rattle.texts.specs.Sheets.{writeOf}
 use Rattle.jasminebrace.proofs.jb_write.Statement.{statement}
 use Rattle.jasminebrace.proofs.jb_write.Tie as tie
 

@@ -1,6 +1,6 @@
 -- A report of n rows has 51 n + 21 bytes: the checks of table and order, and check 10 after them.
 use borrow.Author.Needs.{needs}
-use Rattle.rules.specs.Reports.{checkReport}
+use Rattle.texts.specs.Reports.{checkReport}
 use Rattle.report.specs.Lines.{report-long}
 use Rattle.report.proofs.check_report.Statement.{statement}
 use Rattle.report.proofs.check_report.Tie as tie

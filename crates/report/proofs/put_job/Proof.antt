@@ -9,7 +9,7 @@ use mir.Val.{toZ, ofZ}
 use mir.Facts.{toZ-ofZ}
 use Rattle.fields.specs.Figures.{figure-long}
 use Rattle.fields.specs.Wrote.{wrote-as, wrote-then}
-use Rattle.rules.specs.Reports.{figure}
+use Rattle.texts.specs.Reports.{figure}
 use Rattle.report.specs.Lines.{pair-long, in-line}
 use Rattle.report.proofs.put_job.Statement.{statement}
 use Rattle.report.proofs.put_job.Tie as tie

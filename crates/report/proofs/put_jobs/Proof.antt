@@ -6,9 +6,9 @@ use native.Mathlib.Omega.{arith}
 use lib.IntN.{ℤ}
 use lib.ListN.{length}
 use Rattle.rules.specs.Lists.{rowsTo, joined}
-use Rattle.rules.specs.Reports.{isLate, jobLine}
 use Rattle.rules.specs.Rows.{at}
 use Rattle.rules.specs.Worst.{slack}
+use Rattle.texts.specs.Reports.{isLate, jobLine}
 use Rattle.theory.specs.Facts.{both-order}
 use Rattle.fields.specs.Lengths.{joined-more}
 use Rattle.fields.specs.Wrote.{Wrote, wrote-none, wrote-as, wrote-then}

@@ -5,7 +5,7 @@ use mathlib.Core.List.{[], _∷_}
 use mathlib.Core.Path.{ap₂}
 use native.Mathlib.Omega.{arith}
 use lib.IntN.{pos}
-use Rattle.rules.specs.Reports.{figures, lastLine, reportText}
+use Rattle.texts.specs.Reports.{figures, lastLine, reportText}
 use Rattle.fields.specs.Wrote.{wrote-as, wrote-then}
 use Rattle.report.specs.Lines.{jobs-long}
 use Rattle.report.specs.Totals.{needs-most, late-most}

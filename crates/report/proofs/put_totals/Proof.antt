@@ -3,7 +3,7 @@ use borrow.Author.Needs.{needs}
 use mathlib.Core.List.{[], _∷_, append-assoc}
 use native.Mathlib.Omega.{arith}
 use lib.IntN.{pos}
-use Rattle.rules.specs.Reports.{figure}
+use Rattle.texts.specs.Reports.{figure}
 use Rattle.fields.specs.Wrote.{wrote-as, wrote-then}
 use Rattle.report.specs.Lines.{pair-long}
 use Rattle.report.proofs.put_totals.Statement.{statement}

@@ -5,8 +5,8 @@ use mathlib.Core.Path.{_≡_, sym, ap, _∙_}
 use Prim.Native.Nat.{_+_, _*_, _≤_}
 use lib.ListN.{length}
 use Rattle.rules.specs.declared.Check.the-variants.{Passed}
-use Rattle.rules.specs.Lent.{WrittenBack}
 use Rattle.rules.specs.Orders.{checkBoth}
+use Rattle.texts.specs.Lent.{WrittenBack}
 use Rattle.fields.specs.Wrote.{wrote-size, wrote-all}
 use Rattle.report.specs.Lines.{fits, report-most, report-refused, report-passed}
 use Rattle.report.proofs.report.Statement.{statement}

@@ -1,6 +1,6 @@
 -- A sheet of n rows has 33 + 49 n bytes (rule 6.7): the table's check, and check 10 after it.
 use borrow.Author.Needs.{needs}
-use Rattle.rules.specs.Sheets.{checkWrite}
+use Rattle.texts.specs.Sheets.{checkWrite}
 use Rattle.sheet.specs.Writer.{sheet-long}
 use Rattle.sheet.proofs.check_write.Statement.{statement}
 use Rattle.sheet.proofs.check_write.Tie as tie

@@ -3,7 +3,7 @@ use Prim.Native.Nat.{_+_, _-_, _*_, _≤_}
 use borrow.Author.Needs.{needs}
 use mathlib.Core.Path.{_≡_, sym}
 use native.Mathlib.Omega.{arith}
-use Rattle.rules.specs.Sheets.{numberAt, columnOf}
+use Rattle.texts.specs.Sheets.{numberAt, columnOf}
 use Rattle.sheet.specs.Lines.{line-field, lines-line, column-start, column-more}
 use Rattle.sheet.proofs.column.Statement.{statement}
 use Rattle.sheet.proofs.column.Tie as tie

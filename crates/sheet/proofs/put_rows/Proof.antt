@@ -5,7 +5,7 @@ use mathlib.Core.Path.{_≡_, refl, sym, ap, _∙_}
 use native.Mathlib.Omega.{arith}
 use lib.ListN.{length}
 use Rattle.rules.specs.Lists.{rowsTo, joined}
-use Rattle.rules.specs.Sheets.{rowLine}
+use Rattle.texts.specs.Sheets.{rowLine}
 use Rattle.fields.specs.Lengths.{joined-more}
 use Rattle.fields.specs.Wrote.{Wrote, wrote-none, wrote-as, wrote-then}
 use Rattle.sheet.specs.Writer.{rows-long}

@@ -2,8 +2,8 @@
 use borrow.Author.Needs.{needs}
 use mathlib.Core.List.{[], _∷_}
 use native.Mathlib.Omega.{arith}
-use Rattle.rules.specs.Fields.{written, line}
-use Rattle.rules.specs.Sheets.{sheetOf}
+use Rattle.texts.specs.Fields.{written, line}
+use Rattle.texts.specs.Sheets.{sheetOf}
 use Rattle.fields.specs.Wrote.{wrote-then}
 use Rattle.sheet.proofs.put_sheet.Statement.{statement}
 use Rattle.sheet.proofs.put_sheet.Tie as tie

@@ -7,8 +7,8 @@ use mathlib.Core.Path.{_≡_, sym, ap, _∙_}
 use native.Mathlib.Omega.{arith}
 use lib.Dec.{leb, ltb}
 use lib.ListN.{length}
-use Rattle.rules.specs.Sheets.{isLine, numberAt, checkSheet, readOf}
 use Rattle.rules.specs.Tables.{countOk}
+use Rattle.texts.specs.Sheets.{isLine, numberAt, checkSheet, readOf}
 use Rattle.theory.specs.Tests.{and-right}
 use Rattle.sheet.specs.Lines.{linesOk, line-field}
 use borrow.Author.Needs.{needs}

@@ -4,8 +4,8 @@ use mathlib.Core.Bool.{true}
 use mathlib.Core.Path.{_≡_}
 use native.Mathlib.Omega.{arith}
 use lib.ListN.{length}
-use Rattle.rules.specs.Fields.{isField, fieldAt}
-use Rattle.rules.specs.Sheets.{numberAt, tableIn}
+use Rattle.texts.specs.Fields.{isField, fieldAt}
+use Rattle.texts.specs.Sheets.{numberAt, tableIn}
 use Rattle.sheet.specs.Lines.{line-field}
 use borrow.Author.Needs.{needs}
 use Rattle.sheet.proofs.table_in.Statement.{statement}

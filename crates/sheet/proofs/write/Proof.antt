@@ -4,8 +4,8 @@ use native.Mathlib.Omega.{arith}
 use mathlib.Core.Path.{sym, ap, _∙_}
 use Prim.Native.Nat.{_+_, _*_, _≤_}
 use lib.ListN.{length}
-use Rattle.rules.specs.Lent.{WrittenBack}
 use Rattle.rules.specs.Tables.{Accepted}
+use Rattle.texts.specs.Lent.{WrittenBack}
 use Rattle.theory.specs.Facts.{facts}
 use Rattle.fields.specs.Wrote.{wrote-size, wrote-all}
 use Rattle.sheet.specs.Writer.{fits, sheet-long, back-refused, back-passed}

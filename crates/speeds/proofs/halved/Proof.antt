@@ -7,7 +7,7 @@ use mathlib.Core.Path.{_≡_, refl, sym, ap, _∙_}
 use Rattle.rules.specs.declared.Planning.{Planning}
 use Rattle.rules.specs.Choice.{planOf}
 use Rattle.rules.specs.Numbers.{plannedNumber}
-use Rattle.rules.specs.Speeds.{atSpeed, makesOrder}
+use Rattle.searches.specs.Speeds.{atSpeed, makesOrder}
 use Rattle.theory.specs.Tests.{by-eqb}
 use Rattle.speeds.specs.declared.Between.{Between}
 use Rattle.speeds.specs.Halving.{middle, halving-found, halving-failed}

@@ -1,8 +1,8 @@
 -- A refused table answers for itself; for an accepted one the search does.
 use borrow.Author.Needs.{needs}
 use mathlib.Core.Path.{sym, _∙_}
-use Rattle.rules.specs.Speeds.{searchOf}
 use Rattle.rules.specs.Tables.{Accepted}
+use Rattle.searches.specs.Speeds.{searchOf}
 use Rattle.speeds.specs.Promise.{promised-search}
 use Rattle.speeds.proofs.least_speed.Statement.{statement}
 use Rattle.speeds.proofs.least_speed.Tie as tie

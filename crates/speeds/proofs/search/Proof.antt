@@ -3,7 +3,7 @@ use Prim.Native.Nat.{ℕ, _+_, _-_, _^_, _≤_, _<_}
 use native.Mathlib.Omega.{arith}
 use borrow.Author.Needs.{needs}
 use mathlib.Core.Path.{_≡_, refl, ap}
-use Rattle.rules.specs.Speeds.{fastest}
+use Rattle.searches.specs.Speeds.{fastest}
 use Rattle.speeds.specs.Halving.{Halving, range, halving-start, halving-least, halving-none, half-below}
 use Rattle.speeds.proofs.search.Statement.{statement}
 use Rattle.speeds.proofs.search.Tie as tie

@@ -1,7 +1,7 @@
 -- The first line and then the places.
 use borrow.Author.Needs.{needs}
 use native.Mathlib.Omega.{arith}
-use Rattle.rules.specs.Fields.{written}
+use Rattle.texts.specs.Fields.{written}
 use Rattle.fields.specs.Wrote.{wrote-then}
 use Rattle.theory.specs.Facts.{both-pass}
 use Rattle.text.specs.Slacks.{few}

@@ -5,7 +5,7 @@ use mathlib.Core.Path.{_≡_, refl, sym, ap, _∙_}
 use native.Mathlib.Omega.{arith}
 use lib.ListN.{length}
 use Rattle.rules.specs.Lists.{rowsTo, joined}
-use Rattle.rules.specs.Program.{placeLine}
+use Rattle.texts.specs.Program.{placeLine}
 use Rattle.fields.specs.Wrote.{Wrote, wrote-none, wrote-as, wrote-then}
 use Rattle.fields.specs.Lengths.{joined-more}
 use Rattle.text.specs.Lines.{places-long}

@@ -4,7 +4,7 @@ use borrow.Author.Needs.{needs}
 use mathlib.Core.List.{[], _∷_}
 use mathlib.Core.Path.{ap, _∙_}
 use Rattle.rules.specs.declared.Planned.the-variants.{Ordered, NoOrder, Refused}
-use Rattle.rules.specs.Fields.{line}
+use Rattle.texts.specs.Fields.{line}
 use Rattle.fields.specs.Wrote.{wrote-as}
 use Rattle.text.specs.Slacks.{ordered-right}
 use Rattle.text.specs.Answers.{planning-text}

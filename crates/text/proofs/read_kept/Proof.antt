@@ -3,7 +3,7 @@ use borrow.Author.Needs.{needs}
 use mathlib.Core.Path.{sym, ap, _∙_}
 use native.Mathlib.Omega.{arith}
 use lib.Seq.{take-all, length-take-le}
-use Rattle.rules.specs.Sheets.{readOf}
+use Rattle.texts.specs.Sheets.{readOf}
 use Rattle.text.proofs.read_kept.Statement.{statement}
 use Rattle.text.proofs.read_kept.Tie as tie
 

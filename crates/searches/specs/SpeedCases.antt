@@ -1,39 +1,40 @@
--- Least workable speeds (rule 13.12): one table of cases, computed from the definitions and checked by one theorem. Each case scans its
--- range speed by speed, as rule 18.3 says it.
+-- Least workable speeds (rule 13.12), those of promised parts (rule 13.14) and of waits (rule 13.15) among them: one table of cases, computed from
+-- the definitions and checked by one theorem. Each case scans its range speed by speed, as rule 18.3 says it.
 use Prim.Native.Nat.{ℕ}
 use mathlib.Core.Bool.{true, false}
 use mathlib.Core.List.{List, [], _∷_, _++_}
 use lib.Dec.{T}
 use lib.IntN.{pos, negsuc}
 use lib.ListN.{take}
 use Rattle.rules.specs.declared.Table.{Table}
 use Rattle.rules.specs.declared.Sought.{Sought}
 use Rattle.rules.specs.declared.Sought.the-variants.{Degraded, Normal}
 use Rattle.rules.specs.declared.Searching.{Searching}
 use Rattle.rules.specs.Cases.{Case, planned, stopped, judged, lists, promising, job, allHold}
 use Rattle.rules.specs.Choice.{planOf, padded, unfollowed, passes, sequence, choice, fill, taker, word}
-use Rattle.rules.specs.Fields.{digitAt, written, digitOf, valueOf, isField}
 use Rattle.rules.specs.Judge.{tableOf, judgeOf, tightest}
 use Rattle.rules.specs.Lists.{rowsTo}
 use Rattle.rules.specs.Need.{workSlots}
 use Rattle.rules.specs.Numbers.{refusalNumber, checkNumber, plannedNumber, rowsLeft, searchedNumber, searchedSpeed, verdictNumber, verdictYes, verdictRow, verdictSlack}
 use Rattle.rules.specs.Orders.{isArrangement, isOrder, checkOrder, checkBoth}
-use Rattle.rules.specs.Sheets.{isLine, numberAt, columnOf, tableIn, checkSheet, readOf, rowLine, sheetOf}
 use Rattle.rules.specs.Slots.{fresh, isPending, isWaiting, isReady, chosen, isOver, brought, serve, slot}
-use Rattle.rules.specs.Speeds.{atSpeed, speedsOf, makesOrder, leastSpeed, searchOf, searchSheet}
 use Rattle.rules.specs.Tables.{rowOk, tailOk, promiseOk, checkWait, checkTable}
+use Rattle.rules.specs.WaitCases as WaitCases
 use Rattle.rules.specs.Worst.{horizon, worstFinish, promisedMoment, slack, meets}
+use Rattle.texts.specs.Fields.{digitAt, written, digitOf, valueOf, isField}
+use Rattle.texts.specs.Sheets.{isLine, numberAt, columnOf, tableIn, checkSheet, readOf, rowLine, sheetOf}
+use Rattle.searches.specs.Speeds.{atSpeed, speedsOf, makesOrder, leastSpeed, searchOf, searchSheet}
 
 -- a search's whole answer: its number, the speed in work units per slot, the order
 abbrev told : Searching → List ℕ
 told r = searchedNumber (r .answer) ∷ searchedSpeed (r .answer) ∷ r .order
 
 -- the search for a table finds this speed and this order
-abbrev pub found : Sought → Table → ℕ → List ℕ → Case
+abbrev found : Sought → Table → ℕ → List ℕ → Case
 found f t speed o = lists (told (searchOf f t)) (0 ∷ speed ∷ padded o)
 
 -- the search for a table has this number and nothing but zeros
-abbrev pub nothing : Sought → Table → ℕ → Case
+abbrev nothing : Sought → Table → ℕ → Case
 nothing f t number = lists (told (searchOf f t)) (number ∷ 0 ∷ padded [])
 
 -- the search for these bytes has this number, this speed and this order
@@ -55,6 +56,10 @@ alone c d level n g = tableOf (job 0 c d level ∷ []) n g 0
 -- a HI and a LO row with K slots of loading
 abbrev loaded : ℕ → ℕ → Table
 loaded n k = tableOf (job 0 6 9 1 ∷ job 1 6 7 0 ∷ []) n 1 k
+
+-- a LO and a HI row at an N and a G, with r of the LO row's work promised
+abbrev promisedPart : ℕ → ℕ → ℕ → Table
+promisedPart n g r = tableOf (promising 0 6 3 0 r ∷ job 0 4 9 1 ∷ []) n g 0
 
 -- The least G: 19 in the table of the lemma, though it states a G of 18, with an order at 19 and none at 18; the first and the last speed of the
 -- range; no speed of it. At the G that the table states there may be no order.
@@ -127,6 +132,26 @@ sheets =
     ∷ read Normal (sheetOf (tableOf (promising 0 4 4 0 5 ∷ []) 2 1 16)) 12 0 []
     ∷ []
 
-pub speed-cases-hold : T (allHold (degraded ++ normal ++ refusals ++ sheets))
+-- The least G with a promise and without one, and no N that helps a promise which fails at G.
+abbrev promises : List Case
+promises =
+    found Degraded (promisedPart 6 6 0) 1 (2 ∷ 1 ∷ [])
+    ∷ found Degraded (promisedPart 6 6 3) 1 (1 ∷ 2 ∷ [])
+    ∷ found Degraded (promisedPart 6 1 4) 2 (1 ∷ 2 ∷ [])
+    ∷ found Normal (promisedPart 6 2 4) 2 (1 ∷ 2 ∷ [])
+    ∷ found Normal (tableOf (promising 0 1000 1 0 999 ∷ []) 999 999 0) 1000 (1 ∷ [])
+    ∷ nothing Normal (tableOf (promising 0 1000 1 0 1000 ∷ []) 1000 999 0) 7
+    ∷ nothing Degraded (promisedPart 6 1 7) 12
+    ∷ nothing Normal (promisedPart 6 1 7) 12
+    ∷ []
+
+-- A wait that asks for a faster processor: the least N with it and without it.
+abbrev waits : List Case
+waits =
+    found Normal (WaitCases.cooler 1) 2 (1 ∷ 2 ∷ [])
+    ∷ found Normal (WaitCases.cooler 0) 1 (2 ∷ 1 ∷ [])
+    ∷ []
+
+pub speed-cases-hold : T (allHold (degraded ++ normal ++ refusals ++ sheets ++ promises ++ waits))
 unfolding planOf padded unfollowed passes sequence choice fill taker word tableOf judgeOf tightest workSlots refusalNumber checkNumber plannedNumber rowsLeft searchedNumber searchedSpeed verdictNumber verdictYes verdictRow verdictSlack isArrangement isOrder checkOrder checkBoth fresh isPending isWaiting isReady chosen isOver brought serve slot rowOk tailOk promiseOk checkWait checkTable horizon worstFinish promisedMoment slack meets makesOrder leastSpeed searchOf searchSheet digitAt written digitOf valueOf isField isLine numberAt columnOf tableIn checkSheet readOf rowLine sheetOf
 speed-cases-hold = tt

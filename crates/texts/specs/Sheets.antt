@@ -5,16 +5,16 @@ use mathlib.Core.Bool.{Bool, cond, _&&_}
 use mathlib.Core.List.{List, [], _∷_, _++_, map}
 use lib.Dec.{eqb, ltb}
 use lib.ListN.{length, getD, take, replicate}
 use Rattle.rules.specs.declared.Table.{Table}
 use Rattle.rules.specs.declared.Refusal.the-variants.{Length, Malformed, RowCount}
 use Rattle.rules.specs.declared.Check.{Check}
 use Rattle.rules.specs.declared.Check.the-variants.{Passed, Refused}
 use Rattle.rules.specs.declared.Reading.{Reading}
-use Rattle.rules.specs.Fields.{valueOf, isField, fieldAt, line}
-use Rattle.rules.specs.Lent.{checkRoom, WrittenBack, writeChecked}
 use Rattle.rules.specs.Lists.{all, rowsTo, joined}
 use Rattle.rules.specs.Rows.{at, rowsOf, releaseOf, workOf, deadlineOf, promisedOf, followsOf}
 use Rattle.rules.specs.Tables.{countOk, andThen, checkTable, zeroTable}
+use Rattle.texts.specs.Fields.{valueOf, isField, fieldAt, line}
+use Rattle.texts.specs.Lent.{checkRoom, WrittenBack, writeChecked}
 
 -- k fields and a line end are well formed from byte start on (rules 6.1, 6.4)
 unfoldable pub isLine : List ℕ → ℕ → ℕ → Bool

@@ -4,18 +4,18 @@ use mathlib.Core.List.{List, [], _∷_, _++_}
 use lib.Count.{ones}
 use lib.IntN.{natAbs}
 use lib.ListN.{take}
 use Rattle.rules.specs.declared.Table.{Table}
 use Rattle.rules.specs.declared.Check.the-variants as Checks
 use Rattle.rules.specs.declared.Planned.the-variants as Plans
 use Rattle.rules.specs.declared.Planned.{Planned}
 use Rattle.rules.specs.declared.Check.{Check}
 use Rattle.rules.specs.Choice.{planOf}
-use Rattle.rules.specs.Fields.{line}
 use Rattle.rules.specs.Lists.{rowsTo, joined}
 use Rattle.rules.specs.Numbers.{refusalNumber}
 use Rattle.rules.specs.Rows.{at}
-use Rattle.rules.specs.Sheets.{readOf}
 use Rattle.rules.specs.Worst.{slack}
+use Rattle.texts.specs.Fields.{line}
+use Rattle.texts.specs.Sheets.{readOf}
 
 -- the line of place k: the place, its row, and the row's slack in slots, which after success is not below zero (rule 12.5)
 unfoldable pub placeLine : Table → List ℕ → ℕ → List ℕ

@@ -4,20 +4,20 @@ use mathlib.Core.Bool.{Bool, cond}
 use mathlib.Core.List.{List, [], _∷_}
 use lib.Dec.{eqb}
 use lib.ListN.{replicate}
 use Rattle.rules.specs.declared.Table.{Table}
 use Rattle.rules.specs.declared.Check.{Check}
 use Rattle.rules.specs.declared.Check.the-variants as Checks
 use Rattle.rules.specs.declared.Refusal.{Refusal}
 use Rattle.rules.specs.declared.Sought.{Sought}
 use Rattle.rules.specs.declared.Sought.the-variants.{Degraded, Normal}
 use Rattle.rules.specs.declared.Searched.the-variants.{Least, NoSpeed, Refused}
 use Rattle.rules.specs.declared.Searching.{Searching}
 use Rattle.rules.specs.Choice.{planOf}
 use Rattle.rules.specs.Correct.{CorrectOrder}
 use Rattle.rules.specs.Lists.{first}
 use Rattle.rules.specs.Numbers.{plannedNumber}
-use Rattle.rules.specs.Sheets.{readOf}
 use Rattle.rules.specs.Tables.{checkTable}
+use Rattle.texts.specs.Sheets.{readOf}
 
 -- the table with these two speeds, in work units per slot, and everything else as it is (rule 18.1)
 abbrev pub withSpeeds : Table → ℕ → ℕ → Table

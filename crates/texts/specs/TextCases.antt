@@ -12,22 +12,22 @@ use lib.Count.{ones, onesIn}
 use lib.Dec.{T, eqb}
 use lib.IntN.{ℤ, pos, negsuc}
 use lib.ListN.{getD, replicate}
 use Rattle.rules.specs.declared.Table.{Table}
 use Rattle.rules.specs.declared.Refusal.the-variants.{NotAnOrder}
 use Rattle.rules.specs.declared.Planned.the-variants.{Refused}
 use Rattle.rules.specs.Choice.{planOf, padded, unfollowed, passes, sequence, choice, fill, taker, word}
-use Rattle.rules.specs.Fields.{digitAt, written, fitsField, digitOf, valueOf, isField}
 use Rattle.rules.specs.Lists.{same}
 use Rattle.rules.specs.Need.{workSlots}
 use Rattle.rules.specs.Numbers.{refusalNumber, checkNumber}
 use Rattle.rules.specs.Orders.{isArrangement, isOrder, checkOrder, checkBoth}
-use Rattle.rules.specs.Program.{placeLine, planText, programText}
-use Rattle.rules.specs.Reports.{figureAt, figure, jobLine, needsOf, lateRows, lastLine, reportText, checkReport, reportOf}
-use Rattle.rules.specs.Lent.{checkRoom}
-use Rattle.rules.specs.Sheets.{isLine, numberAt, columnOf, tableIn, checkSheet, readOf, rowLine, sheetOf, checkWrite, writeOf}
 use Rattle.rules.specs.Slots.{fresh, isPending, isWaiting, isReady, chosen, isOver, brought, serve, slot, after}
 use Rattle.rules.specs.Tables.{rowOk, tailOk, promiseOk, checkWait, checkTable}
 use Rattle.rules.specs.Worst.{horizon, worstFinish, promisedMoment, slack, meets}
+use Rattle.texts.specs.Fields.{digitAt, written, fitsField, digitOf, valueOf, isField}
+use Rattle.texts.specs.Program.{placeLine, planText, programText}
+use Rattle.texts.specs.Reports.{figureAt, figure, jobLine, needsOf, lateRows, lastLine, reportText, checkReport, reportOf}
+use Rattle.texts.specs.Lent.{checkRoom}
+use Rattle.texts.specs.Sheets.{isLine, numberAt, columnOf, tableIn, checkSheet, readOf, rowLine, sheetOf, checkWrite, writeOf}
 
 -- the bytes of a text of plain characters
 abbrev pub bytes : String → List ℕ

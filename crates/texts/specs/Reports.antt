@@ -6,15 +6,15 @@ use lib.Dec.{ltb, leb}
 use lib.IntN.{ℤ, pos, negsuc}
 use lib.ListN.{length}
 use lib.Signed.{ltZ}
 use Rattle.rules.specs.declared.Table.{Table}
 use Rattle.rules.specs.declared.Check.{Check}
-use Rattle.rules.specs.Fields.{weights, digitAt}
-use Rattle.rules.specs.Lent.{checkRoom, WrittenBack, writeChecked}
 use Rattle.rules.specs.Lists.{rowsTo, sum, joined}
 use Rattle.rules.specs.Orders.{checkBoth}
 use Rattle.rules.specs.Rows.{at, rowsOf, needOf}
 use Rattle.rules.specs.Tables.{andThen}
 use Rattle.rules.specs.Worst.{worstFinish, slack}
+use Rattle.texts.specs.Fields.{weights, digitAt}
+use Rattle.texts.specs.Lent.{checkRoom, WrittenBack, writeChecked}
 
 -- what a digit counts for at each of the ten columns of a figure, from the left: two columns, then the eight of a field (rule 16.1)
 abbrev pub columns : List ℕ
