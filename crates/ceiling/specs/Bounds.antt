@@ -137,6 +137,15 @@ trials-ceiling t c =
     (λ _ h. omega (arith, ap (λ (r : Counted). r .trials) (within-count t a c h))))
     (λ n. omega (arith, ap (λ (r : Counted). r .trials) (refused-count t n c)))
 
+-- nor ever more than n rows can take (rule 23.3)
+pub trials-most : (t : Table) (c : ℕ) → planWithin c t .trials ≤ mostTrials (t .n)
+trials-most t c =
+    by-accepted t
+    (λ a. by-ltb c (trialCount t)
+    (λ _ h. omega (arith, ap (λ (r : Counted). r .trials) (over-count t a c h), count-most t))
+    (λ _ h. omega (arith, ap (λ (r : Counted). r .trials) (within-count t a c h), count-most t)))
+    (λ n. omega (arith, ap (λ (r : Counted). r .trials) (refused-count t n c)))
+
 -- whatever is not 19 is the same, order, rows left and trials, at every higher ceiling (rule 23.8)
 pub higher-ceiling : (t : Table) (c d : ℕ) → c ≤ d → (plannedNumber (planWithin c t .planning .answer) ≡ 19 → ⊥) → planWithin d t ≡ planWithin c t
 unfolding plannedNumber refusalNumber

@@ -69,6 +69,10 @@ first = tableOf (job 0 20 10 1 ∷ job 5 15 10 0 ∷ job 5 11 19 1 ∷ job 0 5 5
 abbrev skipped : Table
 skipped = steady (job 0 1 9 0 ∷ following 0 1 5 0 1 ∷ [])
 
+-- a row that is skipped between one that fails and one that gets the place
+abbrev skippedBetween : Table
+skippedBetween = steady (job 0 1 5 1 ∷ job 0 1 1 0 ∷ following 0 1 2 0 2 ∷ [])
+
 -- a row that fails and the row that it follows
 abbrev skippedAndStuck : Table
 skippedAndStuck = steady (job 0 2 2 1 ∷ following 0 2 3 1 1 ∷ [])
@@ -92,6 +96,8 @@ orders =
     ∷ over first 0
     ∷ made skipped 2 (1 ∷ 2 ∷ []) 2
     ∷ over skipped 1
+    ∷ made skippedBetween 4 (2 ∷ 3 ∷ 1 ∷ []) 4
+    ∷ over skippedBetween 3
     ∷ made (steady (job 0 1 1 1 ∷ [])) 1 (1 ∷ []) 1
     ∷ over (steady (job 0 1 1 1 ∷ [])) 0
     ∷ made busiest (mostTrials 2) (1 ∷ 2 ∷ []) 3

@@ -46,6 +46,7 @@ module _ (t : Table) where
           counted = ⊎-elim (λ z. absurd (omega arith)) (λ z. absurd (omega arith));
           refused = λ n. absurd (n a);
           within = omega arith;
+          bounded = omega (arith, count-most t);
           most = count-most t;
           again = λ n. absurd (n refl);
         }
@@ -59,6 +60,7 @@ module _ (t : Table) where
           counted = λ _. refl;
           refused = λ n. absurd (n a);
           within = h;
+          bounded = count-most t;
           most = count-most t;
           again = λ _ d l. rw (within-count t a d (omega arith)) (refl, refl, refl, refl);
         }
@@ -72,6 +74,7 @@ module _ (t : Table) where
           counted = λ z. absurd (n (planned t .accepted z));
           refused = λ _. refl;
           within = omega arith;
+          bounded = omega arith;
           most = count-most t;
           again = λ _ d l. rw (refused-count t n d) (refl, refl, refl, refl);
         }

@@ -256,8 +256,9 @@ pub record PlannerWithin (t : Table) (ceiling number : ℕ) (order : List ℕ) (
   -- with 0 and 7 the trials are the table's count, and a refused table has none (rules 23.4, 23.7)
   pub counted : (number ≡ 0) ⊎ (number ≡ 7) → trials ≡ trialCount t
   pub refused : (Accepted t → ⊥) → trials ≡ 0
-  -- no trial is above the ceiling, and no table takes more than n × (n + 1) / 2 (rules 23.3, 23.6)
+  -- no more trials are told than the ceiling allows, nor than n × (n + 1) / 2, and no table takes more than these (rules 23.3 to 23.5)
   pub within : trials ≤ ceiling
+  pub bounded : trials ≤ t .n * (t .n + 1) / 2
   pub most : trialCount t ≤ t .n * (t .n + 1) / 2
   -- asked again at a higher ceiling, whatever is not 19 is answered the same: number, order, rows left and trials (rule 23.8)
   pub again : (number ≡ 19 → ⊥) → (higher : ℕ) → ceiling ≤ higher

@@ -1,6 +1,6 @@
 -- The claim from the other side: what a caller gets from `Demand3`, in plain terms, derived from its statement alone and without its proof.
 -- Where a field of the claim is weakened or left out, a proof here fails.
-use Prim.Native.Nat.{ℕ, zero, suc, _+_, _-_, _^_, _≤_, _<_, min}
+use Prim.Native.Nat.{ℕ, zero, suc, _+_, _-_, _*_, _/_, _^_, _≤_, _<_, min}
 use mathlib.Core.Bool.{true, not}
 use mathlib.Core.Logic.{_↔_, _⊎_, inl, inr}
 use mathlib.Core.Path.{_≡_, refl, sym, ap, subst, _∙_}
@@ -18,6 +18,7 @@ use Rattle.rules.specs.declared.Planned.the-variants.{Ordered, NoOrder}
 use Rattle.rules.specs.declared.Planning.{Planning}
 use Rattle.rules.specs.Calls.{lastClock, Call, one, forward, Said, tellOne, tellForward, tell, tellAll, supplyFrom, supplyAt}
 use Rattle.rules.specs.Choice.{choice, word, padded, planOf}
+use Rattle.ceiling.specs.Ceiling.{trialCount, planWithin}
 use Rattle.rules.specs.Correct.{earliest, Window, WindowTo}
 use Rattle.proposal.specs.Days.{Act, InHand, begun, tellAct, tellDay, runCalls, justRuns}
 use Rattle.rules.specs.Lists.{all, least}
@@ -125,6 +126,13 @@ pub record Waited (t : Table) (o : List ℕ) (σ : ℕ → ℕ) (r : Run) : Type
   pub done : (i : ℕ) → 1 ≤ i → i ≤ t .n → (at (t .follows) i ≡ 0 → ⊥) → (at (t .level) i ≡ 0 → ⊥) → 1 ≤ at (r .used) i
       → at (r .got) (at (t .follows) i) ≡ at (t .work) (at (t .follows) i)
 
+-- A planning at a ceiling that answers as one without.
+pub record AtCeiling (t : Table) (c : ℕ) : Type 0 where
+  pub number : plannedNumber (planWithin c t .planning .answer) ≡ plannedNumber (planOf t .answer)
+  pub order : planWithin c t .planning .order ≡ planOf t .order
+  pub left : rowsLeft (planWithin c t .planning .answer) ≡ rowsLeft (planOf t .answer)
+  pub trials : planWithin c t .trials ≡ trialCount t
+
 -- What a caller gets of one accepted table and one list of calls.
 pub record Plain (t : Table) (cs : List Call) : Type 0 where
   -- the planner's number is 0 or 7
@@ -134,6 +142,10 @@ pub record Plain (t : Table) (cs : List Call) : Type 0 where
   -- what comes with either number
   pub order : plannedNumber (planOf t .answer) ≡ 0 → WithZero t
   pub seven : plannedNumber (planOf t .answer) ≡ 7 → WithSeven t
+  -- at every ceiling that is not below the count of trials number, order, rows left and so all of the above are the same, and the trials are the count; at
+  -- n × (n + 1) / 2 it is so for every table (rule 23.10)
+  pub ceilings : (c : ℕ) → trialCount t ≤ c → AtCeiling t c
+  pub enough : AtCeiling t (t .n * (t .n + 1) / 2)
   -- for every order of the table: its fresh record, and what the run calls made from there on answer, leave and keep
   pub started : (o : List ℕ) → isOrder t o ≡ true → Started t o
   pub answers : (o : List ℕ) → isOrder t o ≡ true → Answers (length cs) (tellAll t o cs fresh .said) (makeAll cs (freshOf t o .run) .said)
@@ -378,6 +390,10 @@ first-record t acts c o e =
     let f = c .started o e in
     record { check = rw f; table = rw f; order = rw f; clock = rw f; got = rw f; used = rw f; closing = rw f }
 
+-- The planner at a ceiling that is not below the count.
+at-ceiling : (t : Table) (acts : List Act) → Claim t acts → (c : ℕ) → trialCount t ≤ c → AtCeiling t c
+at-ceiling t acts claim c h = let e = claim .ceiling c h in record { number = rw e; order = rw e; left = rw e; trials = rw e }
+
 -- Demand 3 in plain terms, of every accepted table and every list of run calls.
 pub concluded : Demand3 → (t : Table) → Accepted t → (cs : List Call) → Plain t cs
 unfolding fresh
@@ -391,6 +407,8 @@ concluded demand t accepted cs =
       zero = zero-serves t acts c;
       order = λ z. by-left t acts c (λ e. planned t acts c e) (λ x l e. absurd (omega (arith, number-some t acts c x l e)));
       seven = λ z. by-left t acts c (λ e. absurd (omega (arith, number-none t acts c e))) (λ x l e. unplanned t acts c x l e);
+      ceilings = at-ceiling t acts c;
+      enough = at-ceiling t acts c (t .n * (t .n + 1) / 2) (c .enough);
       started = first-record t acts c;
       answers = λ o e. answered (length cs) (tellAll t o cs (startAt 0) .said) (end o .said) (right o e .said) (told-many t o cs (startAt 0)) (right o e .no-nine);
       zero-or-eight = λ o e k. subst (λ (l : List Said). ZeroOrEight (getD (map (λ (s : Said). s .number) l) k 0)) (sym (right o e .said)) (told-number t o cs (startAt 0) k);
