@@ -551,12 +551,17 @@ static void put_waits_matter(FILE *to, const jb_table *table) {
     }
 }
 
-/* Says that no correct order exists, which rows are left, whether waits are the reason, and what was not looked for. */
+/*
+ * Says that no correct order exists, which rows are left, whether waits are the reason, and what was not looked for. Waits are planned without for
+ * that; where no table is handed over, as after planning at a ceiling, nothing is said of them.
+ */
 static void explain_no_order(FILE *to, const jb_table *table, uint64_t left) {
     put_words(to, JB_NO_ORDER);
     fputs("rows left:", to);
     put_rows_left(to, left);
-    put_waits_matter(to, table);
+    if (table != NULL) {
+        put_waits_matter(to, table);
+    }
     put_remedy(to, JB_NO_ORDER);
     fputs("not looked for: orders that would serve only because runs drop LO rows at their deadlines\n", to);
 }
@@ -1010,10 +1015,12 @@ static void explain_counted(FILE *to, const request *asked, const counted_plan *
         explain_ceiling(to, made, asked->ceiling);
         return;
     }
-    explain_number(to, made->number, sheet, made->left);
     if (made->number == JB_NO_ORDER) {
+        explain_no_order(to, NULL, made->left);
         put_trials(to, made->trials, asked->ceiling);
+        return;
     }
+    explain_number(to, made->number, sheet, made->left);
 }
 
 /* Plans at the ceiling that was given, and tells the trials that were made; in the plain form as a third field of the first line. */
@@ -2180,11 +2187,14 @@ static const char PLAN_HELP[] =
     "finishes late rows go on. So where the answer is 7, an order may still serve, only\n"
     "because late LO rows are dropped; such orders are not looked for. A row that follows\n"
     "another stands below it, and orders in which it does not are not looked for either:\n"
-    "beside a 7 it is said whether there is a correct order without such waits.\n"
+    "beside a 7 it is said whether there is a correct order without such waits, but not\n"
+    "with --ceiling: it takes trials of its own to find out.\n"
     "\n"
     "--ceiling: no more than TRIALS trials are made, 0 to 4294967295, and it is told how\n"
-    "many were. A trial is counted for each row that is tried at a place; places are\n"
-    "filled from the lowest up, and at each rows are tried until one passes. If the sheet\n"
+    "many were; if it is given more than once, the last one counts. A trial is counted for\n"
+    "each row that is tried at a place; places are filled from the lowest up, and at each\n"
+    "rows are tried until one passes. A row that another one without a place follows is\n"
+    "skipped there and counts none. If the sheet\n"
     "takes more trials, the answer is 19: it says neither that a correct order exists nor\n"
     "that none does. A sheet of n rows takes at most n * (n + 1) / 2 trials, 2,080 trials\n"
     "with 64 rows: at that ceiling the answer is never 19, and an answer of 0 or 7 is the\n"

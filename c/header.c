@@ -875,7 +875,7 @@ static void look_at_ceilings(void) {
 /* A table that the checks refuse takes no trial, whatever the ceiling: one of 0 rows, and one whose release is its deadline (rule 13.17). */
 static void look_at_refused_ceilings(void) {
     const uint8_t zeros[JB_ROWS] = {0};
-    const jb_row row = {1, 1, 1, JB_HI, 0, 0};
+    const jb_row row = {4, 1, 4, JB_LO, 0, 0};
     const jb_table late = table_of_rows(1, 1, &row, 1);
     const jb_table none = table_of_rows(1, 1, &row, 0);
     const uint32_t ceilings[] = {0, 6};

@@ -1,5 +1,5 @@
 #!/usr/bin/env python3
-"""A trial divides nothing, and a planning works out each need once, before its trials: looks through the source, from the loops that try
+"""A trial divides nothing, a planning works out each need once, before its trials, and stops at its ceiling: looks through the source, from the loops that try
 the rows of a place, from the loop that fills the places and from the whole planning down through every crate that they call.
 
     trials.py              looks through crates/*/src, and lists the ways of calls from planning to needs
@@ -15,6 +15,8 @@ in what `use` brings, and that of a method to all in every crate. So more is loo
   - the loop of TRIAL calls nothing; LOW is called outside of the loops of PLACES, TRIAL outside of those of PLACES and LOW, PART outside of
     those of LOW, or SWEEP outside of TRIAL; or one of these is not called in each of the places named; or PART does not call MOMENT;
   - PLAN does not come to PLACES;
+  - in PLACES the entries that are searched are not cut once for each place to the trials that the ceiling has left, a search there is handed
+    others, or WITHIN hands PLACES another ceiling than its own;
   - PLAN comes to NEED in a function that is not among ASKING, or in one of these for another column than it is for; or for one of these
     columns by no way of calls or by more than one; or around the calls of such a way there is no loop, or another besides the one over the
     rows; or what PLAN comes to calls itself: then ways have no end;
@@ -44,6 +46,11 @@ LOW = "periods::first_low"
 PART = "periods::part_in_time"
 PLACES = "planner::choose"
 PLAN = "planner::plan"
+# Planning at a ceiling, and how its places are cut to the trials left: what is searched there is a part of this word.
+WITHIN = "planner::plan_within"
+CUT = re.compile(r"\blet allowed = trials::first_entries\(tries, ceiling - made\);")
+SEARCHED = re.compile(r"allowed & w\.\w+")
+SET = re.compile(r"\b(?:let\s+(?:mut\s+)?)?(?:allowed|ceiling)\s*(?:[-+*/%&|^]|<<|>>)?=(?!=)")
 # The passes over the rows left that find finishes and a promised moment, and the need of a job.
 SWEEP = "periods::renew"
 MOMENT = "sweep::part_finish"
@@ -154,14 +161,18 @@ def handed(way):
     """What the last but one call of a way hands over to the function that calls the need."""
     if len(way) < 2:
         return []
-    part, at = way[-2]
-    start = part.code.index("(", at)
-    return [value.strip() for value in part.code[start + 1 : after_group(part.code, start) - 1].split(",")]
+    return arguments(*way[-2])
 
 
 def asking(way):
     """Which of ASKING a way comes to, if any."""
     return [(name, column) for name, column in ASKING if way[-1][0].name == name and column in handed(way)]
+
+
+def arguments(part, at):
+    """What a call hands over."""
+    start = part.code.index("(", at)
+    return [value.strip() for value in part.code[start + 1 : after_group(part.code, start) - 1].split(",")]
 
 
 class Trials:
@@ -193,11 +204,12 @@ class Trials:
         return found[0] if len(found) == 1 else None
 
     def check(self):
-        named = {name: self.named(name) for name in (TRIAL, LOW, PART, PLACES, PLAN, SWEEP, MOMENT, NEED)}
+        named = {name: self.named(name) for name in (TRIAL, LOW, PART, PLACES, WITHIN, PLAN, SWEEP, MOMENT, NEED)}
         if None not in named.values():
             self.check_starts(named)
             self.check_trials([named[TRIAL], named[LOW], named[PART], *named[PLACES].loops()])
             self.check_planning(named[PLAN], named[PLACES])
+            self.check_stopping(named)
             self.check_needs(named[PLAN])
         return self.faults
 
@@ -253,6 +265,23 @@ class Trials:
                     self.fault(part.where(at), f"planning uses {name}, which cannot be followed: {chain}")
         if places not in followed:
             self.fault(plan.where(plan.start), f"{PLAN} does not come to {PLACES}")
+
+    def check_stopping(self, named):
+        """No search of a place goes over more entries than the ceiling has trials left (rule 23.6)."""
+        places, within = named[PLACES], named[WITHIN]
+        cuts = [cut for loop in places.loops() for cut in loop.found(CUT)]
+        if len(cuts) != 1:
+            self.fault(places.where(places.start), f"{PLACES} cuts the entries of a place {len(cuts)} times, not once")
+        for mark in places.found(SET):
+            if not any(cut.start() <= mark.start() < cut.end() for cut in cuts):
+                self.fault(places.where(mark.start()), f"{PLACES} sets what it has of the ceiling: {mark.group()}")
+        for called in (named[LOW], named[TRIAL]):
+            for at in self.calls(places, called):
+                if not any(SEARCHED.fullmatch(value) for value in arguments(places, at)) or any(at < cut.start() for cut in cuts):
+                    self.fault(places.where(at), f"{PLACES} searches by {called.name} more than the ceiling allows")
+        handed_over = [arguments(within, at) for at in self.calls(within, places)]
+        if [each[-1:] for each in handed_over] != [["ceiling"]] or any(within.found(SET)):
+            self.fault(within.where(within.start), f"{WITHIN} hands {PLACES} another ceiling than its own")
 
     def check_needs(self, plan):
         """One way of calls leads to each place where planning works out needs, and one loop is on it."""
@@ -339,7 +368,7 @@ class Trials:
 # ---- self-test
 
 # What a planning works out before its trials.
-PREPARE = "planner::prepare"
+PREPARE = "trials::prepare"
 
 
 def changed(name, change):
@@ -364,6 +393,11 @@ def becomes(name, body):
 def with_clause(name, clause):
     """One more clause of a function's contract."""
     return changed(name, lambda before, body, after: f"{before}{clause}\n{body}{after}")
+
+
+def instead(name, old, new):
+    """Other code for the first of a piece of a function."""
+    return changed(name, lambda before, body, after: before + body.replace(old, new, 1) + after)
 
 
 def looped(name, code):
@@ -459,7 +493,7 @@ def edits():
          f"2 ways, not one, lead from {PLAN} to {NEED} in {parts}"),
         ("needs of another column", [first(PREPARE, "let a = sweep::needs(t.n, t.loading, &t.deadline, t.normal);")],
          f"{rows} works out needs of a planning besides {works}, {parts}, {highs}: {PLAN}"),
-        ("a preparation twice", [first(PLACES, "let a = prepare(t);")], f"2 ways, not one, lead from {PLAN} to {NEED} in {highs}"),
+        ("a preparation twice", [first(PLACES, f"let a = {PREPARE}(t);")], f"2 ways, not one, lead from {PLAN} to {NEED} in {highs}"),
         ("a row's need twice", [looped(rows, "checks::need(0, 1, 1);")], f"2 ways, not one, lead from {PLAN} to {NEED} in {works}"),
         ("a HI row's need twice", [first(high, "checks::need(0, 1, 1);")], f"2 ways, not one, lead from {PLAN} to {NEED} in {highs}"),
         ("a need in the preparation", [first(PREPARE, "checks::need(0, 1, 1);")],
@@ -467,8 +501,15 @@ def edits():
         ("needs of works in a loop", [becomes(PREPARE, "{ while true { sweep::needs(1, 0, &t.work, 1); } sweep::degraded_caps(1) }")],
          f"2 loops, not one, are around a need: {PLAN} .. {rows}"),
         ("a need of one row", [becomes(rows, "{ checks::need(0, 1, 1) }")], f"0 loops, not one, are around a need: {PLAN} .. {rows}"),
-        ("a planning that calls itself", [first(PREPARE, "plan(t);")], f"planning comes back to {PLAN}: {PLAN} .. {PREPARE}"),
+        ("a planning that calls itself", [first(PREPARE, f"{PLAN}(t);")], f"planning comes back to {PLAN}: {PLAN} .. {PREPARE}"),
         ("a sweep without a body", [becomes(SWEEP, ";")], f"{SWEEP} has no body: {PLAN}"),
+        ("all LO entries searched", [instead(PLACES, "allowed & w.low", "tries & w.low")], f"searches by {LOW} more than the ceiling allows"),
+        ("all HI entries searched", [instead(PLACES, "allowed & w.high", "tries & w.high")], f"searches by {TRIAL} more than the ceiling allows"),
+        ("a ceiling for each place", [instead(PLACES, "ceiling - made", "ceiling - 0")], f"{PLACES} cuts the entries of a place 0 times"),
+        ("entries allowed again", [instead(PLACES, "let low =", "let allowed = tries; let low =")], f"{PLACES} sets what it has of the ceiling"),
+        ("a ceiling that grows", [looped(PLACES, "ceiling += 1;")], f"{PLACES} sets what it has of the ceiling"),
+        ("all trials made first", [instead(WITHIN, "choose(t, ceiling)", "choose(t, most_trials(t.n))")], f"{WITHIN} hands {PLACES} another ceiling"),
+        ("a ceiling raised before", [first(WITHIN, "let ceiling = ceiling | 4095;")], f"{WITHIN} hands {PLACES} another ceiling"),
         ("a preparation without a body", [becomes(PREPARE, ";")], f"{PREPARE} has no body: {PLAN}"),
         ("a contract of another kind", [with_clause(SWEEP, "keeps { 0 }")], f"where {SWEEP} ends is not understood"),
         ("a comment in a contract", [with_clause(SWEEP, "ensures { 0 -- {\n }")], f"crates/{crate}/src/lib.rt .. '--' is not read here"),
@@ -528,6 +569,7 @@ def main():
     if not faults:
         names = sorted({part.name for part in trials.reached})
         print(f"trials: no division, no need and nothing unknown in {', '.join(names)}")
+        print(f"trials: {PLACES} searches no more entries of a place than the ceiling has trials left")
         print(f"trials: {len(trials.needs)} ways of calls lead from {PLAN} to a need, one for each figure whose need it is")
         for way in trials.needs:
             print(f"  {shown(way)}")

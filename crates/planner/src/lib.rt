@@ -1,4 +1,5 @@
-// The planner's choice (section 4 of the rules): an order for a table, its lowest place first, or the rows left where none exists.
+// The planner's choice (sections 4 and 23 of the rules): an order for a table, its lowest place first, or the rows left where none exists, with no more
+// trials than a ceiling allows.
 // The first row is row 1; the rows left are a word in which row i is bit i - 1 (rule 4.8). Entries of the trial sequence and places of the queue
 // count from 0 where they are stored and as bits of a word, and from 1 where they are handed to functions on words.
 ghost use mathlib.Core.Path.{_≡_};

@@ -1,4 +1,4 @@
--- How many entries of a word stand below a place, and the first entries of a word, no more than a ceiling has left (rule 23.6).
+-- How many entries of a word stand below one, and the first entries of a word, no more than a ceiling has left (rule 23.6).
 use Prim.Native.Nat.{ℕ, zero, suc, _+_, _-_, _/_, _%_, _^_, _≤_, _<_}
 use mathlib.Core.Bool.{Bool, cond}
 use mathlib.Core.List.{List, [], _∷_}

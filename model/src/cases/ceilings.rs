@@ -43,6 +43,11 @@ fn skipped_first() -> Table {
     from_zero(&[[1, 9, 0, 0], [1, 5, 0, 1]])
 }
 
+/// Row 3 is tried first and is late below row 1, row 2 is skipped, and row 1 takes the place.
+fn skipped_between() -> Table {
+    from_zero(&[[1, 5, 1, 0], [1, 1, 0, 0], [1, 2, 0, 2]])
+}
+
 /// Row 2 follows row 1 and is late below it.
 fn stuck_by_a_skip() -> Table {
     from_zero(&[[2, 2, 1, 0], [2, 3, 1, 1]])
@@ -109,7 +114,8 @@ fn ceilings_of_the_rule() -> Vec<CeilingCase> {
     let of_p1 = counted(ordered(&[1, 2, 3, 4]), 6);
     let first_above = |trials| counted(ordered(&[1, 2]), trials);
     let alone = from_zero(&[[1, 1, 1, 0]]);
-    let (no_rows, no_time) = (from_zero(&[]), from_zero(&[[1, 0, 0, 0]]));
+    let no_rows = from_zero(&[]);
+    let no_time = Table::of(1, 1, 0, &[row([4, 1, 4, 0])]);
     vec![
         at("P1 at its count", p1(), 6, of_p1),
         at("P1, a trial to spare", p1(), 7, of_p1),
@@ -125,6 +131,13 @@ fn ceilings_of_the_rule() -> Vec<CeilingCase> {
             first_above(2),
         ),
         at("a skip and a trial too few", skipped_first(), 1, over(1)),
+        at(
+            "a row is skipped between two that are tried",
+            skipped_between(),
+            4,
+            counted(ordered(&[2, 3, 1]), 4),
+        ),
+        at("the same, a trial too few", skipped_between(), 3, over(3)),
         at(
             "stuck, and a row is skipped",
             stuck_by_a_skip(),
