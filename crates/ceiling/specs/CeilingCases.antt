@@ -1,7 +1,7 @@
 -- Plans at ceilings (rule 13.17): one table of cases, computed from the definitions and checked by one theorem. Each of the faults 14.45 to 14.49 meets
 -- one here.
 use Prim.Native.Nat.{ℕ}
-use mathlib.Core.Bool.{Bool, true, false, _&&_}
+use mathlib.Core.Bool.{Bool, true, _&&_}
 use mathlib.Core.List.{List, [], _∷_, _++_}
 use lib.Dec.{T, eqb, lit≤}
 use mathlib.Core.Path.{_≡_, refl}

@@ -20,15 +20,15 @@ use Rattle.rules.specs.Rows.{rowsOf}
 use Rattle.rules.specs.Tables.{Accepted}
 use Rattle.rules.specs.Choice.{sequence, unfollowed, tried, passes, taker, fill, choice, padded, planFrom}
 use Rattle.theory.specs.Tests.{by-eqb}
-use Rattle.theory.specs.Counts.{In, Once, in-head, in-tail, first-in, same-size}
-use Rattle.theory.specs.Facts.{Row, TableFacts, facts, rows-in, count-zero}
+use Rattle.theory.specs.Counts.{In, in-head, in-tail, first-in, same-size}
+use Rattle.theory.specs.Facts.{Row, TableFacts, facts, rows-in}
 use Rattle.theory.specs.Waits.{Closed, rows-closed}
-use Rattle.theory.specs.Places.{rows-once, length-rows}
+use Rattle.theory.specs.Places.{length-rows}
 use Rattle.theory.specs.Choosing.{same-sequence, lowest-stands, keep-in}
 use Rattle.sweep.specs.Masks.{bit, isLeft, cleared-ones}
 use Rattle.sweep.specs.Holds.{Holds, count-keep-le, holds-start, holds-without, holds-once, holds-row, holds-in, keep-without}
 use Rattle.sweep.specs.Padded.{zeros, padded-zeros}
-use Rattle.trials.specs.Prepared.{leftOf}
+use Rattle.trials.specs.Prepared.{leftOf, sequence-once, sequence-zero}
 
 -- the rows placed so far, highest first, where the places above, as many as `place` says, are open
 abbrev pub placedBelow : Table → List ℕ → ℕ → List ℕ
@@ -89,12 +89,6 @@ placed-more t order k row e h few =
 module _ (t : Table) (accepted : Accepted t) where
   f : TableFacts t
   f = facts t accepted
-
-  sequence-once : Once (sequence t)
-  sequence-once x = omega (arith, same-sequence t x, rows-once (t .n) x)
-
-  sequence-zero : count 0 (sequence t) ≡ 0
-  sequence-zero = omega (arith, same-sequence t 0, count-zero (t .n))
 
   -- at first all rows are left, and no place is filled
   pub placing-start : (order : List ℕ) (left place : ℕ) → order ≡ zeros 64 → left ≡ 2 ^ t .n - 1 → place ≡ ones left → Placing t order left place
@@ -197,7 +191,7 @@ module _ (t : Table) (accepted : Accepted t) where
         taker-bit = p .holds .bits i (taker-range .0) ∙ taker-once
 
         left-less : leftOf t (left - 2 ^ (i - 1)) ≡ erase i (leftOf t left)
-        left-less = keep-without left i (taker-range .0) taker-bit (sequence t) sequence-once sequence-zero
+        left-less = keep-without left i (taker-range .0) taker-bit (sequence t) (sequence-once t) (sequence-zero t)
 
         -- the trials of the place are made
         pub tally-turn : (ceiling made last after less : ℕ) → Tally t ceiling left place made → trialsAt t (leftOf t left) ≡ last → made + last ≤ ceiling

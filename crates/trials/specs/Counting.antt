@@ -12,16 +12,15 @@ use Rattle.rules.specs.Lists.{first, count, keep}
 use Rattle.rules.specs.Tables.{Accepted}
 use Rattle.rules.specs.Choice.{sequence, unfollowed, tried, passes, taker}
 use Rattle.ceiling.specs.Ceiling.{upToFirst, trialsAt}
-use Rattle.theory.specs.Tests.{by-bool, by-eqb, by-ltb, and-both}
+use Rattle.theory.specs.Tests.{by-bool, by-eqb, by-ltb}
 use Rattle.theory.specs.Counts.{In, Once, in-head, in-entry, first-in, first-passes, count-same}
-use Rattle.theory.specs.Facts.{TableFacts, facts, count-zero}
-use Rattle.theory.specs.Places.{rows-once}
+use Rattle.theory.specs.Facts.{TableFacts, facts}
 use Rattle.theory.specs.Waits.{Closed}
 use Rattle.theory.specs.Choosing.{same-sequence, keep-in}
 use Rattle.sweep.specs.Holds.{Holds, count-tail, count-keep-le}
 use Rattle.sweep.specs.Masks.{bit, isLeft}
 use Rattle.trials.specs.Lines.{At, place-of, keep-both}
-use Rattle.trials.specs.Prepared.{atLevel, leftOf, every-length}
+use Rattle.trials.specs.Prepared.{atLevel, leftOf, sequence-once, sequence-zero, every-length}
 use Rattle.trials.specs.Allowed.{below, below-more, below-rises, below-ends, below-all, below-keep, FirstOf, first-below, first-within}
 use Rattle.trials.specs.Taking.{Unplaced, Opened, Taken, tries-bit, tries-end, sequence-entry, Allowed, of-allowed, lowTest, highTest, allowed-low, allowed-high, allowed-none}
 
@@ -84,12 +83,6 @@ module _ (t : Table) (accepted : Accepted t) (left : ℕ) (holds : Holds left (l
   f : TableFacts t
   f = facts t accepted
 
-  sequence-once : Once (sequence t)
-  sequence-once x = omega (arith, same-sequence t x, rows-once (t .n) x)
-
-  sequence-zero : count 0 (sequence t) ≡ 0
-  sequence-zero = omega (arith, same-sequence t 0, count-zero (t .n))
-
   sequence-long : length (sequence t) ≡ t .n
   sequence-long = every-length t f (sequence t) (same-sequence t)
 
@@ -107,7 +100,7 @@ module _ (t : Table) (accepted : Accepted t) (left : ℕ) (holds : Holds left (l
       let p = passes t (leftOf t left) in
       let n = sequence-long in
       ap (upToFirst p) tried-are
-      ∙ up-to-found p live (sequence t) sequence-once sequence-zero k (omega arith) (ap (first p) (sym tried-are) ∙ sym e)
+      ∙ up-to-found p live (sequence t) (sequence-once t) (sequence-zero t) k (omega arith) (ap (first p) (sym tried-are) ∙ sym e)
 
   -- those of a word with the entries that are tried, up to entry k
   entries-below : (v k : ℕ) → k ≤ t .n → ((x : ℕ) → x < k → bit v x ≡ bit tries x) → below v k ≡ length (keep live (take k (sequence t)))
@@ -132,7 +125,7 @@ module _ (t : Table) (accepted : Accepted t) (left : ℕ) (holds : Holds left (l
     trials-stuck e =
         let p = passes t (leftOf t left) in
         ap (upToFirst p) tried-are
-        ∙ up-to-none p (keep live (sequence t)) (omega (arith, count-keep-le live 0 (sequence t), sequence-zero)) (ap (first p) (sym tried-are) ∙ e)
+        ∙ up-to-none p (keep live (sequence t)) (omega (arith, count-keep-le live 0 (sequence t), sequence-zero t)) (ap (first p) (sym tried-are) ∙ e)
         ∙ sym tries-all
 
     module _ (most v : ℕ) (a : FirstOf tries most v) where

@@ -6,15 +6,15 @@ use native.Mathlib.Omega.{arith}
 use lib.Dec.{eqb}
 use lib.ListN.{length, take}
 use Rattle.rules.specs.declared.Table.{Table}
-use Rattle.rules.specs.Lists.{keep}
+use Rattle.rules.specs.Lists.{count, keep}
 use Rattle.rules.specs.Rows.{at, rowsOf}
 use Rattle.rules.specs.Tables.{Accepted}
 use Rattle.rules.specs.Choice.{sequence, padded}
-use Rattle.theory.specs.Counts.{Same, same-size}
+use Rattle.theory.specs.Counts.{Once, Same, same-size}
 use Rattle.theory.specs.Sorting.{sortBy}
 use Rattle.theory.specs.Caps.{cap}
-use Rattle.theory.specs.Facts.{rows-in, TableFacts, facts}
-use Rattle.theory.specs.Places.{length-rows}
+use Rattle.theory.specs.Facts.{rows-in, TableFacts, facts, count-zero}
+use Rattle.theory.specs.Places.{rows-once, length-rows}
 use Rattle.theory.specs.Choosing.{same-sequence}
 use Rattle.sweep.specs.Masks.{isLeft}
 use Rattle.sweep.specs.Padded.{padded-take, padded-at}
@@ -51,6 +51,14 @@ trialsOf t =
       degraded = capsAt t (t .degraded);
       part = partNeeds t;
     }
+
+-- the trial sequence has each row of the table once, and no other number
+
+pub sequence-once : (t : Table) → Once (sequence t)
+sequence-once t x = omega (arith, same-sequence t x, rows-once (t .n) x)
+
+pub sequence-zero : (t : Table) → count 0 (sequence t) ≡ 0
+sequence-zero t = omega (arith, same-sequence t 0, count-zero (t .n))
 
 -- the rows of a table in any order, as sixty-four numbers
 

@@ -1,5 +1,5 @@
 -- For no more than 64 rows nothing overflows.
-use Prim.Native.Nat.{ℕ, min, _+_}
+use Prim.Native.Nat.{min, _+_}
 use mathlib.Core.Logic.{⊎-elim}
 use mathlib.Core.Path.{_≡_, ap}
 use native.Mathlib.Nat.{mul-le-mul}

@@ -1,7 +1,7 @@
 -- The ceiling is not below what an accepted table takes.
-use Prim.Native.Nat.{ℕ, min, _≤_}
+use Prim.Native.Nat.{min, _≤_}
 use borrow.Author.Needs.{needs}
-use mathlib.Core.Path.{_≡_, ap, sym, _∙_}
+use mathlib.Core.Path.{_≡_, ap, _∙_}
 use native.Mathlib.Omega.{arith}
 use Rattle.rules.specs.declared.Table.{Table}
 use Rattle.rules.specs.Tables.{Accepted}
