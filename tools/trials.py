@@ -16,7 +16,8 @@ in what `use` brings, and that of a method to all in every crate. So more is loo
     those of LOW, or SWEEP outside of TRIAL; or one of these is not called in each of the places named; or PART does not call MOMENT;
   - PLAN does not come to PLACES;
   - in PLACES the entries that are searched are not cut once for each place to the trials that the ceiling has left, a search there is handed
-    others, or WITHIN hands PLACES another ceiling than its own;
+    others; WITHIN hands PLACES, or EXPORTED WITHIN, another ceiling than its own, or PLAN hands WITHIN another one than the most trials of the
+    table's rows; or not just one way of calls leads from each of the three to PLACES, so that more is planned than is answered;
   - PLAN comes to NEED in a function that is not among ASKING, or in one of these for another column than it is for; or for one of these
     columns by no way of calls or by more than one; or around the calls of such a way there is no loop, or another besides the one over the
     rows; or what PLAN comes to calls itself: then ways have no end;
@@ -48,6 +49,7 @@ PLACES = "planner::choose"
 PLAN = "planner::plan"
 # Planning at a ceiling, and how its places are cut to the trials left: what is searched there is a part of this word.
 WITHIN = "planner::plan_within"
+EXPORTED = "jb_plan_within"
 CUT = re.compile(r"\blet allowed = trials::first_entries\(tries, ceiling - made\);")
 SEARCHED = re.compile(r"allowed & w\.\w+")
 SET = re.compile(r"\b(?:let\s+(?:mut\s+)?)?(?:allowed|ceiling)\s*(?:[-+*/%&|^]|<<|>>)?=(?!=)")
@@ -204,7 +206,7 @@ class Trials:
         return found[0] if len(found) == 1 else None
 
     def check(self):
-        named = {name: self.named(name) for name in (TRIAL, LOW, PART, PLACES, WITHIN, PLAN, SWEEP, MOMENT, NEED)}
+        named = {name: self.named(name) for name in (TRIAL, LOW, PART, PLACES, WITHIN, EXPORTED, PLAN, SWEEP, MOMENT, NEED)}
         if None not in named.values():
             self.check_starts(named)
             self.check_trials([named[TRIAL], named[LOW], named[PART], *named[PLACES].loops()])
@@ -279,9 +281,13 @@ class Trials:
             for at in self.calls(places, called):
                 if not any(SEARCHED.fullmatch(value) for value in arguments(places, at)) or any(at < cut.start() for cut in cuts):
                     self.fault(places.where(at), f"{PLACES} searches by {called.name} more than the ceiling allows")
-        handed_over = [arguments(within, at) for at in self.calls(within, places)]
-        if [each[-1:] for each in handed_over] != [["ceiling"]] or any(within.found(SET)):
-            self.fault(within.where(within.start), f"{WITHIN} hands {PLACES} another ceiling than its own")
+        for caller, called, ceiling in ((within, places, "ceiling"), (named[EXPORTED], within, "ceiling"), (named[PLAN], within, "most_trials(t.n)")):
+            handed_over = [arguments(caller, at)[-1] for at in self.calls(caller, called)]
+            if handed_over != [ceiling] or any(caller.found(SET)):
+                self.fault(caller.where(caller.start), f"{caller.name} hands {called.name} another ceiling than {ceiling}")
+            ways = [shown(way) for way in self.ways(caller, (caller,), (), PLACES)]
+            if len(ways) != 1:
+                self.fault(caller.where(caller.start), f"{len(ways)} ways, not one, lead from {caller.name} to {PLACES}: {'; '.join(ways)}")
 
     def check_needs(self, plan):
         """One way of calls leads to each place where planning works out needs, and one loop is on it."""
@@ -310,17 +316,17 @@ class Trials:
                     waiting.append(target)
         return chains
 
-    def ways(self, part, entered, before):
-        """Every way of calls to the need, as the functions and places of the calls."""
+    def ways(self, part, entered, before, goal=NEED):
+        """Every way of calls to the need, or to another function, as the functions and places of the calls."""
         for at, _, targets in self.names(part):
             way = (*before, (part, at))
             for target in targets:
-                if target.name == NEED:
+                if target.name == goal:
                     yield way
                 elif target in entered:
                     self.fault(part.where(at), f"planning comes back to {target.name}: {shown(way)}")
                 else:
-                    yield from self.ways(target, (*entered, target), way)
+                    yield from self.ways(target, (*entered, target), way, goal)
 
     def calls(self, part, called):
         """The places in a part where a function may be called."""
@@ -509,6 +515,9 @@ def edits():
         ("entries allowed again", [instead(PLACES, "let low =", "let allowed = tries; let low =")], f"{PLACES} sets what it has of the ceiling"),
         ("a ceiling that grows", [looped(PLACES, "ceiling += 1;")], f"{PLACES} sets what it has of the ceiling"),
         ("all trials made first", [instead(WITHIN, "choose(t, ceiling)", "choose(t, most_trials(t.n))")], f"{WITHIN} hands {PLACES} another ceiling"),
+        ("a whole planning before", [first(EXPORTED, "let whole = planner::plan(t);")], f"2 ways, not one, lead from {EXPORTED} to {PLACES}"),
+        ("all trials for C made first", [instead(EXPORTED, "plan_within(t, ceiling)", "plan_within(t, 2080)")], f"{EXPORTED} hands {WITHIN} another ceiling"),
+        ("another ceiling that is enough", [instead(PLAN, "most_trials(t.n)", "2080")], f"{PLAN} hands {WITHIN} another ceiling"),
         ("a ceiling raised before", [first(WITHIN, "let ceiling = ceiling | 4095;")], f"{WITHIN} hands {PLACES} another ceiling"),
         ("a preparation without a body", [becomes(PREPARE, ";")], f"{PREPARE} has no body: {PLAN}"),
         ("a contract of another kind", [with_clause(SWEEP, "keeps { 0 }")], f"where {SWEEP} ends is not understood"),

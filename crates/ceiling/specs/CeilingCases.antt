@@ -7,7 +7,7 @@ use lib.Dec.{T, eqb, lit≤}
 use mathlib.Core.Path.{_≡_, refl}
 use Rattle.rules.specs.declared.Row.{Row}
 use Rattle.rules.specs.declared.Table.{Table}
-use Rattle.rules.specs.Cases.{job, following}
+use Rattle.rules.specs.Cases.{job, promising, following}
 use Rattle.rules.specs.Correct.{CorrectOrder}
 use Rattle.rules.specs.Choice.{padded, unfollowed, passes, sequence, choice, fill, taker, word}
 use Rattle.rules.specs.Judge.{tableOf}
@@ -85,12 +85,21 @@ crowd = job 0 2 2 1 ∷ job 0 2 2 1 ∷ job 0 2 2 1 ∷ []
 abbrev busiest : Table
 busiest = steady (job 0 2 2 0 ∷ job 0 1 3 1 ∷ [])
 
+-- a LO row that is in time and fails for its promised part alone, which counts as a trial of any other row does; jobs load in one slot
+abbrev promisedTried : Table
+promisedTried = tableOf (promising 0 2 5 0 2 ∷ job 0 2 9 1 ∷ []) 2 1 1
+
+-- a LO and a HI row with slots for one
+abbrev bothLate : Table
+bothLate = steady (job 0 2 2 0 ∷ job 0 2 2 1 ∷ [])
+
 abbrev orders : List Case
 orders =
     made first 6 (1 ∷ 2 ∷ 3 ∷ 4 ∷ []) 6
     ∷ made first 7 (1 ∷ 2 ∷ 3 ∷ 4 ∷ []) 6
     ∷ made first (mostTrials 4) (1 ∷ 2 ∷ 3 ∷ 4 ∷ []) 6
     ∷ made first 4294967295 (1 ∷ 2 ∷ 3 ∷ 4 ∷ []) 6
+    ∷ made first 4294901760 (1 ∷ 2 ∷ 3 ∷ 4 ∷ []) 6
     ∷ over first 5
     ∷ over first 1
     ∷ over first 0
@@ -102,6 +111,8 @@ orders =
     ∷ over (steady (job 0 1 1 1 ∷ [])) 0
     ∷ made busiest (mostTrials 2) (1 ∷ 2 ∷ []) 3
     ∷ over busiest 2
+    ∷ made promisedTried 3 (1 ∷ 2 ∷ []) 3
+    ∷ over promisedTried 2
     ∷ []
 
 -- 7 at a place after the first, at the first, and with a row skipped; 19 in place of each; and tables refused, whatever the ceiling
@@ -111,7 +122,10 @@ others =
     ∷ over (steady (job 0 1 9 0 ∷ crowd)) 3
     ∷ over (steady (job 0 1 9 0 ∷ crowd)) 1
     ∷ stuck (steady crowd) 3 7 3
+    ∷ stuck (steady crowd) 5 7 3
     ∷ over (steady crowd) 2
+    ∷ stuck bothLate 2 3 2
+    ∷ over bothLate 1
     ∷ stuck skippedAndStuck 1 3 1
     ∷ over skippedAndStuck 0
     ∷ refused (steady []) 0 3
@@ -123,6 +137,10 @@ others =
 pub ceiling-cases-hold : T (allHold (orders ++ others))
 unfolding planWithin trialCount trialsFrom trialsAt padded unfollowed passes sequence choice fill taker word tableOf workSlots refusalNumber plannedNumber rowsLeft horizon worstFinish promisedMoment slack meets fresh isPending isWaiting isReady chosen isOver brought serve slot rowOk tailOk promiseOk checkWait checkTable
 ceiling-cases-hold = tt
+
+-- the most trials, in figures (rule 23.3)
+pub most-is : T (eqb (mostTrials 64) 2080 && eqb (mostTrials 2) 3 && eqb (mostTrials 1) 1)
+most-is = tt
 
 -- Two tables answered 19: P1 at 5, which has a correct order, and three rows with slots for one at 2, which have none (rule 23.11).
 pub record EitherWay : Type 0 where

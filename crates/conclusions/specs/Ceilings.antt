@@ -1,7 +1,8 @@
 -- What a planner at a ceiling may conclude, from what it answers without one.
 use Prim.Native.Nat.{ℕ, _≤_, _<_}
 use mathlib.Core.Logic.{⊎-elim}
-use mathlib.Core.Path.{_≡_, refl, ap, _∙_}
+use mathlib.Core.Path.{_≡_, refl, sym, ap, _∙_}
+use mathlib.Core.List.{List}
 use native.Mathlib.Omega.{arith}
 use Rattle.rules.specs.declared.Table.{Table}
 use Rattle.rules.specs.declared.Check.{Check}
@@ -12,7 +13,7 @@ use Rattle.rules.specs.Tables.{checkTable, Accepted}
 use Rattle.ceiling.specs.declared.Counted.{Counted}
 use Rattle.ceiling.specs.Ceiling.{trialCount, overCeiling, planWithin}
 use Rattle.ceiling.specs.Bounds.{by-accepted, count-most, within-count, over-count, refused-count}
-use Rattle.theory.specs.Tests.{by-ltb}
+use Rattle.theory.specs.Tests.{by-eqb, by-ltb}
 use Rattle.conclusions.specs.Conclusions.{PlannerWithin}
 use Rattle.conclusions.specs.Planned.{planned}
 use Rattle.conclusions.specs.Refusals.{table-says}
@@ -86,3 +87,13 @@ module _ (t : Table) where
         (λ _ h. rw (over-count t a c h) (over-told a h))
         (λ _ h. rw (within-count t a c h) (within-told a h)))
         (λ n. rw (refused-count t n c) (refused-told n))
+
+-- whatever meets the conclusion is what the archive answers
+pub within-exact : (t : Table) (c number : ℕ) (order : List ℕ) (left trials : ℕ) → PlannerWithin t c number order left trials
+    → (number ≡ plannedNumber (planWithin c t .planning .answer)) × (order ≡ planWithin c t .planning .order)
+    × (left ≡ rowsLeft (planWithin c t .planning .answer)) × (trials ≡ planWithin c t .trials)
+unfolding plannedNumber rowsLeft refusalNumber
+within-exact t c number order left trials s =
+    by-eqb number 19
+    (λ _ e. let g = s .nineteen .0 e in rw (over-count t (g .0) c (g .1)) (e, s .over e .0, s .over e .1, s .over e .2))
+    (λ _ n. let a = s .again n c (omega arith) in (sym (a .0), sym (a .1), sym (a .2), sym (a .3)))

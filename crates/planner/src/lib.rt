@@ -99,9 +99,10 @@ fn choose(t: Table, ceiling: u32) -> Counted
                 order: empty,
             };
             let last = sweep::how_many(allowed);
+            let total = made + last;
             return Counted {
                 planning: stuck,
-                trials: made + last,
+                trials: total,
             };
         }
         let tried = allowed & sweep::first_rows(entry as u32);

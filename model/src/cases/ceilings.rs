@@ -58,7 +58,19 @@ pub fn crowded() -> Table {
     from_zero(&[[2, 2, 1, 0]; 3])
 }
 
-/// The same with a LO row before them that has time for all, and so takes the lowest place.
+/// A LO and a HI row of which each has time for itself alone.
+fn late() -> Table {
+    from_zero(&[[2, 2, 0, 0], [2, 2, 1, 0]])
+}
+
+/// Row 1 is in time below row 2, and its promised part is late there. Jobs load in one slot.
+fn late_part() -> Table {
+    let rows = [row([0, 2, 5, 0, 2]), row([0, 2, 9, 1])];
+    Table::of(2, 1, 1, &rows)
+}
+
+/// The three HI rows with a LO row before them that has time for all, and so takes the lowest
+/// place.
 fn crowded_above_one() -> Table {
     let high = [2, 2, 1, 0];
     from_zero(&[[1, 9, 0, 0], high, high, high])
@@ -121,6 +133,7 @@ fn ceilings_of_the_rule() -> Vec<CeilingCase> {
         at("P1, a trial to spare", p1(), 7, of_p1),
         at("P1 at 4 × 5 / 2", p1(), 10, of_p1),
         at("P1 at the highest ceiling", p1(), u32::MAX, of_p1),
+        at("P1 at a ceiling of high bits", p1(), 0xffff_0000, of_p1),
         at("P1, a trial too few", p1(), 5, over(5)),
         at("P1, one trial", p1(), 1, over(1)),
         at("P1, no trial", p1(), 0, over(0)),
@@ -154,7 +167,22 @@ fn ceilings_of_the_rule() -> Vec<CeilingCase> {
         at("all but the last trial", crowded_above_one(), 3, over(3)),
         at("the trial of one place", crowded_above_one(), 1, over(1)),
         at("stuck at once", crowded(), 3, counted(no_order(0b111), 3)),
+        at(
+            "two trials to spare",
+            crowded(),
+            5,
+            counted(no_order(0b111), 3),
+        ),
         at("a trial too few to be stuck", crowded(), 2, over(2)),
+        at(
+            "a row of each level is late",
+            late(),
+            2,
+            counted(no_order(0b11), 2),
+        ),
+        at("one of the two is not tried", late(), 1, over(1)),
+        at("a promised part is late", late_part(), 3, first_above(3)),
+        at("the same part, a trial too few", late_part(), 2, over(2)),
         at("a row alone", alone, 1, counted(ordered(&[1]), 1)),
         at("a row alone, no trial", alone, 0, over(0)),
         at("the most of two rows", most_of_two(), 3, first_above(3)),

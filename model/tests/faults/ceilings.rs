@@ -306,12 +306,12 @@ const MORE: &[Faulty] = &[
     Faulty {
         name: "the last sixteen bits of the ceiling alone",
         plan_within: |table, ceiling| plan_within(table, ceiling & 0xffff),
-        told_by: "P1 at 65,536",
+        told_by: "P1 at a ceiling of high bits",
     },
     Faulty {
         name: "the last byte of the ceiling alone",
         plan_within: |table, ceiling| plan_within(table, ceiling & 0xff),
-        told_by: "P1 at 256",
+        told_by: "P1 at a ceiling of high bits",
     },
 ];
 

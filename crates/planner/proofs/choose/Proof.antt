@@ -210,8 +210,8 @@ returns c =
 how-many-requires-2 : tie.Need-how-many-requires-2 Inv-loop μ-loop
 how-many-requires-2 c κs = search needs
 
-add-t60 : tie.Need-add-t60 Inv-loop μ-loop
-add-t60 c =
+add-total : tie.Need-add-total Inv-loop μ-loop
+add-total c =
     let j = c .before .before .before in
     omega (
       arith,
@@ -445,7 +445,7 @@ choose-spec =
     refused-requires
     returns
     how-many-requires-2
-    add-t60
+    add-total
     returns-2
     first-rows-requires-2
     how-many-requires-3
