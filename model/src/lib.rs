@@ -12,26 +12,27 @@
 //! closing slots are in slots; work and promised parts are in work units; speeds and
 //! supplies are in work units per slot. Rows and places count from 1; row 0 means "no row".
 //!
-//! | module     | states                                                       |
-//! |------------|--------------------------------------------------------------|
-//! | `table`    | rows, tables, need, allowance, checks 3, 4, 11, 5, 12 to 15  |
-//! | `order`    | orders by value, check 6, every arrangement of some rows     |
-//! | `run`      | the state of a run, the step by either rule, kept deadlines  |
-//! | `calls`    | the two run calls on paper, with number 8                    |
-//! | `record`   | the run record, check 9, one slot and forward on a record    |
-//! | `plan`     | worst finish, promised moment, slack, choice at a ceiling    |
-//! | `judge`    | the judge of orders                                          |
-//! | `proposal` | asking, committing, and days of run calls and commits        |
-//! | `speeds`   | the least workable speeds, by a scan over all of the range   |
-//! | `sheet`    | the sheet's fields, its reader and its writer                |
-//! | `place`    | where a refused sheet is at fault                            |
-//! | `report`   | the report: its figures, lines and totals                    |
-//! | `program`  | the planning program from input bytes to output bytes        |
-//! | `cases`    | cases worked out by hand, P1 to P4 among them                |
-//! | `before`   | answers from before loading times, promises and waits        |
-//! | `random`   | a fixed-seed generator of numbers, tables, proposals, days   |
-//! | `plain`    | the same answers by sweeps, for large tables and measures    |
-//! | `planners` | planning with a sweep for each trial, and for each place     |
+//! | module      | states                                                       |
+//! |-------------|--------------------------------------------------------------|
+//! | `table`     | rows, tables, need, allowance, checks 3, 4, 11, 5, 12 to 15  |
+//! | `order`     | orders by value, check 6, every arrangement of some rows     |
+//! | `run`       | the state of a run, the step by either rule, kept deadlines  |
+//! | `calls`     | the two run calls on paper, with number 8                    |
+//! | `record`    | the run record, check 9, one slot and forward on a record    |
+//! | `plan`      | worst finish, promised moment, slack, choice at a ceiling    |
+//! | `judge`     | the judge of orders                                          |
+//! | `proposal`  | asking, committing, and days of run calls and commits        |
+//! | `speeds`    | the least workable speeds, by a scan over all of the range   |
+//! | `sheet`     | the sheet's fields, its reader and its writer                |
+//! | `place`     | where a refused sheet is at fault                            |
+//! | `report`    | the report: its figures, lines and totals                    |
+//! | `sentences` | answers as English lines, their composer and their reader    |
+//! | `program`   | the planning program from input bytes to output bytes        |
+//! | `cases`     | cases worked out by hand, P1 to P4 among them                |
+//! | `before`    | answers from before loading times, promises and waits        |
+//! | `random`    | a fixed-seed generator of numbers, tables, days, answers     |
+//! | `plain`     | the same answers by sweeps, for large tables and measures    |
+//! | `planners`  | planning with a sweep for each trial, and for each place     |
 
 pub mod before;
 pub mod calls;
@@ -48,6 +49,7 @@ pub mod random;
 pub mod record;
 pub mod report;
 pub mod run;
+pub mod sentences;
 pub mod sheet;
 pub mod speeds;
 pub mod table;

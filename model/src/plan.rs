@@ -140,13 +140,19 @@ impl Plan {
 
     /// How many rows are left: the set bits of the word (rule 4.9).
     pub fn rows_left(&self) -> u32 {
-        (0..64).filter(|&bit| (self.left >> bit) % 2 == 1).count() as u32
+        rows_in_word(self.left).len() as u32
     }
 }
 
 /// The word that stands for these rows (rule 4.8).
 pub fn word_of(rows: &[u8]) -> u64 {
     rows.iter().map(|&row| 1u64 << (row - 1)).sum()
+}
+
+/// The rows that stand in a word, the lowest first (rule 4.8).
+pub fn rows_in_word(word: u64) -> Vec<u8> {
+    let is_set = |row: &u8| (word >> (row - 1)) % 2 == 1;
+    (1..=64).filter(is_set).collect()
 }
 
 /// The planner's answer at a ceiling, and the trials that it made (rule 23.4).

@@ -1,7 +1,8 @@
 //! A small generator with fixed seeds, so that every test run is the same. Proposals and days
-//! are in `commits`.
+//! are in `commits`, answers and damaged sentences in `sentences`.
 
 pub mod commits;
+pub mod sentences;
 
 use crate::calls::Call;
 use crate::order::{order_of, Order};

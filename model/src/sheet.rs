@@ -155,7 +155,7 @@ pub fn write_back(table: &Table, lent: &mut [u8]) -> (u32, u32) {
     }
 }
 
-/// Puts a sheet or a report at the start of lent bytes and leaves those after it
+/// Puts a sheet, a report or a sentence at the start of lent bytes and leaves those after it
 /// as they were; gives 0 and its length in bytes. With fewer lent bytes than it
 /// has it gives 10 and 0, and leaves them all (rule 10.10).
 pub fn put_text(text: &[u8], lent: &mut [u8]) -> (u32, u32) {

@@ -5,12 +5,14 @@
 mod common;
 
 use common::correct::{correct_by_every_course, correct_by_slacks, TINY};
-use common::{all_rows, rows_in_word, Kinds, SMALL};
+use common::{all_rows, Kinds, SMALL};
 use model::cases::ceilings::{ceilings, counted, crowded, most_tried, over, unplanned};
 use model::cases::waits::checked_waits;
 use model::cases::{checked_promises, p1};
 use model::order::{order_of, orders, NO_ORDER};
-use model::plan::{most_trials, plan, plan_and_trials, plan_within, slack, Counted, Plan};
+use model::plan::{
+    most_trials, plan, plan_and_trials, plan_within, rows_in_word, slack, Counted, Plan,
+};
 use model::planners::{each_place, each_trial};
 use model::proposal::{ask, Proposal};
 use model::random::commits::spoil;

@@ -3,10 +3,10 @@
 mod common;
 
 use common::correct::{correct_by_every_course, correct_by_slacks, survives_random_courses, TINY};
-use common::{all_rows, rows_in_word, Kinds, SMALL};
+use common::{all_rows, Kinds, SMALL};
 use model::judge::{judge, judge_table};
 use model::order::{check_order, orders, NO_ORDER};
-use model::plan::{is_skipped, passes_lowest, plan, slack};
+use model::plan::{is_skipped, passes_lowest, plan, rows_in_word, slack};
 use model::random::{table_in, Random};
 use model::run::step;
 use model::sheet::{sheet_of, write_line};

@@ -10,11 +10,13 @@ use common::correct::{
     correct_by_every_course, correct_by_slacks, promised_in_its_window, promising_rows,
     survives_random_courses, TINY,
 };
-use common::{all_rows, fresh, rows_in_word, slots_with_loading, Kinds, RULES, SMALL};
+use common::{all_rows, fresh, slots_with_loading, Kinds, RULES, SMALL};
 use model::judge::judge_table;
 use model::order::{orders, Order};
 use model::plain;
-use model::plan::{is_skipped, passes_lowest, plan, promised_moment, slack, worst_finish};
+use model::plan::{
+    is_skipped, passes_lowest, plan, promised_moment, rows_in_word, slack, worst_finish,
+};
 use model::planners::{each_place, each_trial};
 use model::random::{
     calls_for, promise, supplies, table_in, tight_under, with_promises, Random, Ranges,

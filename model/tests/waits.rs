@@ -7,14 +7,14 @@
 mod common;
 
 use common::correct::{correct_by_every_course, correct_by_slacks, TINY};
-use common::{all_rows, fresh, rows_in_word, slots_with_loading, Kinds, RULES, SMALL};
+use common::{all_rows, fresh, slots_with_loading, Kinds, RULES, SMALL};
 use model::judge::judge_table;
 use model::order::{
     check_order, check_table_and_order, every_arrangement, keeps_waits, orders, Order, NO_ORDER,
 };
 use model::plain;
 use model::plan::{
-    is_skipped, passes_lowest, plan, plan_and_trials, promised_moment, worst_finish,
+    is_skipped, passes_lowest, plan, plan_and_trials, promised_moment, rows_in_word, worst_finish,
 };
 use model::planners::{each_place, each_trial};
 use model::random::{

@@ -27,7 +27,7 @@ module _ (f : ℕ → List ℕ) where
   pub joined-long : (w : ℕ) → ((x : ℕ) → length (f x) ≡ w) → (n : ℕ) → length (joined f (rowsTo n)) ≡ w * n
   joined-long w h n = pieces-long w h (rowsTo n) ∙ ap (λ (m : ℕ). w * m) (length-rows n)
 
-  joined-append : (xs ys : List ℕ) → joined f (xs ++ ys) ≡ joined f xs ++ joined f ys
+  pub joined-append : (xs ys : List ℕ) → joined f (xs ++ ys) ≡ joined f xs ++ joined f ys
   joined-append [] ys = refl
   joined-append (x ∷ xs) ys = rw (joined-append xs ys) (sym (append-assoc (f x) (joined f xs) (joined f ys)))
 

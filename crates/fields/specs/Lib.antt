@@ -3,5 +3,6 @@ pub mod Bytes
 pub mod Digits
 pub mod Wrote
 pub mod Lengths
+pub mod Decimal
 pub mod Values
 pub mod Figures

@@ -14,7 +14,7 @@ use Rattle.theory.specs.Tests.{by-bool, by-leb}
 use Rattle.fields.specs.Scan.{powers}
 
 -- ---- one digit
-digit-back : (d : ℕ) → d ≤ 9 → digitOf (48 + d) ≡ d
+pub digit-back : (d : ℕ) → d ≤ 9 → digitOf (48 + d) ≡ d
 unfolding digitOf
 digit-back d h = rw (le-leb 48 (48 + d) (omega arith), le-leb (48 + d) 57 (omega arith)) (omega arith)
 

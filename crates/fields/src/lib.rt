@@ -8,7 +8,9 @@ ghost use Prim.Native.Nat.{_+_, _-_, _*_, _/_, _%_, _≤_, _<_};
 ghost use lib.Dec.{ltb, leb};
 ghost use lib.IntN.{pos, natAbs};
 ghost use lib.ListN.{length};
-ghost use Rattle.texts.specs.Fields.{digitAt, written, digitOf, valueOf, isField, fieldAt, line};
+ghost use Rattle.rules.specs.Lists.{joined};
+ghost use Rattle.texts.specs.Decimals.{hasDigit, digitIf, decimal};
+ghost use Rattle.texts.specs.Fields.{weights, digitAt, written, digitOf, valueOf, isField, fieldAt, line};
 ghost use Rattle.texts.specs.Reports.{figure};
 ghost use Rattle.fields.specs.Scan.{stands, fieldIn};
 ghost use Rattle.fields.specs.Wrote.{Wrote};
@@ -24,7 +26,7 @@ enum Field {
 }
 
 // What a byte adds: its digit, and 0 for a byte that is none.
-fn digit(b: u8) -> u32
+pub fn digit(b: u8) -> u32
     ensures { λ r. ⌜ (r ≡ digitOf b) × (r ≤ 9) ⌝ }
 {
     if b < 48 {
@@ -37,7 +39,7 @@ fn digit(b: u8) -> u32
 }
 
 // The byte is a digit from least on.
-fn digit_from(least: u8, b: u8) -> bool
+pub fn digit_from(least: u8, b: u8) -> bool
     ensures { λ r. ⌜ r ≡ (leb least b && leb b 57) ⌝ }
 {
     least <= b && b <= 57
@@ -179,8 +181,50 @@ pub fn put_triple(out: &mut [u8], at: usize, first: u32, second: u32, third: u32
     put_pair(out, after_first, second, third)
 }
 
+// A number has a digit at a weight: from its first digit on, and at the last place.
+fn has_digit(value: u32, weight: u32) -> bool
+    ensures { λ r. ⌜ r ≡ hasDigit value weight ⌝ }
+{
+    weight <= value || weight == 1
+}
+
+// The digit of a number at a weight, nothing before its first digit.
+fn put_digit(out: &mut [u8], at: usize, value: u32, weight: u32) -> usize
+    requires { ⌜ (1 ≤ weight) × (at + length (digitIf value weight) ≤ length (now out)) ⌝ }
+    ensures { λ r. ⌜ Wrote (now (out .entry)) at (now (out .exit)) r (digitIf value weight) ⌝ }
+{
+    if has_digit(value, weight) {
+        return put_byte(out, at, numeral(value, weight));
+    }
+    at
+}
+
+// The last eight places of a number in decimal.
+fn put_last_digits(out: &mut [u8], at: usize, value: u32) -> usize
+    requires { ⌜ at + length (joined (digitIf value) weights) ≤ length (now out) ⌝ }
+    ensures { λ r. ⌜ Wrote (now (out .entry)) at (now (out .exit)) r (joined (digitIf value) weights) ⌝ }
+{
+    let mut next = at;
+    let mut i: usize = 0;
+    while i < 8 {
+        next = put_digit(out, next, value, WEIGHTS[i]);
+        i += 1;
+    }
+    next
+}
+
+// A number in decimal, its digits alone.
+pub fn put_decimal(out: &mut [u8], at: usize, value: u32) -> usize
+    requires { ⌜ at + length (decimal value) ≤ length (now out) ⌝ }
+    ensures { λ r. ⌜ Wrote (now (out .entry)) at (now (out .exit)) r (decimal value) ⌝ }
+{
+    let second = put_digit(out, at, value, 1000000000);
+    let third = put_digit(out, second, value, 100000000);
+    put_last_digits(out, third, value)
+}
+
 // A whole number without its sign.
-fn size_of(value: i32) -> u32
+pub fn size_of(value: i32) -> u32
     ensures { λ r. ⌜ r ≡ natAbs value ⌝ }
 {
     if value < 0 {

@@ -1,6 +1,6 @@
 // The C boundary: the library's calls over lent arrays of numbers. The crate words says how they hold a table and a run record.
 // Times are in slots, work and supplies in work units, speeds in work units per slot. What is lent as & is only read, and
-// what is lent as &mut is written whole by every call, refusals included, but for the bytes that a sheet or a report is written to: those
+// what is lent as &mut is written whole by every call, refusals included, but for the bytes that a sheet, a report or a sentence is written to: those
 // after it stay as they were, and with a refusal all of them do. A list is a pointer and its length.
 ghost use mathlib.Core.Path.{_≡_};
 ghost use mathlib.Core.List.{_++_};
@@ -19,6 +19,8 @@ ghost use Rattle.proposal.specs.Proposals.{askOf};
 ghost use Rattle.texts.specs.Reports.{reportOf};
 ghost use Rattle.texts.specs.Sheets.{readOf, writeOf};
 ghost use Rattle.searches.specs.Speeds.{searchOf, searchSheet};
+ghost use Rattle.sentences.specs.Sentences.{planSentence, judgeSentence, composeOf};
+ghost use Rattle.sentences.specs.Reading.{readSentence, kindNumber, numberTold};
 ghost use Rattle.record.specs.Answers.{slotSaid, forwardSaid};
 ghost use Rattle.record.specs.Records.{freshOf, comingSlot, oneSlot, forwardOver};
 ghost use Rattle.proposal.specs.Commits.{commitOf};
@@ -35,6 +37,9 @@ use rules::Searching;
 use rules::Sought;
 use rules::Table;
 use rules::Verdict;
+use sentences::JudgeAnswer;
+use sentences::Kind;
+use sentences::PlanAnswer;
 
 // The judge's number, yes as 1 or 0, the tightest row and its slack in slots (rules 7.2 to 7.4).
 struct VerdictNumbers {
@@ -351,6 +356,126 @@ pub extern "C" fn jb_report(
     let writing = report::report(t, placed, report);
     let check = writing.check;
     *size = writing.size;
+    numbers::check_number(check)
+}
+
+// Whose answer a sentence tells, as a number: 1 for the planner's, 2 for the judge's, 0 for neither's (rule 24.11).
+fn kind_number(kind: Kind) -> u32
+    ensures { λ r. ⌜ r ≡ kindNumber kind ⌝ }
+{
+    match kind {
+        Kind::Neither => 0,
+        Kind::Planner => 1,
+        Kind::Judge => 2,
+    }
+}
+
+// The number of the answer that a sentence tells (rule 24.11).
+fn number_told(kind: Kind, plan: PlanAnswer, verdict: JudgeAnswer) -> u32
+    ensures { λ r. ⌜ r ≡ numberTold kind plan verdict ⌝ }
+{
+    match kind {
+        Kind::Neither => 0,
+        Kind::Planner => plan.number,
+        Kind::Judge => verdict.number,
+    }
+}
+
+// Writes the sentence of a planner's answer, whatever its values are, to the start of lent bytes and gives its length in bytes; no byte and 0 with 10
+// (rule 24.9). Gives 0, or 10 if there are too few bytes.
+#[no_mangle]
+pub extern "C" fn jb_plan_sentence(
+    number: u32,
+    left: u64,
+    order: &[u8; 64],
+    trials: u32,
+    line: &mut [u8],
+    size: &mut u32,
+) -> u32
+    ensures { λ r. ⌜ (let back = composeOf (planSentence (record { number = number; left = left; order = now (order .entry); trials = trials })) (now (line .entry)) in
+        (r ≡ checkNumber (back .said .check))
+        × (now (size .exit) ≡ back .said .size)
+        × (now (line .exit) ≡ back .bytes)) ⌝ }
+{
+    let placed = *order;
+    let answer = PlanAnswer {
+        number,
+        left,
+        order: placed,
+        trials,
+    };
+    let writing = composer::plan_sentence(answer, line);
+    let check = writing.check;
+    *size = writing.size;
+    numbers::check_number(check)
+}
+
+// The same for a judge's answer; yes is 1 and no is 0, and a slack is in slots.
+#[no_mangle]
+pub extern "C" fn jb_judge_sentence(
+    number: u32,
+    yes: u32,
+    row: u32,
+    slack: i32,
+    line: &mut [u8],
+    size: &mut u32,
+) -> u32
+    ensures { λ r. ⌜ (let back = composeOf (judgeSentence (record { number = number; yes = yes; row = row; slack = slack })) (now (line .entry)) in
+        (r ≡ checkNumber (back .said .check))
+        × (now (size .exit) ≡ back .said .size)
+        × (now (line .exit) ≡ back .bytes)) ⌝ }
+{
+    let answer = JudgeAnswer {
+        number,
+        yes,
+        row,
+        slack,
+    };
+    let writing = composer::judge_sentence(answer, line);
+    let check = writing.check;
+    *size = writing.size;
+    numbers::check_number(check)
+}
+
+// Reads a sentence: whose answer it tells, and the answer; the fields of the other kind are 0. Gives 0, or 2 and zeros for all other bytes (rule 24.11).
+#[no_mangle]
+pub extern "C" fn jb_read_sentence(
+    line: &[u8],
+    kind: &mut u32,
+    number: &mut u32,
+    left: &mut u64,
+    order: &mut [u8; 64],
+    trials: &mut u32,
+    yes: &mut u32,
+    row: &mut u32,
+    slack: &mut i32,
+) -> u32
+    ensures { λ r. ⌜ (let told = readSentence (now (line .entry)) in
+        (r ≡ checkNumber (told .check))
+        × (now (kind .exit) ≡ kindNumber (told .kind))
+        × (now (number .exit) ≡ numberTold (told .kind) (told .plan) (told .verdict))
+        × (now (left .exit) ≡ told .plan .left)
+        × (now (order .exit) ≡ told .plan .order)
+        × (now (trials .exit) ≡ told .plan .trials)
+        × (now (yes .exit) ≡ told .verdict .yes)
+        × (now (row .exit) ≡ told .verdict .row)
+        × (now (slack .exit) ≡ told .verdict .slack)) ⌝ }
+{
+    let told = parser::read(line);
+    let check = told.check;
+    let whose = told.kind;
+    let plan = told.plan;
+    let verdict = told.verdict;
+    let made = plan.order;
+    let least = verdict.slack;
+    *kind = kind_number(whose);
+    *number = number_told(whose, plan, verdict);
+    *left = plan.left;
+    *order = made;
+    *trials = plan.trials;
+    *yes = verdict.yes;
+    *row = verdict.row;
+    *slack = least;
     numbers::check_number(check)
 }
 

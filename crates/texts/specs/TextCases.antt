@@ -3,9 +3,7 @@
 -- numbers as fields (rules 6.1 to 6.3), tables written back into bytes that are too few, enough, and more (section 15 of the rules), and
 -- the reports of P1 and of P3 under two orders each, of ten rows, and of a row with the largest slack there is (section 16).
 use Prim.Native.Nat.{ℕ, zero, suc}
-use Prim.Native.Char.{code}
 use Prim.Native.String.{String}
-use Prim.Native.String as Strings
 use mathlib.Core.Bool.{Bool, true, not, _&&_}
 use mathlib.Core.List.{List, [], _∷_, _++_}
 use lib.Count.{ones, onesIn}
@@ -24,15 +22,11 @@ use Rattle.rules.specs.Slots.{fresh, isPending, isWaiting, isReady, chosen, isO
 use Rattle.rules.specs.Tables.{rowOk, tailOk, promiseOk, checkWait, checkTable}
 use Rattle.rules.specs.Worst.{horizon, worstFinish, promisedMoment, slack, meets}
 use Rattle.texts.specs.Fields.{digitAt, written, fitsField, digitOf, valueOf, isField}
+use Rattle.texts.specs.Quoted.{bytes}
 use Rattle.texts.specs.Program.{placeLine, planText, programText}
 use Rattle.texts.specs.Reports.{figureAt, figure, jobLine, needsOf, lateRows, lastLine, reportText, checkReport, reportOf}
 use Rattle.texts.specs.Lent.{checkRoom}
 use Rattle.texts.specs.Sheets.{isLine, numberAt, columnOf, tableIn, checkSheet, readOf, rowLine, sheetOf, checkWrite, writeOf}
-
--- the bytes of a text of plain characters
-abbrev pub bytes : String → List ℕ
-bytes Strings.[] = []
-bytes (Strings._∷_ c s) = code c ∷ bytes s
 
 pub data Text : Type 0 where
   -- a sheet and what the program writes for it

@@ -9,7 +9,7 @@ use native.Mathlib.Omega.{arith}
 use lib.Dec.{eqb}
 use lib.ListN.{length, getD}
 use borrow.Author.Tests.{eq-eqb, ne-eqb}
-use Rattle.rules.specs.Lists.{first, count, erase, sum}
+use Rattle.rules.specs.Lists.{first, count, keep, erase, sum}
 use Rattle.theory.specs.Tests.{by-bool, by-eqb, not-both}
 
 -- the row stands in the list
@@ -218,3 +218,8 @@ first-none p (y ∷ l) z h x i =
     by-bool (p y)
     (λ e. let w : y ≡ 0 = rw e at h in absurd (z (rw w (in-head 0 l))))
     (λ e. by-eqb x y (λ f q. rw q e) (λ f q. first-none p l (λ k. z (in-tail 0 y l k)) (rw e at h) x (rw f at i)))
+
+-- the numbers that pass a test, of two lists, one after the other
+pub keep-append : (p : ℕ → Bool) (a b : List ℕ) → keep p (a ++ b) ≡ keep p a ++ keep p b
+keep-append p [] b = refl
+keep-append p (x ∷ a) b = by-bool (p x) (λ e. rw (e, keep-append p a b)) (λ e. rw (e, keep-append p a b))

@@ -56,10 +56,6 @@ first-parts p (x ∷ a) b h =
     (λ e. rw (e, ne-eqb x 0 (λ z. h (subst (λ (y : ℕ). In y (x ∷ a)) z (in-head x a)))))
     (λ e. rw (e, first-parts p a b (λ i. h (in-tail 0 x a i))))
 
-pub keep-append : (p : ℕ → Bool) (a b : List ℕ) → keep p (a ++ b) ≡ keep p a ++ keep p b
-keep-append p [] b = refl
-keep-append p (x ∷ a) b = by-bool (p x) (λ e. rw (e, keep-append p a b)) (λ e. rw (e, keep-append p a b))
-
 pub keep-keep : (p q : ℕ → Bool) (l : List ℕ) → keep p (keep q l) ≡ keep q (keep p l)
 keep-keep p q [] = refl
 keep-keep p q (x ∷ l) =

@@ -16,7 +16,7 @@ use Rattle.rules.specs.Tables.{Accepted}
 use Rattle.rules.specs.Worst.{worstSpeed, worstFinish, promisedMoment}
 use Rattle.rules.specs.Choice.{sequence, lowest, unfollowed, tried, passes, taker, falling, padded}
 use Rattle.theory.specs.Tests.{by-bool, by-eqb, by-ltb, by-leb, not-is, and-left, and-right, and-both, and-true}
-use Rattle.theory.specs.Counts.{In, Once, Within, Same, in-entry, erase-last}
+use Rattle.theory.specs.Counts.{In, Once, Within, Same, in-entry, erase-last, keep-append}
 use Rattle.theory.specs.Sorting.{sorted-sort, same-sort}
 use Rattle.theory.specs.Sweep.{sweep}
 use Rattle.theory.specs.Caps.{cap, cap-positive}
@@ -38,7 +38,7 @@ use Rattle.periods.specs.Busy.{row, LeftAt}
 use Rattle.periods.specs.Periods.{Queue, Known, known-start, known-placed}
 use Rattle.periods.specs.Entries.{entriesTo, entry-is, entries-below}
 use Rattle.periods.specs.Trying.{Speed, Parts, KnownAt, Stands, Open, inTime, partInTime, lowInTime, FirstIn}
-use Rattle.trials.specs.Lines.{At, place-of, apart, sorted-rising, first-parts, first-kept, first-fails, keep-both, keep-append, keep-keep, keep-twice, keep-neither, parted}
+use Rattle.trials.specs.Lines.{At, place-of, apart, sorted-rising, first-parts, first-kept, first-fails, keep-both, keep-keep, keep-twice, keep-neither, parted}
 use Rattle.trials.specs.Prepared.{capsAt, atLevel, leftOf, every-take, every-length}
 use Rattle.trials.specs.Opening.{openTo, open-inside, open-clear, open-whole}
 use Rattle.trials.specs.Allowed.{FirstOf, first-below, first-within, first-inside}

@@ -23,7 +23,7 @@ use Rattle.rules.specs.Tables.{rowOk}
 use Rattle.texts.specs.Fields.{digitAt, digitOf, written, valueOf, isField}
 use Rattle.texts.specs.Reports.{figureAt, figure}
 use Rattle.texts.specs.Sheets.{isLine, numberAt}
-use Rattle.texts.specs.TextCases.{bytes}
+use Rattle.texts.specs.Quoted.{bytes}
 use Rattle.record.specs.Records.{recordOf, tailSound}
 use Rattle.unwaited.specs.OldRecords as Records
 use Rattle.unwaited.specs.OldSheets as Sheets

@@ -9,7 +9,7 @@
 
 use model::calls::one_slot_on_paper;
 use model::order::Order;
-use model::plan::plan;
+use model::plan::{plan, rows_in_word};
 use model::program::KEPT;
 use model::report::{report, LONGEST_REPORT};
 use model::run::{chosen, has_promised, kept_deadline, State};
@@ -49,10 +49,6 @@ fn words_for(number: u32) -> &'static str {
 /// The rows as the text lists them, a space before each.
 fn listed(rows: impl Iterator<Item = u8>) -> String {
     rows.map(|row| format!(" {row}")).collect()
-}
-
-fn rows_left(left: u64) -> String {
-    listed((1..=64u8).filter(|row| (left >> (row - 1)) % 2 == 1))
 }
 
 fn is_done(table: &Table, state: &State, row: u8) -> bool {
@@ -184,7 +180,7 @@ fn plan_and_run(out: &mut impl Write, sheet: &[u8], supplies: &[u32]) -> io::Res
     writeln!(out, "{}", sheet_line(sheet, &lent[..length as usize]))?;
     let answer = plan(&table);
     if answer.number == 7 {
-        let left = rows_left(answer.left);
+        let left = listed(rows_in_word(answer.left).into_iter());
         writeln!(out, "number 7: {}, rows left:{left}", words_for(7))?;
         return Ok(REFUSED);
     }

@@ -60,13 +60,6 @@ pub fn rows_at_level(table: &Table, level: u32) -> Vec<u8> {
     rows
 }
 
-/// The rows that stand in a word of rows left (rule 4.8).
-pub fn rows_in_word(word: u64) -> Vec<u8> {
-    (1..=64u8)
-        .filter(|&row| (word >> (row - 1)) % 2 == 1)
-        .collect()
-}
-
 /// The judge's refusal with this number: all zero.
 pub fn refused_verdict(number: u32) -> Verdict {
     Verdict {
@@ -77,7 +70,7 @@ pub fn refused_verdict(number: u32) -> Verdict {
     }
 }
 
-/// Bytes that neither a sheet nor a report has, each other than its neighbours.
+/// Bytes that no sheet, report or sentence has, each other than its neighbours.
 pub fn rubbish(length: usize) -> Vec<u8> {
     (0..length).map(|index| 128 | index as u8).collect()
 }

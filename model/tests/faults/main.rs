@@ -4,8 +4,8 @@
 //! `speeds` faults in the search for the least workable speed, `late` those of runs
 //! that drop late previews and of check 9, `promises` those in promised parts and of
 //! check 12, `waits` those in rows that follow rows and of checks 6 and 13 to 15, `commits`
-//! those of commits, `ceilings` those of planning at a ceiling. Run with `--nocapture` to read
-//! the tables.
+//! those of commits, `ceilings` those of planning at a ceiling, `sentences` those of sentences
+//! and of their reader. Run with `--nocapture` to read the tables.
 
 mod ceilings;
 mod commits;
@@ -13,6 +13,7 @@ mod late;
 mod planners;
 mod promises;
 mod search;
+mod sentences;
 mod speeds;
 mod sweeps;
 mod waits;

@@ -1,0 +1,5 @@
+pub mod Lists
+pub mod Front
+pub mod Choices
+pub mod Meanings
+pub mod Together
