@@ -1,11 +1,12 @@
 /*
  * The command tools/jasminebrace: plans, judges, lists, runs, explains and writes
- * sheets, plays a day of several, and says their least workable speeds.
+ * sheets, plays a day of several, says their least workable speeds, and reads verdicts
+ * back from their sentences.
  *
  * It has no check, no limit, no planner, no search and no writer of its own: what it
  * says of a sheet, an order or a run is what the archive answered, and a sheet, a
- * report, and each field of 8 bytes of a plain form, is written by the archive. It knows
- * how a sheet is laid out, in such fields, to cut it into parts and to ask the
+ * report, a sentence, and each field of 8 bytes of a plain form, is written by the
+ * archive, which also reads the sentences. It knows how a sheet is laid out, in such fields, to cut it into parts and to ask the
  * archive's reader about each part inside a sheet that is right everywhere else.
  * Rows files and rows as words are in table.h.
  *
@@ -31,7 +32,7 @@ enum status {
 
 /* What the command line asks for. */
 typedef struct {
-    bool plain;        /* figures alone, in fields of 8 bytes, or a report's bytes alone */
+    bool plain;        /* figures alone, in fields of 8 bytes or with spaces between, or a report's bytes alone */
     bool stretches;    /* run and day: a line for each stretch of slots */
     bool slacks;       /* speeds: a line for each G under one order */
     uint32_t sheet;    /* day: the number of the sheet that runs, first in plain lines; 0 for other commands */
@@ -128,6 +129,29 @@ static const char *rows_word(uint32_t count) {
 
 static const char *level_word(uint32_t level) {
     return level == JB_LO ? "LO" : "HI";
+}
+
+/* A sentence as the archive wrote it, in a line of its own. It goes out before whatever is then said on standard error. */
+static void put_sentence(const uint8_t *line, uint32_t length) {
+    fwrite(line, 1, length, stdout);
+    putchar('\n');
+    fflush(stdout);
+}
+
+/* What the planner answered, as a sentence (rule 24.3). */
+static void put_planners_sentence(uint32_t number, uint64_t left, const uint8_t order[JB_ROWS], uint32_t made) {
+    uint8_t line[JB_LONGEST_SENTENCE];
+    uint32_t length;
+    jb_write_plan(number, left, order, made, line, sizeof line, &length);
+    put_sentence(line, length);
+}
+
+/* What the judge answered, as a sentence (rule 24.7); the slack is in slots. */
+static void put_judges_sentence(uint32_t number, uint32_t yes, uint32_t row, int32_t slack) {
+    uint8_t line[JB_LONGEST_SENTENCE];
+    uint32_t length;
+    jb_write_verdict(number, yes, row, slack, line, sizeof line, &length);
+    put_sentence(line, length);
 }
 
 /* ---- what is wrong with a sheet ---- */
@@ -942,15 +966,12 @@ static void put_row(const jb_table *table, uint32_t row) {
     putchar(')');
 }
 
-/* Says a correct order with the slack of each place; in the plain form the lines of its places alone. */
-static int put_correct_order(const request *asked, const jb_table *table, const uint8_t order[JB_ROWS]) {
+/* Says the slack of each place of an order, highest first. */
+static int put_places(const request *asked, const jb_table *table, const uint8_t order[JB_ROWS]) {
     row_times times;
     const uint32_t number = take_times(table, order, &times);
     if (number != JB_OK) {
         return refuse_call(number);
-    }
-    if (!asked->plain) {
-        printf("a correct order of %" PRIu32 " %s, highest place first\n", table->n, rows_word(table->n));
     }
     for (uint32_t place = 1; place <= table->n; place++) {
         const uint32_t row = order[place - 1];
@@ -966,14 +987,6 @@ static int put_correct_order(const request *asked, const jb_table *table, const 
     return FINE;
 }
 
-static int plan_words(const request *asked, const sheet_file *sheet) {
-    jb_table table;
-    uint8_t order[JB_ROWS];
-    uint64_t left;
-    const uint32_t number = read_and_plan(sheet, &table, order, &left);
-    return number == JB_OK ? put_correct_order(asked, &table, order) : refuse_sheet(asked, number, sheet, left);
-}
-
 /* What planning a sheet at a ceiling has answered. */
 typedef struct {
     uint32_t number;
@@ -983,12 +996,15 @@ typedef struct {
     uint32_t trials; /* made */
 } counted_plan;
 
-/* Reads a sheet and plans it at a ceiling, in trials; a sheet that the reader refuses takes none. */
-static void plan_within(const sheet_file *sheet, uint32_t ceiling, counted_plan *made) {
+/*
+ * Reads a sheet and plans it at the ceiling that was given, in trials, or else at the most
+ * that its rows can take. A sheet that the reader refuses is answered with its number and zeros.
+ */
+static void plan_within(const request *asked, const sheet_file *sheet, counted_plan *made) {
+    memset(made, 0, sizeof *made);
     made->number = jb_read_table(sheet->bytes, sheet->length, &made->table);
-    made->left = 0;
-    made->trials = 0;
     if (made->number == JB_OK) {
+        const uint32_t ceiling = asked->limited ? asked->ceiling : jb_most_trials(made->table.n);
         made->number = jb_plan_table_within(&made->table, ceiling, made->order, &made->left, &made->trials);
     }
 }
@@ -1009,13 +1025,13 @@ static void explain_ceiling(FILE *to, const counted_plan *made, uint32_t ceiling
     put_remedy(to, JB_OVER_CEILING);
 }
 
-/* Says why planning at a ceiling was not answered 0. */
+/* Says why planning was not answered 0; where a ceiling was given, also how many trials were made. */
 static void explain_counted(FILE *to, const request *asked, const counted_plan *made, const sheet_file *sheet) {
     if (made->number == JB_OVER_CEILING) {
         explain_ceiling(to, made, asked->ceiling);
         return;
     }
-    if (made->number == JB_NO_ORDER) {
+    if (asked->limited && made->number == JB_NO_ORDER) {
         explain_no_order(to, NULL, made->left);
         put_trials(to, made->trials, asked->ceiling);
         return;
@@ -1023,22 +1039,20 @@ static void explain_counted(FILE *to, const request *asked, const counted_plan *
     explain_number(to, made->number, sheet, made->left);
 }
 
-/* Plans at the ceiling that was given, and tells the trials that were made; in the plain form as a third field of the first line. */
+/* Plans, and tells the answer as a sentence; in the plain form at a ceiling the trials are the third field of the first line. */
 static int plan_counted(const request *asked, const sheet_file *sheet) {
     counted_plan made;
-    plan_within(sheet, asked->ceiling, &made);
+    plan_within(asked, sheet, &made);
     if (asked->plain) {
         put_three_fields(made.number, made.number == JB_OK ? made.table.n : how_many(made.left), made.trials);
+    } else {
+        put_planners_sentence(made.number, made.left, made.order, made.trials);
     }
     if (made.number != JB_OK) {
         explain_counted(stderr, asked, &made, sheet);
         return status_of(made.number);
     }
-    const int status = put_correct_order(asked, &made.table, made.order);
-    if (status == FINE && !asked->plain) {
-        put_trials(stdout, made.trials, asked->ceiling);
-    }
-    return status;
+    return put_places(asked, &made.table, made.order);
 }
 
 static int plan(const request *asked) {
@@ -1047,42 +1061,64 @@ static int plan(const request *asked) {
     if (status != FINE) {
         return status;
     }
-    if (asked->limited) {
-        return plan_counted(asked, &sheet);
-    }
-    return asked->plain ? plan_plain(&sheet) : plan_words(asked, &sheet);
+    return asked->plain && !asked->limited ? plan_plain(&sheet) : plan_counted(asked, &sheet);
 }
 
-/* Says the row of least slack under an order, in words. */
-static void put_least_slack(const jb_table *table, uint32_t row, int32_t slack) {
-    printf("least slack: row %" PRIu32 " (%s), %" PRId32 " %s\n", row, level_word(table->level[row - 1]), slack, slots(slack));
+/* What the judge answered. */
+typedef struct {
+    uint32_t number;
+    uint32_t yes;
+    uint32_t row;
+    int32_t slack; /* in slots */
+} verdict;
+
+/* Tells a verdict: as a sentence and the level of the row that it names, or in the plain form as fields. */
+static int put_verdict(const request *asked, const jb_table *table, const verdict *said) {
+    if (asked->plain) {
+        put_field(said->number);
+        put_field(said->yes);
+        put_field(said->row);
+        put_slack(said->slack);
+        putchar('\n');
+    } else {
+        put_judges_sentence(said->number, said->yes, said->row, said->slack);
+        fputs("tightest: ", stdout);
+        put_row(table, said->row);
+        putchar('\n');
+    }
+    return said->yes ? FINE : NO;
+}
+
+/* Tells that nothing was judged, as a sentence; the explanation comes after it. The plain form has its own line for that. */
+static void put_no_verdict(const request *asked, uint32_t number) {
+    if (!asked->plain) {
+        put_judges_sentence(number, 0, 0, 0);
+    }
 }
 
 static int judge(const request *asked) {
+    sheet_file sheet;
     jb_table table;
     order_list order = {{0}, 0};
-    uint32_t yes;
-    uint32_t row;
-    int32_t slack;
-    const int status = load_words(asked, &table, &order);
+    verdict said;
+    int status = add_words(asked->words + 1, asked->count - 1, &order);
+    if (status == FINE) {
+        status = read_sheet(asked->words[0], &sheet);
+    }
     if (status != FINE) {
         return status;
     }
-    const uint32_t number = jb_judge_order(&table, order.places, &yes, &row, &slack);
+    const uint32_t number = jb_read_table(sheet.bytes, sheet.length, &table);
     if (number != JB_OK) {
-        return refuse_order(asked, number, &table, &order);
+        put_no_verdict(asked, number);
+        return refuse_sheet(asked, number, &sheet, 0);
     }
-    if (asked->plain) {
-        put_field(number);
-        put_field(yes);
-        put_field(row);
-        put_slack(slack);
-        putchar('\n');
-    } else {
-        printf("%s\n", yes ? "yes: the order is correct" : "no: the order is not correct");
-        put_least_slack(&table, row, slack);
+    said.number = jb_judge_order(&table, order.places, &said.yes, &said.row, &said.slack);
+    if (said.number != JB_OK) {
+        put_no_verdict(asked, said.number);
+        return refuse_order(asked, said.number, &table, &order);
     }
-    return yes ? FINE : NO;
+    return put_verdict(asked, &table, &said);
 }
 
 static void put_order(const order_list *order, uint32_t n) {
@@ -1262,6 +1298,14 @@ static uint64_t explain_no_speed(FILE *to, const search *of, const jb_table *tab
     return left;
 }
 
+/* Says a correct order with the slack of each place; in the plain form the lines of its places alone. */
+static int put_correct_order(const request *asked, const jb_table *table, const uint8_t order[JB_ROWS]) {
+    if (!asked->plain) {
+        printf("a correct order of %" PRIu32 " %s, highest place first\n", table->n, rows_word(table->n));
+    }
+    return put_places(asked, table, order);
+}
+
 /* Says the least speed of a sheet and the order at it, or that there is none. A sheet that is refused is explained elsewhere. */
 static int put_least_speed(const request *asked, const search *of, const sheet_file *sheet, const jb_table *table) {
     const uint32_t kept = speed_of(table, of->kept);
@@ -1321,6 +1365,11 @@ static int load_least(const request *asked, jb_table *table, order_list *order) 
         }
     }
     return status_of(number);
+}
+
+/* Says the row of least slack under an order, in words. */
+static void put_least_slack(const jb_table *table, uint32_t row, int32_t slack) {
+    printf("least slack: row %" PRIu32 " (%s), %" PRId32 " %s\n", row, level_word(table->level[row - 1]), slack, slots(slack));
 }
 
 /* Says the judge's verdict on an order at one G. Gives the judge's number. */
@@ -2164,6 +2213,133 @@ static int rows(const request *asked) {
     return status;
 }
 
+/* ---- verdicts back from their sentences ---- */
+
+enum {
+    CARRIAGE_RETURN = 13,
+    SENTENCE_ROOM = JB_LONGEST_SENTENCE + 3 /* bytes of a sentence's file that are looked at: a sentence, 13 and 10, and one more */
+};
+
+/* How many bytes stand before the line end at their end: byte 10, or 13 and 10. All, if there is none. */
+static size_t without_line_end(const uint8_t *bytes, size_t length) {
+    if (length == 0 || bytes[length - 1] != LINE_END) {
+        return length;
+    }
+    return length > 1 && bytes[length - 2] == CARRIAGE_RETURN ? length - 2 : length - 1;
+}
+
+/* Where bytes can be seen to be no sentence without reading it: no bytes, a second line, too many, no full stop. Bytes count from 1. */
+static void put_sentence_fault(FILE *to, const uint8_t *bytes, size_t length) {
+    const uint8_t *end = length == 0 ? NULL : (const uint8_t *)memchr(bytes, LINE_END, length);
+    char name[64];
+    if (length == 0) {
+        fputs("where: there are no bytes, or a line end alone\n", to);
+    } else if (end != NULL) {
+        fprintf(to, "where: byte %zu: a line end (byte 10), and more after it\n", (size_t)(end - bytes) + 1);
+    } else if (length > JB_LONGEST_SENTENCE) {
+        fprintf(to, "where: byte %d: no sentence has so many bytes\n", JB_LONGEST_SENTENCE + 1);
+    } else if (bytes[length - 1] != '.') {
+        name_byte(bytes, length, length - 1, name, sizeof name);
+        fprintf(to, "where: byte %zu: %s where the full stop belongs, at the end\n", length, name);
+    }
+}
+
+/* Says what would be a sentence: what plan and judge print first. */
+static void put_right_sentences(FILE *to) {
+    static const uint8_t order[JB_ROWS] = {2, 1};
+    uint8_t line[JB_LONGEST_SENTENCE];
+    uint32_t length;
+    jb_write_plan(JB_OK, 0, order, 3, line, sizeof line, &length);
+    fprintf(to, "right: the first line of plan, as: %.*s\n", (int)length, (const char *)line);
+    jb_write_verdict(JB_OK, 0, 2, -10, line, sizeof line, &length);
+    fprintf(to, "right: the first line of judge, as: %.*s\n", (int)length, (const char *)line);
+}
+
+static void explain_no_sentence(FILE *to, const uint8_t *bytes, size_t length) {
+    put_words(to, JB_MALFORMED);
+    put_sentence_fault(to, bytes, length);
+    put_right_sentences(to);
+    put_remedy(to, JB_MALFORMED);
+}
+
+/* How many rows in the order a sentence tells: up to the last number that is not 0 (rule 24.4). */
+static uint32_t rows_in_order(const uint8_t order[JB_ROWS]) {
+    uint32_t places = JB_ROWS;
+    while (places > 0 && order[places - 1] == 0) {
+        places--;
+    }
+    return places;
+}
+
+/* The figures of an answer in one line with spaces between: see the help. */
+static void put_plain_answer(uint32_t number, const jb_answer *told) {
+    const uint32_t places = rows_in_order(told->order);
+    printf("%" PRIu32 " %" PRIu32 " %" PRIu32 " %" PRIu32 " %" PRIu32 " %" PRIu32 " %" PRId32, number, told->kind, told->number,
+           told->trials, told->yes, told->row, told->slack);
+    printf(" %" PRIu32 " %" PRIu32, places, how_many(told->left));
+    for (uint32_t place = 0; place < places; place++) {
+        printf(" %u", (unsigned)told->order[place]);
+    }
+    put_rows_left(stdout, told->left);
+}
+
+/* What the planner's answer has besides its number. */
+static void put_planners_figures(const jb_answer *told) {
+    const uint32_t places = rows_in_order(told->order);
+    const uint32_t left = how_many(told->left);
+    printf("trials made: %" PRIu32 " %s\n", told->trials, trials(told->trials));
+    printf("order: %" PRIu32 " %s%s", places, rows_word(places), places == 0 ? "" : ", highest first:");
+    for (uint32_t place = 0; place < places; place++) {
+        printf(" %u", (unsigned)told->order[place]);
+    }
+    printf("\nrows left: %" PRIu32 " %s%s", left, rows_word(left), left == 0 ? "" : ":");
+    put_rows_left(stdout, told->left);
+}
+
+/* What the judge's answer has besides its number. */
+static void put_judges_figures(const jb_answer *told) {
+    printf("correct: ");
+    if (told->yes <= 1) {
+        puts(told->yes == 1 ? "yes" : "no");
+    } else {
+        printf("%" PRIu32 ", neither yes (1) nor no (0)\n", told->yes);
+    }
+    printf("tightest row: %" PRIu32 "\n", told->row);
+    printf("slack: %" PRId32 " %s\n", told->slack, slots(told->slack));
+}
+
+static void put_answer(const jb_answer *told) {
+    printf("answer of: the %s\n", told->kind == JB_PLANNER ? "planner" : "judge");
+    put_words(stdout, told->number);
+    if (told->kind == JB_PLANNER) {
+        put_planners_figures(told);
+    } else {
+        put_judges_figures(told);
+    }
+}
+
+/* Reads the answer that a sentence tells, from a file that has it alone, with one line end after it or none. */
+static int read_sentence(const request *asked) {
+    uint8_t bytes[SENTENCE_ROOM];
+    size_t length;
+    jb_answer told;
+    const int status = read_file(asked->words[0], "sentence's file", bytes, sizeof bytes, &length);
+    if (status != FINE) {
+        return status;
+    }
+    const size_t held = without_line_end(bytes, length);
+    const uint32_t number = jb_read_answer(bytes, held, &told);
+    if (asked->plain) {
+        put_plain_answer(number, &told);
+    } else if (number == JB_OK) {
+        put_answer(&told);
+    }
+    if (number != JB_OK) {
+        explain_no_sentence(stderr, bytes, held);
+    }
+    return status_of(number);
+}
+
 /* ---- help and the command line ---- */
 
 typedef struct {
@@ -2179,6 +2355,11 @@ typedef struct {
 static const char PLAN_HELP[] =
     "makes a correct order, highest place first, with the slack of each row in slots\n"
     "\n"
+    "The first line is the planner's answer as a sentence: its number and what that means,\n"
+    "the trials made, the rows in the order, highest first, and the rows left. It stands\n"
+    "there for a refusal too, and read-sentence gives its figures back. After an order comes\n"
+    "a line for each place.\n"
+    "\n"
     "A row's slack is its deadline less its worst finish: its finish when every slot\n"
     "supplies exactly N (LO row) or exactly G (HI row) work units. Of a LO row with a\n"
     "promised part it is no more than its deadline less the clock at which the row has\n"
@@ -2190,8 +2371,8 @@ static const char PLAN_HELP[] =
     "beside a 7 it is said whether there is a correct order without such waits, but not\n"
     "with --ceiling: it takes trials of its own to find out.\n"
     "\n"
-    "--ceiling: no more than TRIALS trials are made, 0 to 4294967295, and it is told how\n"
-    "many were; if it is given more than once, the last one counts. A trial is counted for\n"
+    "--ceiling: no more than TRIALS trials are made, 0 to 4294967295; if it is given more\n"
+    "than once, the last one counts. A trial is counted for\n"
     "each row that is tried at a place; places are filled from the lowest up, and at each\n"
     "rows are tried until one passes. A row that another one without a place follows is\n"
     "skipped there and counts none. If the sheet\n"
@@ -2212,6 +2393,11 @@ static const char JUDGE_HELP[] =
     "ROW.. is the order: row numbers, highest place first, with spaces or commas\n"
     "between them. On a tie the lower row is named. An order in which a row stands above\n"
     "the one that it follows is refused with 6, and that row is named.\n"
+    "\n"
+    "The first line is the judge's answer as a sentence: yes or no, its number and what that\n"
+    "means, the tightest row, which is that of least slack, and its slack in slots. It stands\n"
+    "there for a refusal too, and read-sentence gives its figures back. After a verdict a line\n"
+    "says the level of that row, and which row it follows, if it follows one.\n"
     "\n"
     "--plain: one line: 0, yes as 1 or no as 0, row of least slack, that slack in slots if\n"
     "it is above 0, and the slots by which it is below 0 (at least one of these two is\n"
@@ -2392,6 +2578,25 @@ static const char ROWS_HELP[] =
     "\n"
     "--plain changes nothing: there is one form.\n";
 
+static const char READ_SENTENCE_HELP[] =
+    "gives the figures of a verdict back that plan or judge has told as a sentence\n"
+    "\n"
+    "FILE has the sentence alone, which is the first line of plan or judge, with one line\n"
+    "end after it (byte 10, or bytes 13 and 10) or none. A line for each figure: whose answer\n"
+    "it is, its number and what that means; of the planner the trials made, the rows in\n"
+    "the order, highest first, and the rows left; of the judge yes or no, the tightest row\n"
+    "and its slack in slots. Every sentence is read as the answer that it was made of,\n"
+    "whatever that is: the status is 0, also where the answer that is told is a refusal or a\n"
+    "no. All other bytes are refused with 2: two sentences, a space too many, a figure with a\n"
+    "zero before it, a list that is cut off. What is read is what was written, and it is not\n"
+    "looked at whether a planner or a judge would answer so.\n"
+    "\n"
+    "--plain: one line of decimal figures, one space between each two: 0 or 2 for the\n"
+    "sentence, the kind (1 planner, 2 judge), the answer's number, trials, yes as 1 or no as\n"
+    "0, tightest row, its slack in slots with a minus if it is below 0, count of rows in the\n"
+    "order, count of rows left, then the rows in the order, highest first, then the rows left,\n"
+    "lowest first. Figures that the other kind has are 0; after 2 all of them are.\n";
+
 static const command COMMANDS[] = {
     {"plan", plan, 1, 1, "plan SHEET", "plan --ceiling TRIALS SHEET", PLAN_HELP},
     {"judge", judge, 2, 0, "judge SHEET ROW..", NULL, JUDGE_HELP},
@@ -2403,6 +2608,7 @@ static const command COMMANDS[] = {
     {"explain", explain, 1, 1, "explain SHEET", NULL, EXPLAIN_HELP},
     {"sheet", sheet, 1, 0, "sheet {ROWS.csv | N G K RELEASE,WORK,DEADLINE,LEVEL[,PROMISED[,FOLLOWS]]..}", NULL, SHEET_HELP},
     {"rows", rows, 1, 1, "rows SHEET", NULL, ROWS_HELP},
+    {"read-sentence", read_sentence, 1, 1, "read-sentence FILE", NULL, READ_SENTENCE_HELP},
 };
 enum { COMMAND_COUNT = sizeof COMMANDS / sizeof COMMANDS[0] };
 
@@ -2445,10 +2651,12 @@ static int put_help(const command *of) {
         return FINE;
     }
     put_usage(stdout);
-    fputs("\nSHEET and ROWS.csv are files, or - for standard input. --plain writes figures\n"
-          "alone, each in a field of 8 bytes (those of a report in 10 columns), for scripts.\n"
-          "What was asked for goes to standard output, the explanation of a refusal to\n"
-          "standard error (that of explain to standard output).\n"
+    fputs("\nSHEET, ROWS.csv and FILE are files, or - for standard input. --plain writes\n"
+          "figures alone, each in a field of 8 bytes (those of a report in 10 columns, those\n"
+          "of a sentence with a space between), for scripts. What was asked for goes to\n"
+          "standard output, the explanation of a refusal to standard error (that of explain to\n"
+          "standard output). plan and judge tell a refusal as a sentence besides, on standard\n"
+          "output.\n"
           "\n"
           "Exit status: 0 an order, or yes, or done; 1 no correct order exists (number 7; for\n"
           "speeds: at no speed of a range), or no; 2 refused by another number; 3 cannot be\n"

@@ -2,8 +2,9 @@
  * The library without a C library: the two functions that the archive needs, an
  * entry of its own, and a run of case P1, with row 3 to follow row 1, from its sheet to
  * its last row, with LO rows dropped on the way; then the sheet is written back, a report
- * of its rows, its least G is asked for, it is planned with few trials and with enough, and
- * the next sheet takes its place on the same clock. It shows what a board has to provide.
+ * of its rows, its least G is asked for, it is planned with few trials and with enough, both
+ * answers are put into sentences and one is read back, and the next sheet takes its place on
+ * the same clock. It shows what a board has to provide.
  * Build and run it on x86-64 Linux:
  *
  *     gcc -std=c11 -O2 -ffreestanding -nostdlib -static -fno-tree-loop-distribute-patterns \
@@ -47,6 +48,13 @@ static const char REPORT[] = "         1         1         4        10         0
                              "         4         4         1         5         0\n"
                              "        11         0\n";
 
+/* What the planner answers with 5 trials, and with as many as the sheet takes; what the judge says of the order. */
+static const char OVER[] = "The planner answers number 19 (refused: planning takes more trials than the ceiling): 5 trials, "
+                           "0 rows in the order, 0 rows left.";
+static const char PLANNED[] = "The planner answers number 0 (an order was made): 6 trials, "
+                              "4 rows in the order (highest first: 1, 2, 3, 4), 0 rows left.";
+static const char JUDGED[] = "The judge says yes (number 0, the order is correct): tightest row 1, slack 0 slots.";
+
 /* The next sheet: one row that is released when the first sheet is over, at clock 19, and done in one slot of 5 work units. */
 static const char NEXT[] = "       1       5       2       0\n"
                            "      19       5      24       1       0       0\n";
@@ -56,6 +64,7 @@ static jb_table next;
 static jb_run run;
 static uint8_t written[JB_LONGEST_SHEET];
 static uint8_t report[JB_LONGEST_REPORT];
+static uint8_t line[JB_LONGEST_SENTENCE];
 
 /* The supply of a slot in work units: between G and N, as a warming processor has it. */
 static uint32_t supply_of(uint32_t slot) {
@@ -89,6 +98,34 @@ static int next_sheet(void) {
     return jb_work_slot(&run, 5, &row) == JB_OK && row == 1 && jb_is_done(&run, 1) && run.clock == 20 ? 0 : 16;
 }
 
+/* The planner's answer as a sentence. */
+static int is_told(uint32_t number, uint64_t left, const uint8_t order[JB_ROWS], uint32_t trials, const char *sentence) {
+    uint32_t length;
+    return jb_write_plan(number, left, order, trials, line, sizeof line, &length) == JB_OK && same_text(line, length, sentence);
+}
+
+/* The judge's answer as a sentence, read back from it; a byte too few for it, and a byte too many in it, are noticed. */
+static int is_read_back(const uint8_t order[JB_ROWS]) {
+    jb_answer answer;
+    uint32_t yes;
+    uint32_t row;
+    uint32_t length;
+    int32_t slack;
+    const uint32_t number = jb_judge_order(&table, order, &yes, &row, &slack);
+    if (jb_write_verdict(number, yes, row, slack, line, sizeof JUDGED - 2, &length) != JB_NO_ROOM || length != 0) {
+        return 0;
+    }
+    if (jb_write_verdict(number, yes, row, slack, line, sizeof line, &length) != JB_OK || !same_text(line, length, JUDGED)) {
+        return 0;
+    }
+    line[length] = '\n';
+    if (jb_read_answer(line, length + 1, &answer) != JB_MALFORMED || answer.kind != 0) {
+        return 0;
+    }
+    return jb_read_answer(line, length, &answer) == JB_OK && answer.kind == JB_JUDGE && answer.number == number &&
+           answer.yes == 1 && answer.row == row && answer.slack == slack;
+}
+
 /* The sheet takes 6 trials (rule 23.2): row 2 fails at the lowest place and row 4 passes, at the next row 2 fails and row 3 passes, then rows 2 and 1 pass. */
 static int few_trials(void) {
     uint8_t order[JB_ROWS];
@@ -97,8 +134,14 @@ static int few_trials(void) {
     if (jb_plan_table_within(&table, 5, order, &left, &trials) != JB_OVER_CEILING || trials != 5 || left != 0 || order[0] != 0) {
         return 17;
     }
+    if (!is_told(JB_OVER_CEILING, left, order, trials, OVER)) {
+        return 19;
+    }
     if (jb_plan_table_within(&table, jb_most_trials(table.n), order, &left, &trials) != JB_OK || trials != 6 || order[3] != 4) {
         return 18;
+    }
+    if (!is_told(JB_OK, left, order, trials, PLANNED) || !is_read_back(order)) {
+        return 20;
     }
     return next_sheet();
 }

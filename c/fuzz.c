@@ -1,6 +1,6 @@
 /*
- * Calls every function of the library with arbitrary sheets, tables, orders and
- * run records, and looks at the memory around and behind every call.
+ * Calls every function of the library with arbitrary sheets, tables, orders, run
+ * records, answers and lines, and looks at the memory around and behind every call.
  *
  *     fuzz [ROUNDS [SEED]]
  *
@@ -31,7 +31,8 @@ enum {
     MOST_SUPPLIES = 40,
     SEARCHED = 4, /* rounds for one in which least speeds are sought: each search plans many times */
     LONGEST_INPUT = 3300, /* bytes, some more than a sheet has */
-    MOST_ROOM = 3400      /* bytes lent for a report, some more than one has */
+    MOST_ROOM = 3400,     /* bytes lent for a report, some more than one has */
+    LONGEST_LINE = 800    /* bytes of a line to be read, and lent for a sentence, some more than one has */
 };
 
 /* ---- random numbers with a fixed seed ---- */
@@ -349,6 +350,7 @@ static size_t fill_input(uint8_t *input) {
 /* ---- the calls ---- */
 
 static buffer input_at, sheet_at, report_at, table_at, order_at, run_at, supplies_at, text_at, left_at, word_at, row_at, slack_at, out_at, one_at;
+static buffer line_at, places_at, answer_at; /* a sentence, the order that it tells, and what is read from one */
 
 /* The functions, and the numbers that each can give. */
 enum {
@@ -370,6 +372,9 @@ enum {
     FORWARD,
     COMMIT,
     PROGRAM,
+    PLAN_SENTENCE,
+    JUDGE_SENTENCE,
+    READ_SENTENCE,
     FUNCTIONS
 };
 static const struct {
@@ -394,6 +399,9 @@ static const struct {
     [FORWARD] = {"forward", {0, 8, 9, END}},
     [COMMIT] = {"commit", {0, 9, 3, 4, 11, 5, 12, 13, 14, 15, 6, 16, 17, 18, END}},
     [PROGRAM] = {"program", {0, 1, 2, 3, 4, 11, 5, 12, 13, 14, 15, 7, END}},
+    [PLAN_SENTENCE] = {"told plan", {0, 10, END}},
+    [JUDGE_SENTENCE] = {"verdict", {0, 10, END}},
+    [READ_SENTENCE] = {"sentence", {0, 2, END}},
 };
 static uint64_t counts[FUNCTIONS][NUMBERS];
 static uint64_t at_count[2]; /* ceilings that are the trials that a table takes, and one less */
@@ -403,6 +411,7 @@ static uint64_t dropped_for_need, dropped_running, dropped_resting; /* LO rows: 
 static uint64_t waiting_rows, followers; /* rows that wait at a slot, and slots of rows that follow others */
 static uint64_t late_starts, idle_starts; /* commits refused for a release alone, and those with idle slots before the first release */
 static uint64_t broken_waits; /* orders that are refused for a wait alone */
+static uint64_t still_sentences, no_sentences; /* damaged lines that are another answer's sentence, and those that are none */
 static uint64_t tight_promises, longer_allowances; /* slacks that a promised part makes smaller, and allowances that it makes longer */
 
 /* Counts an answer, whose number is one that the function can give. */
@@ -1323,12 +1332,13 @@ static void try_largest_figures(void) {
     expect(memcmp(report + length - two_lines, last_lines, two_lines) == 0, "the largest figures");
 }
 
-/* Room above 4 GiB, which a length of 32 bits does not hold; only the pages of the sheet and the report are ever touched. */
+/* Room above 4 GiB, which a length of 32 bits does not hold; only the pages of the sheet, the report and the sentence are ever touched. */
 static void try_far_room(void) {
     const size_t room = ((size_t)1 << 32) + 7;
     const int kind = MAP_PRIVATE | MAP_ANONYMOUS | MAP_NORESERVE;
     uint8_t *bytes = (uint8_t *)mmap(NULL, room, PROT_READ | PROT_WRITE, kind, -1, 0);
     jb_table table;
+    jb_answer answer;
     uint8_t order[JB_ROWS];
     uint32_t length;
     expect(bytes != MAP_FAILED, "addresses for a large room");
@@ -1339,7 +1349,159 @@ static void try_far_room(void) {
     fill_in_turn(order, table.n);
     expect(jb_report_order(&table, order, bytes, room, &length) == JB_OK, "room above 4 GiB for a report");
     expect(length == report_length(&table) && bytes[length] == 0, "the report and no byte more");
+    memset(bytes, 0, length);
+    expect(jb_write_plan(JB_OK, 0, order, 1, bytes, room, &length) == JB_OK, "room above 4 GiB for a sentence");
+    expect(bytes[length - 1] == '.' && bytes[length] == 0, "the sentence and no byte more");
+    expect(jb_read_answer(bytes, room, &answer) == JB_MALFORMED, "a line of above 4 GiB is no sentence");
     munmap(bytes, room);
+}
+
+/* ---- answers as sentences ---- */
+
+/* The numbers of an order: none, the rows of a table, and any, with zeros after them or among them. */
+static void fill_places(uint8_t order[JB_ROWS]) {
+    memset(order, 0, JB_ROWS);
+    switch (between(0, 3)) {
+    case 0: break;
+    case 1: fill_in_turn(order, between(1, JB_ROWS)); break;
+    case 2: fill_with_any(order, between(1, JB_ROWS)); break;
+    default: order[between(0, JB_ROWS - 1)] = (uint8_t)random_word(); break;
+    }
+}
+
+/* A word of rows left: none, some, and any. */
+static uint64_t any_left(void) {
+    const uint64_t some = random_word() & random_word() & random_word();
+    return once_in(3) ? 0 : once_in(2) ? some : random_word() | random_word();
+}
+
+/* A slack in slots. */
+static int32_t any_slack(void) {
+    static const int32_t edges[] = {0, 1, -1, 10, -10, INT32_MIN, INT32_MIN + 1, INT32_MAX};
+    return once_in(2) ? edges[between(0, sizeof edges / sizeof *edges - 1)] : (int32_t)between(0, 2000000) - 1000000;
+}
+
+/* An answer of either kind with any figures, also such as no call answers. */
+static jb_answer any_answer(void) {
+    jb_answer answer;
+    memset(&answer, 0, sizeof answer);
+    answer.kind = once_in(2) ? JB_PLANNER : JB_JUDGE;
+    answer.number = once_in(2) ? between(0, JB_LAST_NUMBER + 2) : any_figure();
+    if (answer.kind == JB_PLANNER) {
+        answer.left = any_left();
+        fill_places(answer.order);
+        answer.trials = any_figure();
+    } else {
+        answer.yes = once_in(4) ? any_figure() : between(0, 1);
+        answer.row = any_figure();
+        answer.slack = any_slack();
+    }
+    return answer;
+}
+
+/* Lends room bytes for the sentence of an answer; gives the number. */
+static uint32_t write_answer(const jb_answer *answer, size_t room, uint32_t **length) {
+    uint8_t *line = lend_room(&line_at, room, length);
+    uint8_t *order = (uint8_t *)place(&places_at, JB_ROWS);
+    const bool planner = answer->kind == JB_PLANNER;
+    memcpy(order, answer->order, JB_ROWS);
+    lend(&places_at);
+    const uint32_t number = planner ? jb_plan_sentence(answer->number, answer->left, order, answer->trials, line, room, *length)
+                                    : jb_judge_sentence(answer->number, answer->yes, answer->row, answer->slack, line, room, *length);
+    count(planner ? PLAN_SENTENCE : JUDGE_SENTENCE, number);
+    expect_unwritten(&places_at);
+    expect_written(&line_at, number, **length);
+    return number;
+}
+
+/* Lends these bytes to the reader of sentences; gives the number. */
+static uint32_t read_line(const uint8_t *bytes, size_t length, jb_answer *told) {
+    uint8_t *line = (uint8_t *)place(&input_at, length);
+    jb_answer *answer = (jb_answer *)place(&answer_at, sizeof *answer);
+    memcpy(line, bytes, length);
+    lend(&input_at);
+    const uint32_t number = jb_read_answer(line, length, answer);
+    count(READ_SENTENCE, number);
+    expect_unwritten(&input_at);
+    expect_guards(&answer_at);
+    expect(number == JB_OK || all_zero(answer, sizeof *answer), "bytes that are no sentence tell nothing");
+    *told = *answer;
+    return number;
+}
+
+/* Whatever bytes are taken for a sentence are the sentence of what was read from them (rule 24.13). */
+static bool is_sentence(const uint8_t *bytes, size_t length) {
+    jb_answer told;
+    uint32_t *written;
+    if (read_line(bytes, length, &told) != JB_OK) {
+        return false;
+    }
+    expect(told.kind == JB_PLANNER || told.kind == JB_JUDGE, "a sentence is of one of the kinds");
+    expect(write_answer(&told, LONGEST_LINE, &written) == JB_OK, "what was read has a sentence");
+    expect(*written == length && memcmp(line_at.start, bytes, length) == 0, "what was read has these bytes as its sentence");
+    return true;
+}
+
+/* A byte of the kind that sentences have, or now and then any byte. */
+static uint8_t any_byte_of_line(void) {
+    static const char likely[] = "  0123456789-,.:()sTyn\n";
+    return once_in(4) ? (uint8_t)random_word() : (uint8_t)likely[between(0, sizeof likely - 2)];
+}
+
+/* Changes up to three bytes of a line, or takes them out, or puts some in; gives its length then, in bytes. */
+static size_t damage_line(uint8_t line[LONGEST_LINE], size_t length) {
+    for (uint32_t changes = between(1, 3); changes > 0; changes--) {
+        size_t at = between(0, (uint32_t)length - 1);
+        switch (between(0, 3)) {
+        case 0: line[at] = any_byte_of_line(); break;
+        case 1:
+            memmove(line + at, line + at + 1, length - at - 1);
+            length--;
+            break;
+        case 2:
+            memmove(line + at + 1, line + at, length - at);
+            line[at] = any_byte_of_line();
+            length++;
+            break;
+        default: /* the next digit, or else the last byte */
+            while (at < length - 1 && (line[at] < '0' || line[at] > '9')) {
+                at++;
+            }
+            line[at] = (uint8_t)('0' + between(0, 9));
+            break;
+        }
+    }
+    return length;
+}
+
+/* An answer there and back, its sentence in any room, and then damaged. */
+static void try_sentence(void) {
+    const jb_answer answer = any_answer();
+    uint8_t sentence[LONGEST_LINE];
+    jb_answer told;
+    uint32_t *length;
+    expect(write_answer(&answer, JB_LONGEST_SENTENCE, &length) == JB_OK, "739 bytes are enough for every sentence");
+    const size_t size = *length;
+    memcpy(sentence, line_at.start, size);
+    const size_t room = any_room(size, LONGEST_LINE);
+    const uint32_t number = write_answer(&answer, room, &length);
+    expect(number == (room < size ? JB_NO_ROOM : JB_OK), "10 exactly if the room is short");
+    expect(number != JB_OK || (*length == size && memcmp(line_at.start, sentence, size) == 0), "the same sentence in any room");
+    expect(read_line(sentence, size, &told) == JB_OK, "a sentence is read");
+    expect(memcmp(&told, &answer, sizeof told) == 0, "the answer comes back as it was");
+    const bool still = is_sentence(sentence, damage_line(sentence, size));
+    still_sentences += still;
+    no_sentences += !still;
+}
+
+/* Any bytes as a line. */
+static void try_any_line(void) {
+    uint8_t line[LONGEST_LINE];
+    const size_t length = between(0, LONGEST_LINE);
+    for (size_t index = 0; index < length; index++) {
+        line[index] = any_byte_of_line();
+    }
+    expect(!is_sentence(line, length), "bytes by chance are no sentence");
 }
 
 static void make_buffers(void) {
@@ -1357,6 +1519,9 @@ static void make_buffers(void) {
     slack_at = new_buffer(sizeof(int32_t));
     out_at = new_buffer(JB_ROWS * sizeof(uint32_t));
     one_at = new_buffer(sizeof(jb_run));
+    line_at = new_buffer(LONGEST_LINE);
+    places_at = new_buffer(JB_ROWS);
+    answer_at = new_buffer(sizeof(jb_answer));
 }
 
 /* Prints how often each function gave each number; every number that it can give has come up. */
@@ -1395,6 +1560,8 @@ int main(int argc, char **argv) {
         try_forward();
         try_later();
         try_commit();
+        try_sentence();
+        try_any_line();
     }
     print_counts();
     printf("slots worked one by one: %" PRIu64 " loading, %" PRIu64 " other ones of a row\n", loading_slots, working_slots);
@@ -1411,6 +1578,8 @@ int main(int argc, char **argv) {
     expect(at_count[0] > 0 && at_count[1] > 0, "ceilings just high enough and just too low");
     printf("commits: %" PRIu64 " refused for a release, %" PRIu64 " with idle slots before the first one\n", late_starts, idle_starts);
     expect(late_starts > 0 && idle_starts > 0, "sheets start too early and later than they are committed");
+    printf("damaged sentences: %" PRIu64 " are another answer's, %" PRIu64 " are none\n", still_sentences, no_sentences);
+    expect(still_sentences > 0 && no_sentences > 0, "damage makes other sentences, and lines that are none");
     printf("least speeds: %" PRIu64 " the first of their range, %" PRIu64 " the last\n", range_ends[0], range_ends[1]);
     expect(range_ends[0] > 0 && range_ends[1] > 0, "both ends of the ranges come up");
     printf("%lu rounds, all held\n", rounds);

@@ -4,8 +4,9 @@
  * sheet written back, least speeds, reports, tables that are refused for K, a promised
  * part or a followed row, where a row of a run stands and how far it has loaded, LO rows
  * at their deadlines, needs, promised parts, rows that follow rows, planning at a ceiling,
- * new sheets that are asked for and committed, and the packed verdict taken apart. It says
- * how many things it looked at; exit status 1 if one is not as it should be.
+ * new sheets that are asked for and committed, answers as sentences and read back from them,
+ * and the packed verdict taken apart. It says how many things it looked at; exit status 1 if
+ * one is not as it should be.
  */
 #include "jasminebrace.h"
 
@@ -94,6 +95,7 @@ static void look_at_no_proposal(const char *sheet, size_t length, uint32_t numbe
 static void look_at_empty_lists(void) {
     jb_table table;
     jb_run run;
+    jb_answer answer;
     uint8_t order[JB_ROWS] = {1, 2};
     uint8_t text[JB_PROGRAM_TEXT];
     uint32_t yes;
@@ -110,6 +112,12 @@ static void look_at_empty_lists(void) {
     look(jb_write_table(&table, NULL, 0, &length) == JB_NO_ROOM && length == 0, "no room", 0);
     length = 7;
     look(jb_report_order(&table, order, NULL, 0, &length) == JB_NO_ROOM && length == 0, "no room for a report", 0);
+    length = 7;
+    look(jb_write_plan(JB_OK, 0, order, 3, NULL, 0, &length) == JB_NO_ROOM && length == 0, "no room for a plan's sentence", 0);
+    length = 7;
+    look(jb_write_verdict(JB_OK, 1, 1, 0, NULL, 0, &length) == JB_NO_ROOM && length == 0, "no room for a verdict's sentence", 0);
+    memset(&answer, 7, sizeof answer);
+    look(jb_read_answer(NULL, 0, &answer) == JB_MALFORMED && all_zero(&answer, sizeof answer), "no sentence", 0);
     look(jb_fresh_run(&table, order, &run) == JB_OK, "fresh", 0);
     look(jb_work_forward(&run, NULL, 0, &worked) == JB_OK && worked == 0 && run.clock == 0, "no supplies", 0);
 }
@@ -985,6 +993,86 @@ static void look_at_sheet_again(void) {
     look(jb_first_open(&run) == 0 && jb_first_released_before(&again, 2) == 0, "no row beyond", JB_ROWS);
 }
 
+/* An answer and its sentence, examples of rule 24.8. */
+typedef struct {
+    jb_answer answer;
+    const char *sentence;
+} sentence_case;
+
+static const sentence_case SENTENCE_CASES[] = {
+    {{JB_PLANNER, JB_OK, 0, {1, 2, 3, 4}, 6, 0, 0, 0},
+     "The planner answers number 0 (an order was made): 6 trials, 4 rows in the order (highest first: 1, 2, 3, 4), 0 rows left."},
+    {{JB_PLANNER, JB_NO_ORDER, 3, {0}, 2, 0, 0, 0},
+     "The planner answers number 7 (no correct order exists): 2 trials, 0 rows in the order, 2 rows left (1, 2)."},
+    {{JB_PLANNER, JB_OVER_CEILING, 0, {0}, 5, 0, 0, 0},
+     "The planner answers number 19 (refused: planning takes more trials than the ceiling): 5 trials, 0 rows in the order, 0 rows left."},
+    {{JB_PLANNER, 4000000000u, ((uint64_t)1 << 63) + 1, {0, 0, 255}, 1, 0, 0, 0},
+     "The planner answers number 4000000000 (a number without a meaning): 1 trial, 3 rows in the order (highest first: 0, 0, 255), "
+     "2 rows left (1, 64)."},
+    {{JB_JUDGE, JB_OK, 0, {0}, 0, 1, 1, 0}, "The judge says yes (number 0, the order is correct): tightest row 1, slack 0 slots."},
+    {{JB_JUDGE, JB_OK, 0, {0}, 0, 0, 1, -10}, "The judge says no (number 0, the order is not correct): tightest row 1, slack -10 slots."},
+    {{JB_JUDGE, JB_NOT_AN_ORDER, 0, {0}, 0, 0, 0, 0},
+     "The judge says no (number 6, refused: the numbers are not an order of the table): tightest row 0, slack 0 slots."},
+    {{JB_JUDGE, JB_OK, 0, {0}, 0, 7, UINT32_MAX, INT32_MIN},
+     "The judge says 7, neither yes nor no (number 0, an order was judged): tightest row 4294967295, slack -2147483648 slots."},
+};
+
+/* The sentence of an answer by the function for its kind. */
+static uint32_t write_answer(const jb_answer *answer, uint8_t *line, size_t room, uint32_t *length) {
+    return answer->kind == JB_PLANNER
+               ? jb_write_plan(answer->number, answer->left, answer->order, answer->trials, line, room, length)
+               : jb_write_verdict(answer->number, answer->yes, answer->row, answer->slack, line, room, length);
+}
+
+/* The bytes are read as this answer, or refused with zeros where none is named. */
+static void look_at_answer(const uint8_t *line, size_t length, const jb_answer *expected, unsigned index) {
+    jb_answer answer;
+    memset(&answer, 7, sizeof answer);
+    const uint32_t number = jb_read_answer(line, length, &answer);
+    look(number == (expected != NULL ? (uint32_t)JB_OK : (uint32_t)JB_MALFORMED), "number of a sentence, case", index);
+    look(expected != NULL ? memcmp(&answer, expected, sizeof answer) == 0 : all_zero(&answer, sizeof answer), "what a sentence tells, case", index);
+}
+
+/* A sentence in just its length, in a byte less and in all the room that any has; read back; and one byte more or less, which are no sentence. */
+static void look_at_sentences(void) {
+    uint8_t line[JB_LONGEST_SENTENCE];
+    for (unsigned index = 0; index < sizeof SENTENCE_CASES / sizeof SENTENCE_CASES[0]; index++) {
+        const sentence_case *expected = &SENTENCE_CASES[index];
+        const size_t size = strlen(expected->sentence);
+        uint32_t length = 7;
+        memset(line, 7, sizeof line);
+        look(write_answer(&expected->answer, line, size - 1, &length) == JB_NO_ROOM && length == 0, "a byte too few, sentence", index);
+        look(all_are(line, sizeof line, 7), "nothing is written, sentence", index);
+        for (unsigned more = 0; more < 2; more++) {
+            memset(line, 7, sizeof line);
+            look(write_answer(&expected->answer, line, more == 0 ? size : sizeof line, &length) == JB_OK, "number, sentence", index);
+            look(length == size && memcmp(line, expected->sentence, size) == 0, "bytes, sentence", index);
+            look(all_are(line + size, sizeof line - size, 7), "no byte 0 and no line end after it, sentence", index);
+        }
+        look_at_answer(line, size, &expected->answer, index);
+        look_at_answer(line, size - 1, NULL, index);
+        line[size] = '\n';
+        look_at_answer(line, size + 1, NULL, index);
+        line[size] = 0;
+        look_at_answer(line, size + 1, NULL, index);
+    }
+}
+
+/* The longest sentence of the planner and of the judge: 5 with all fields as long as they can be. */
+static void look_at_longest_sentences(void) {
+    jb_answer answers[2] = {{JB_PLANNER, JB_ROW_LIMITS, UINT64_MAX, {0}, UINT32_MAX, 0, 0, 0},
+                            {JB_JUDGE, JB_ROW_LIMITS, 0, {0}, 0, UINT32_MAX, UINT32_MAX, INT32_MIN}};
+    const uint32_t lengths[2] = {JB_LONGEST_SENTENCE, 177};
+    uint8_t line[JB_LONGEST_SENTENCE];
+    memset(answers[0].order, 255, sizeof answers[0].order);
+    for (unsigned index = 0; index < 2; index++) {
+        uint32_t length = 7;
+        look(write_answer(&answers[index], line, lengths[index] - 1, &length) == JB_NO_ROOM && length == 0, "a byte too few, longest", index);
+        look(write_answer(&answers[index], line, sizeof line, &length) == JB_OK && length == lengths[index], "longest sentence", length);
+        look_at_answer(line, length, &answers[index], index);
+    }
+}
+
 /* The list's verdict taken apart is the table's, slacks below zero too. */
 static void look_at_lists(void) {
     const jb_row rows[] = {{0, 2, 2, JB_LO, 0, 0}, {0, 4, 4, JB_HI, 0, 0}};
@@ -1033,6 +1121,8 @@ int main(void) {
     look_at_commits();
     look_at_refused_commits();
     look_at_sheet_again();
+    look_at_sentences();
+    look_at_longest_sentences();
     look_at_lists();
     printf("header: %u things looked at, %u not as they should be\n", looked_at, wrong);
     return wrong == 0 ? 0 : 1;

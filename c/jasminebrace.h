@@ -64,6 +64,14 @@
  * docs/BENCHMARKS.md say what it does for time. Every other call that plans makes as many
  * trials as it takes, and never answers 19.
  *
+ * Sentences. An answer of the planner at a ceiling, or of the judge, can be had as one line of
+ * English (jb_write_plan, jb_write_verdict), for a drawing, a log or a display, and the answer
+ * can be had back from the line (jb_read_answer). The line tells every field: all figures in
+ * decimal, slacks in slots with their sign, each row in the order and each row left. It has
+ * printable ASCII bytes alone (32 to 126), no line end and no byte 0 after it, and at most 739
+ * bytes (JB_LONGEST_SENTENCE). Two different answers never have the same line, which is proved,
+ * and the reader takes nothing but such lines, byte for byte.
+ *
  * Memory. Every pointer points to memory of the size that its parameter names,
  * aligned for its type. It is not null, but for one case: the functions of the
  * last part take null for a list, or for bytes to write to, where their length is
@@ -72,8 +80,9 @@
  * call. What is lent as const is never written. Results are written whole with
  * every answer, so that their memory need not be cleared before; what stands in
  * them after a refusal is said at each function. The exceptions are the memory
- * for a sheet and that for a report, which may have any length: jb_write writes
- * just the sheet's bytes and jb_report just the report's, and none with a refusal.
+ * for a sheet, that for a report and that for a sentence, which may have any length:
+ * jb_write writes just the sheet's bytes, jb_report just the report's, jb_plan_sentence and
+ * jb_judge_sentence just the sentence's, and none with a refusal.
  *
  * Threads and interrupts. A call touches what it is handed and its own stack,
  * and nothing else. Calls on different memory may run at the same time, and so
@@ -103,6 +112,9 @@
  *     jb_forward              16,896
  *     jb_commit               28,672
  *     jb_program              15,360
+ *     jb_plan_sentence         2,048
+ *     jb_judge_sentence        1,024
+ *     jb_read_sentence         3,072
  *     jb_version                 512
  * The functions of the last part add the few words of their own frame. But jb_need,
  * jb_allowance and jb_is_dropped_for_deadline call jb_finishes on a table of their
@@ -154,7 +166,8 @@
  *    a record, is again 256 bytes longer, the line of a row in a sheet 8 bytes; 13, 14
  *    and 15 are new, and 6 is given for a row that stands above the one it follows too.
  *    Its first archives have no jb_ask and no jb_commit; a commit alone gives 16, 17
- *    and 18. The next ones have no jb_plan_within, which alone gives 19.
+ *    and 18. The next ones have no jb_plan_within, which alone gives 19. Those after them have
+ *    no jb_plan_sentence, no jb_judge_sentence and no jb_read_sentence.
  */
 #define JB_VERSION 5u
 
@@ -190,6 +203,7 @@ enum jb_limit {
     JB_LONGEST_REPORT = 3285,  /* bytes in a report of 64 rows: 51 for each row + 21 */
     JB_PROGRAM_INPUT = 3170,   /* bytes of its input that the planning program looks at */
     JB_PROGRAM_TEXT = 1617,    /* most bytes that the planning program writes */
+    JB_LONGEST_SENTENCE = 739, /* most bytes in the sentence of an answer */
     JB_LAST_NUMBER = 19        /* largest number that a call returns */
 };
 
@@ -199,6 +213,12 @@ enum jb_level {
     JB_HI = 1  /* never dropped; late, it goes on until it is done */
 };
 
+/* Whose answer a sentence tells. */
+enum jb_kind {
+    JB_PLANNER = 1,
+    JB_JUDGE = 2
+};
+
 /*
  * The number that a call returns. jb_words and jb_remedy say what each means and
  * what to do about it. A table is checked for 3, 4 and 11, for 5 in every row, for 12 in
@@ -206,13 +226,15 @@ enum jb_level {
  * 6 comes after these, 10 last. A record whose table or order is refused by one of them
  * is unsound (9). A commit is checked for 9, then for these in its proposal, then for 16,
  * 17 and 18. Planning at a ceiling answers 19, or else 0 or 7, only if none of the checks on
- * its table refuses. jb_field, jb_program, jb_program_text and jb_version return no such
+ * its table refuses. Writing a sentence answers 0 or 10 and reading one 0 or 2, whatever number
+ * stands in the answer that it tells: that one is a figure like its others. jb_field, jb_program, jb_program_text and jb_version return no such
  * number, and jb_judge_rows returns a word in which it is packed.
  */
 enum jb_number {
     JB_OK = 0,           /* success */
     JB_LENGTH = 1,       /* the sheet's length is wrong */
-    JB_MALFORMED = 2,    /* a field or a line end of the sheet is malformed */
+    JB_MALFORMED = 2,    /* a field or a line end of the sheet is malformed, or the bytes are no
+                            answer's sentence */
     JB_ROW_COUNT = 3,    /* the row count is beyond its limits */
     JB_SPEEDS = 4,       /* a speed is beyond its limits */
     JB_ROW_LIMITS = 5,   /* a row is beyond its limits, or figures stand after the last */
@@ -243,7 +265,7 @@ static inline const char *jb_words(uint32_t number) {
     switch (number) {
     case JB_OK: return "success";
     case JB_LENGTH: return "the sheet has under 33 bytes, or not 33 + 49 for each row";
-    case JB_MALFORMED: return "a field or a line end of the sheet is malformed";
+    case JB_MALFORMED: return "a field or a line end of the sheet is malformed, or the bytes are no answer's sentence";
     case JB_ROW_COUNT: return "the row count is not 1 to 64";
     case JB_SPEEDS: return "N is not 1 to 1,000, or G is not 1 to N (work units per slot)";
     case JB_ROW_LIMITS:
@@ -275,7 +297,7 @@ static inline const char *jb_remedy(uint32_t number) {
     case JB_LENGTH: return "send the sheet whole, with nothing after it";
     case JB_MALFORMED:
         return "write each field as a decimal number right-justified in 8 bytes, with spaces before it and no leading "
-               "zero, and each line end as byte 10";
+               "zero, and each line end as byte 10; hand in a sentence as it was written, each byte of it and no other";
     case JB_ROW_COUNT: return "split the table, or give it a row";
     case JB_SPEEDS: return "correct the speeds";
     case JB_ROW_LIMITS: return "correct the row";
@@ -288,7 +310,8 @@ static inline const char *jb_remedy(uint32_t number) {
     case JB_UNSOUND:
         return "the record's memory was damaged, or it was stored by an earlier interface: bring up a record of interface 3 "
                "or 4 as docs/FIRMWARE.md says, else begin a new run with a fresh record";
-    case JB_NO_ROOM: return "lend more memory: 3,169 bytes hold every sheet, 3,285 bytes every report";
+    case JB_NO_ROOM:
+        return "lend more memory: 3,169 bytes hold every sheet, 3,285 bytes every report, 739 bytes every sentence";
     case JB_LOADING: return "correct K; where a job really takes longer to load, split it or make the slots longer";
     case JB_PROMISED:
         return "promise at most the row's work, and 0 work units on a HI row, all of whose work is promised at G";
@@ -349,6 +372,21 @@ typedef struct {
                                   dropped, for a LO row at most its deadline; 0 while it is open */
 } jb_run;
 
+/*
+ * What a sentence tells: an answer of the planner or of the judge. The fields of the other kind
+ * are 0. They hold what the line says, also such figures as no call answers.
+ */
+typedef struct {
+    uint32_t kind;          /* JB_PLANNER or JB_JUDGE; 0 if no answer was read */
+    uint32_t number;        /* that of the answer, which is told, and not that of reading it */
+    uint64_t left;          /* the planner's rows left, row 1 in the lowest bit */
+    uint8_t order[JB_ROWS]; /* the planner's order: numbers from the highest place down */
+    uint32_t trials;        /* the planner's, made */
+    uint32_t yes;           /* the judge's: 1 for yes, 0 for no, or any other figure */
+    uint32_t row;           /* the judge's row of least slack */
+    int32_t slack;          /* the judge's, in slots */
+} jb_answer;
+
 JB_STATIC_ASSERT(sizeof(jb_row) == 24, "a row is six words without gaps");
 JB_STATIC_ASSERT(sizeof(jb_table) == 1552, "a table is 388 words without gaps");
 JB_STATIC_ASSERT(sizeof(jb_table) == 4 * JB_TABLE_WORDS, "a table is 388 words without gaps");
@@ -370,6 +408,7 @@ JB_STATIC_ASSERT(offsetof(jb_run, got) == 1620, "the works got begin at word 1 o
 JB_STATIC_ASSERT(offsetof(jb_run, used) == 1876, "the slots used begin at word 65 of the state");
 JB_STATIC_ASSERT(offsetof(jb_run, closing) == 2132, "the closing slots begin at word 129 of the state");
 JB_STATIC_ASSERT(sizeof(jb_run) - offsetof(jb_run, clock) == 4 * JB_STATE_WORDS, "a state is 193 words without gaps");
+JB_STATIC_ASSERT(sizeof(jb_answer) == 96, "an answer is 96 bytes without gaps");
 JB_STATIC_ASSERT(JB_FIRST_LINE == 4 * JB_FIELD + 1, "the first line of a sheet has four fields");
 JB_STATIC_ASSERT(JB_ROW_LINE == 6 * JB_FIELD + 1, "the line of a row has six fields");
 JB_STATIC_ASSERT(JB_LONGEST_SHEET == JB_FIRST_LINE + JB_ROWS * JB_ROW_LINE, "the longest sheet has 64 rows");
@@ -423,6 +462,12 @@ uint32_t jb_forward(const uint32_t table[388], const uint8_t order[64], uint32_t
 uint32_t jb_commit(const uint32_t table[388], const uint8_t order[64], uint32_t run_table[388], uint8_t run_order[64],
                    uint32_t run_state[193]);
 uint32_t jb_program(const uint8_t *input, size_t length, uint8_t text[1617]);
+uint32_t jb_plan_sentence(uint32_t number, uint64_t left, const uint8_t order[64], uint32_t trials, uint8_t *line, size_t room,
+                          uint32_t *length);
+uint32_t jb_judge_sentence(uint32_t number, uint32_t yes, uint32_t row, int32_t slack, uint8_t *line, size_t room,
+                           uint32_t *length);
+uint32_t jb_read_sentence(const uint8_t *line, size_t length, uint32_t *kind, uint32_t *number, uint64_t *left,
+                          uint8_t order[64], uint32_t *trials, uint32_t *yes, uint32_t *row, int32_t *slack);
 
 /* The number of the archive's interface, for jb_fits. */
 uint32_t jb_version(void);
@@ -686,6 +731,53 @@ static inline uint32_t jb_report_order(const jb_table *table, const uint8_t orde
                                        uint32_t *length) {
     uint8_t none = 0;
     return jb_report(jb_table_words(table), order, room == 0 ? &none : report, room, length);
+}
+
+/*
+ * Writes the sentence of a planner's answer: one line that tells the number and what it means,
+ * the trials, the rows in the order from the highest place down, and the rows left. Hand in what
+ * jb_plan_table_within answered, or a sheet's refusal by jb_read_table with zeros. The bytes are
+ * the line's alone: no byte 0 and no line end is written after them.
+ * In:      number, left, order and trials, any values; line, memory of room bytes, any length
+ *          (JB_LONGEST_SENTENCE is enough for every answer) and any values; null is allowed
+ *          with 0.
+ * Out:     0; length is the sentence's length in bytes, and the first length bytes of line are
+ *          the sentence. The bytes after them are as they were.
+ * Refused: 10 if room is below the sentence's length; length is then 0 and no byte of line is
+ *          written. Nothing else is checked.
+ */
+static inline uint32_t jb_write_plan(uint32_t number, uint64_t left, const uint8_t order[JB_ROWS], uint32_t trials,
+                                     uint8_t *line, size_t room, uint32_t *length) {
+    uint8_t none = 0;
+    return jb_plan_sentence(number, left, order, trials, room == 0 ? &none : line, room, length);
+}
+
+/*
+ * Writes the sentence of a judge's answer, as jb_write_plan does: the verdict, the number and
+ * what it means, the row of least slack, and that slack in slots with a minus if it is below 0.
+ * In:      number, yes, row and slack as jb_judge_order answers them, any values; line and room
+ *          as for jb_write_plan.
+ * Out:     as jb_write_plan.
+ * Refused: as jb_write_plan.
+ */
+static inline uint32_t jb_write_verdict(uint32_t number, uint32_t yes, uint32_t row, int32_t slack, uint8_t *line, size_t room,
+                                        uint32_t *length) {
+    uint8_t none = 0;
+    return jb_judge_sentence(number, yes, row, slack, room == 0 ? &none : line, room, length);
+}
+
+/*
+ * Reads the answer back from its sentence. What jb_write_plan and jb_write_verdict write is read
+ * as the answer that they were handed, and nothing else is read: a line end, a space or a byte 0
+ * too many is refused as a wrong word is.
+ * In:      line, length bytes; any bytes, any length; null is allowed with 0.
+ * Out:     0; answer holds the kind and the answer that was told.
+ * Refused: 2 if the bytes are no answer's sentence; answer is then all zero.
+ */
+static inline uint32_t jb_read_answer(const uint8_t *line, size_t length, jb_answer *answer) {
+    const uint8_t none = 0;
+    return jb_read_sentence(length == 0 ? &none : line, length, &answer->kind, &answer->number, &answer->left, answer->order,
+                            &answer->trials, &answer->yes, &answer->row, &answer->slack);
 }
 
 /*

@@ -40,6 +40,24 @@ holds() {
         *) grep -qxF -- "$2" "$1" ;;
     esac
 }
+# refusal_is STATUS NUMBER ERR ARGUMENTS..: the same of a refusal by this number. Standard output is empty; plan and judge tell it there as one
+# sentence, which is read back.
+refusal_is() {
+    local status=$1 number=$2 err=$3
+    shift 3
+    case $1 in
+        plan) case_is "$status" '*' "$err" "$@" && tells 1 "$number" "$*" ;;
+        judge) case_is "$status" '*' "$err" "$@" && tells 2 "$number" "$*" ;;
+        *) case_is "$status" '' "$err" "$@" ;;
+    esac
+}
+# tells KIND NUMBER WORDS: standard output is one line, the sentence of the planner's (1) or the judge's (2) answer with this number.
+tells() {
+    local told
+    told=$("$command" read-sentence --plain out 2>&1) || true
+    [ "$(wc -l <out)" -eq 1 ] || complain "$3: not one line"
+    [[ $told == "0 $1 $2 "* ]] || complain "$3: not a sentence of number $2"
+}
 also_out() { holds out "$1" || complain "standard output lacks '$1'"; }
 also_err() { holds err "$1" || complain "standard error lacks '$1'"; }
 # A sheet from lines; the line ends are written here.
@@ -65,9 +83,9 @@ refused_at() {
     [ "$(grep -c '^allowed: ' out)" -eq "$allowed" ] || complain "explain $file: not $allowed lines on what is allowed"
     plain=$(printf '%8s%8s%8s%8s%8s' "$number" "$row" "$field" "$byte" "$line_number")
     case_is "$status" "$plain" '' explain --plain "$file"
-    case_is "$status" '' "$place" plan "$file"
+    refusal_is "$status" "$number" "$place" plan "$file"
     case_is "$status" "$(printf '%8s%8s' "$number" 0)" "$place" plan --plain "$file"
-    case_is "$status" '' "$place" judge "$file" 1
+    refusal_is "$status" "$number" "$place" judge "$file" 1
     case_is "$status" '' "$place" finishes "$file"
     case_is "$status" "$(printf '%8s%8s' "$number" 0)" "$place" finishes --plain "$file"
     case_is "$status" '' "$place" report "$file"
@@ -89,11 +107,12 @@ refused_at() {
 }
 
 # ---- orders, yes and no: status 0 and 1 ----
-case_is 0 'a correct order of 4 rows, highest place first' '' plan p1.sheet
+case_is 0 'The planner answers number 0 (an order was made): 6 trials, 4 rows in the order (highest first: 1, 2, 3, 4), 0 rows left.' '' plan p1.sheet
 also_out 'place 2: row 2 (LO), slack 2 slots'
 also_out 'place 4: row 4 (LO), slack 0 slots'
 case_is 0 'place 1: row 3 (HI), slack 0 slots' '' plan p2.sheet
-case_is 1 '' 'number 7: no correct order exists' plan p3.sheet
+refusal_is 1 7 'number 7: no correct order exists' plan p3.sheet
+also_out 'The planner answers number 7 (no correct order exists): 2 trials, 0 rows in the order, 2 rows left (1, 2).'
 also_err 'rows left: 1 2'
 also_err 'remedy: give the rows left later deadlines, less work, smaller promised parts or fewer waits, the processor more speed, or the table a smaller K'
 # What a 7 does not say is said beside it, by everything that plans.
@@ -110,13 +129,13 @@ for words in 'finishes p3.sheet' 'report p3.sheet' 'run p3.sheet 5'; do
 done
 # No order of this sheet is correct, and yet 1, 2, 3 serves: at G row 2 is dropped at its deadline, and row 3 has the slot after it.
 "$command" sheet 2 1 0 0,2,2,HI 0,3,3,LO 0,1,4,HI >serves.sheet
-case_is 1 '' 'rows left: 1 2 3' plan serves.sheet
+refusal_is 1 7 'rows left: 1 2 3' plan serves.sheet
 also_err "$not_said"
 case_is 0 'slot 2: row 2, supply 1 work units, got 1 of 3 work units, dropped at clock 3, its deadline' '' run serves.sheet --order 1,2,3 4x1
 also_out 'slot 1: row 1, supply 1 work units, got 2 of 2 work units, done at clock 2'
 also_out 'slot 3: row 3, supply 1 work units, got 1 of 1 work units, done at clock 4'
-case_is 1 'no: the order is not correct' '' judge serves.sheet 1 2 3
-also_out 'least slack: row 3 (HI), -1 slot'
+case_is 1 'The judge says no (number 0, the order is not correct): tightest row 3, slack -1 slot.' '' judge serves.sheet 1 2 3
+also_out 'tightest: row 3 (HI)'
 case_is 1 '       7       0       0       0       0' '' explain --plain p3.sheet
 also_out '       1'
 also_out '       2'
@@ -128,13 +147,15 @@ case_is 1 '       7       2' 'rows left: 1 2' report --plain p3.sheet
 case_is 1 '' 'rows left: 1 2' run p3.sheet 5
 case_is 0 'number 0: nothing is wrong; the sheet has 4 rows and a correct order' '' explain p1.sheet
 case_is 0 '       0       0       0       0       0' '' explain --plain p1.sheet
-case_is 0 'yes: the order is correct' '' judge p1.sheet 1 2 3 4
-also_out 'least slack: row 1 (HI), 0 slots'
+p1_correct='The judge says yes (number 0, the order is correct): tightest row 1, slack 0 slots.'
+case_is 0 "$p1_correct" '' judge p1.sheet 1 2 3 4
+also_out 'tightest: row 1 (HI)'
+[ "$(wc -l <out)" -eq 2 ] || complain "judge p1.sheet 1 2 3 4: not two lines"
 case_is 0 '       0       1       1       0       0' '' judge --plain p1.sheet 1,2,3,4
-case_is 1 'no: the order is not correct' '' judge p1.sheet 4,3 2 1
-also_out 'least slack: row 1 (HI), -10 slots'
+case_is 1 'The judge says no (number 0, the order is not correct): tightest row 1, slack -10 slots.' '' judge p1.sheet 4,3 2 1
+also_out 'tightest: row 1 (HI)'
 case_is 1 '       0       0       1       0      10' '' judge p1.sheet 4 3 2 1 --plain
-case_is 1 'least slack: row 2 (HI), -1 slot' '' judge p3.sheet 1 2
+case_is 1 'The judge says no (number 0, the order is not correct): tightest row 2, slack -1 slot.' '' judge p3.sheet 1 2
 case_is 0 'row 3 (HI): worst finish 19 slots, deadline 19 slots, slack 0 slots' '' finishes p1.sheet
 also_out 'order: 1 2 3 4'
 case_is 0 'row 1 (LO): worst finish 1 slot, deadline 2 slots, slack 1 slot' '' finishes p3.sheet 1 2
@@ -145,7 +166,7 @@ no_order='number 6: the order does not name every row once and then only zeros, 
 each_once='remedy: give each row of the table once, highest place first, each below the row that it follows'
 for order in '1 1 3 4' '1 2 3' '1 2 3 4 4' '1 2 3 5' '0 1 2 3 4' '1 2 3 4 0 1' '1 2 3 255' '1 2 3 256' '1 2 3 260' '1 2 3 4294967295'; do
     # shellcheck disable=SC2086 # the order is several words
-    case_is 2 '' "$no_order" judge p1.sheet $order
+    refusal_is 2 6 "$no_order" judge p1.sheet $order
     also_err "$each_once"
     [ "$(wc -l <err)" -eq 2 ] || complain "judge p1.sheet $order: not two lines"
     # shellcheck disable=SC2086
@@ -160,7 +181,7 @@ for order in '1 1 3 4' '1 2 3' '1 2 3 4 4' '1 2 3 5' '0 1 2 3 4' '1 2 3 4 0 1' '
     [ "$(wc -l <out)" -eq 1 ] || complain "speeds --slacks --plain p1.sheet $order: more than a refusal"
     case_is 2 '' "$no_order" run p1.sheet 5 --order "${order// /,}"
 done
-case_is 0 'yes: the order is correct' '' judge p1.sheet 1 2 3 4 0 0
+case_is 0 "$p1_correct" '' judge p1.sheet 1 2 3 4 0 0
 
 # ---- reports ----
 heading() {
@@ -324,7 +345,7 @@ also_err 'number 7: no G from 1 to 1000 work units per slot has a correct order'
 also_err 'number 7: no N from 1000 to 1000 work units per slot has a correct order'
 # The rows left are those at the largest speed of each range; with the sheet's own speeds all three are.
 "$command" sheet 10 1 0 0,100,5,1 0,50,30,1 0,60,20,0 >left.sheet
-case_is 1 '' 'rows left: 1 2 3' plan left.sheet
+refusal_is 1 7 'rows left: 1 2 3' plan left.sheet
 case_is 1 'rows left at G = 10 work units per slot: 1' '' speeds left.sheet
 also_out 'rows left at N = 1000 work units per slot: 1 2'
 # Of each sample: the orders are those of plan at that speed, and one below it there is none.
@@ -341,8 +362,8 @@ for sheet in p1.sheet p2.sheet p3.sheet rows64.sheet loading.sheet cooler.sheet 
         complain "speeds $sheet: not the order of plan at G $least_degraded"
     at_speeds "$sheet" "$least_normal" "$degraded" | "$command" plan --plain - | tail -n +2 | cmp -s - normal.places ||
         complain "speeds $sheet: not the order of plan at N $least_normal"
-    [ "$least_degraded" -eq 1 ] || { at_speeds "$sheet" "$normal" $((least_degraded - 1)) >less.sheet && case_is 1 '' '*' plan less.sheet; }
-    [ "$least_normal" -eq "$degraded" ] || { at_speeds "$sheet" $((least_normal - 1)) "$degraded" >less.sheet && case_is 1 '' '*' plan less.sheet; }
+    [ "$least_degraded" -eq 1 ] || { at_speeds "$sheet" "$normal" $((least_degraded - 1)) >less.sheet && refusal_is 1 7 '*' plan less.sheet; }
+    [ "$least_normal" -eq "$degraded" ] || { at_speeds "$sheet" $((least_normal - 1)) "$degraded" >less.sheet && refusal_is 1 7 '*' plan less.sheet; }
     # Under the order at the least G: the judge's verdict at each G, yes from the least on.
     order=$(awk '{ printf "%s%s", comma, $2; comma = "," }' degraded.places)
     other=$([ "$sheet" = lifting.sheet ] && echo 1,2,4,3 || seq -s , "$rows" -1 1) # it keeps the waits of that one
@@ -360,8 +381,9 @@ for sheet in p1.sheet p2.sheet p3.sheet rows64.sheet loading.sheet cooler.sheet 
             "$command" judge --plain one.sheet "$taken" >judged || true
             sed "s/^.\{16\}/$(printf '%8s' "$speed")/" judged >judged.slack
             tail -n +$((rows + 1 + speed)) plain | head -n 1 | cmp -s - judged.slack || complain "speeds --slacks $sheet $given: not the judge's at G $speed"
-            { "$command" judge one.sheet "$taken" || true; } | sed 'N; s/^yes:.*\n/correct, /; s/^no:.*\n/not correct, /' >judged
-            sed -n "${speed}s/^G = $speed work units* per slot: //p" said | cmp -s - judged || complain "speeds --slacks $sheet $given: not the judge's words at G $speed"
+            { "$command" judge one.sheet "$taken" || true; } |
+                sed -n 's/^The judge says .*, the order is \(.*\)): tightest row \(.*\), slack \(.*\)\.$/\1, least slack: row \2, \3/p' >judged
+            sed -n "${speed}s/^G = $speed work units* per slot: //p" said | sed 's/ ([HL][IO]),/,/' | cmp -s - judged || complain "speeds --slacks $sheet $given: not the judge's words at G $speed"
         done
         if [ "$taken" = "$order" ]; then
             [ "$(grep -n -m 1 ': correct, ' said | cut -d : -f 1)" -eq "$least_degraded" ] || complain "speeds --slacks $sheet: not correct from G $least_degraded on"
@@ -592,7 +614,8 @@ case_is 0 'row 2 (LO): worst finish 7 slots, promised part at 10 slots, deadline
 also_out 'row 3 (LO): worst finish 10 slots, deadline 17 slots, slack 7 slots'
 case_is 0 '       2       7      12       2       0      10' '' finishes --plain promise.sheet
 also_out '       4      13      16       3       0       0'
-case_is 1 'least slack: row 2 (LO), -1 slot' '' judge promise.sheet 1,4,2,3
+case_is 1 'tightest: row 2 (LO)' '' judge promise.sheet 1,4,2,3
+also_out 'The judge says no (number 0, the order is not correct): tightest row 2, slack -1 slot.'
 case_is 0 'row 2 (LO): worst finish 9 slots, promised part at 13 slots, deadline 12 slots, slack -1 slot' '' finishes promise.sheet 1,4,2,3
 lines '1 1 2 6 2' '2 4 2 9 7' '3 2 5 9 -1' '4 3 1 10 7' '10 1' | report_is promise.sheet 1 4 2 3
 lines '1 1 2 6 2' '2 2 5 7 2' '3 4 2 13 3' '4 3 1 10 7' '10 0' | report_is promise.sheet
@@ -678,7 +701,7 @@ also_out 'place 3: row 1 (HI), slack 2 slots'
 case_is 0 'place 3: row 2 (HI, follows row 1), slack 2 slots' '' speeds lifting.sheet
 # An order that has a row above the one that it follows is refused like one that is none, and the first such row is named with both places.
 while IFS='|' read -r order where; do
-    case_is 2 '' "$no_order" judge lifting.sheet "$order"
+    refusal_is 2 6 "$no_order" judge lifting.sheet "$order"
     also_err "where: $where"
     also_err "$each_once"
     [ "$(wc -l <err)" -eq 3 ] || complain "judge lifting.sheet $order: not three lines"
@@ -695,11 +718,15 @@ done <<'ORDERS'
 3,4,1,2|place 1, row 3: it follows row 2, which stands below it, in place 4
 ORDERS
 for order in 2,1,3 2,2,1,3 4,2,1,3,3; do
-    case_is 2 '' "$no_order" judge lifting.sheet "$order"
+    refusal_is 2 6 "$no_order" judge lifting.sheet "$order"
     ! grep -q '^where: ' err || complain "judge lifting.sheet $order: a place"
 done
-case_is 0 'yes: the order is correct' '' judge lifting.sheet 4,1,2,3
-case_is 0 'yes: the order is correct' '' judge no-waits.sheet 4,2,1,3
+case_is 0 'The judge says yes (number 0, the order is correct): tightest row 4, slack 1 slot.' '' judge lifting.sheet 4,1,2,3
+case_is 0 'The judge says yes (number 0, the order is correct): tightest row 4, slack 1 slot.' '' judge no-waits.sheet 4,2,1,3
+# The tightest row is named with the row that it follows.
+"$command" sheet 1 1 0 0,1,9,LO 0,1,2,LO,0,1 >tight.sheet
+case_is 0 'The judge says yes (number 0, the order is correct): tightest row 2, slack 0 slots.' '' judge tight.sheet 1 2
+also_out 'tightest: row 2 (LO, follows row 1)'
 # A follower does not run before the row that it follows is closed, however it is; of an open one it is said for which row it waits.
 works --stretches lifting.sheet '2x4 2x3 6x4' <<'STRETCHES'
 order: 4 1 2 3
@@ -750,7 +777,7 @@ for sheet in lifting.sheet dropped.sheet many-waits.sheet; do
 done
 # No correct order, and whether there is one without waits; nothing of that where no row follows another.
 "$command" sheet 1 1 0 0,1,9,LO 0,1,1,LO,0,1 >urgent.sheet
-case_is 1 '' 'waits: without them a correct order exists' plan urgent.sheet
+refusal_is 1 7 'waits: without them a correct order exists' plan urgent.sheet
 also_err 'number 7: no correct order exists'
 also_err 'rows left: 1 2'
 also_err "$not_said"
@@ -761,7 +788,7 @@ case_is 1 '       7       2' 'waits: without them a correct order exists' finish
 without_waits urgent.sheet >no-waits.sheet
 case_is 0 'place 1: row 2 (LO), slack 0 slots' '' plan no-waits.sheet
 "$command" sheet 2 1 0 0,2,2,LO 0,4,4,HI 0,1,9,LO,0,1 >hopeless.sheet
-case_is 1 '' 'waits: without them no correct order exists either' plan hopeless.sheet
+refusal_is 1 7 'waits: without them no correct order exists either' plan hopeless.sheet
 # The remedy for a range of speeds names fewer waits where they can help.
 "$command" sheet 1 1 0 0,1000,9,LO 0,1,2,LO,0,1 0,1,9,HI >slow-wait.sheet
 case_is 1 'remedy: give the rows left later deadlines or less work, or the processor a larger N' '' speeds slow-wait.sheet
@@ -1041,7 +1068,7 @@ for sheet in p1.sheet p2.sheet p3.sheet rows64.sheet; do
     for words in 'plan before.sheet' 'rows before.sheet' 'judge before.sheet 1' 'finishes before.sheet' 'report before.sheet' 'run before.sheet 5' \
         'speeds before.sheet' 'speeds --slacks before.sheet'; do
         # shellcheck disable=SC2086 # several words
-        case_is 2 '' "$missing" $words
+        refusal_is 2 2 "$missing" $words
     done
     told=$(sed -n "s/.*: \(sed .*\) SHEET$/\1/p" err)
     bash -c "$told before.sheet" | cmp -s - "$sheet" || complain "$sheet from before K is not brought up by: $told"
@@ -1130,7 +1157,7 @@ brought_up() { # SHEET PLACE NUMBER HINT: older.sheet is refused with this numbe
     for words in 'plan older.sheet' 'rows older.sheet' 'judge older.sheet 1' 'finishes older.sheet' 'report older.sheet' 'run older.sheet 5' \
         'speeds older.sheet' 'speeds --slacks older.sheet'; do
         # shellcheck disable=SC2086 # several words
-        case_is 2 '' "$4" $words
+        refusal_is 2 "$3" "$4" $words
     done
     told=$(sed -n "s/.*: \(sed .*\) SHEET$/\1/p" err)
     bash -c "$told older.sheet" | cmp -s - "$1" || complain "$1 is not brought up by: $told"
@@ -1686,10 +1713,10 @@ hinted() { # BYTE of the sheet that is at fault
     [ "$(tail -n 1 out)" = "$hint" ] || complain "explain given.csv: the hint is not last"
     case_is 2 "       2       0       1$(printf '%8s' "$1")       1" '' explain --plain given.csv
     [ "$(wc -l <out)" -eq 1 ] || complain "explain --plain given.csv: not one line"
-    case_is 2 '' "$hint" plan given.csv
+    refusal_is 2 2 "$hint" plan given.csv
     case_is 2 '       2       0' "$hint" plan --plain given.csv
     case_is 2 '' "$hint" rows given.csv
-    case_is 2 '' "$hint" judge given.csv 1
+    refusal_is 2 2 "$hint" judge given.csv 1
     case_is 2 '       2       0' "$hint" finishes --plain given.csv
     case_is 2 '' "$hint" report given.csv
     case_is 2 '' "$hint" speeds given.csv
@@ -1714,14 +1741,119 @@ done
 case_is 1 '*' '' explain p3.sheet
 ! grep -q '^hint: ' out || complain "explain p3.sheet: a hint"
 
+# ---- verdicts as sentences ----
+# Where both streams go to one place the sentence comes first, before the explanation on standard error.
+for words in 'plan p3.sheet' 'plan --ceiling 5 p1.sheet' 'judge p1.sheet 1 1 3 4' 'plan letter.sheet' 'judge letter.sheet 1'; do
+    cases=$((cases + 1))
+    # shellcheck disable=SC2086 # several words
+    { "$command" $words || true; } >out 2>&1
+    head -n 1 out | "$command" read-sentence - >/dev/null 2>err || complain "$words: the sentence is not first"
+    [ "$(wc -l <out)" -gt 2 ] || complain "$words: no explanation after the sentence"
+done
+# Where arguments or a file cannot be used no answer is told.
+case_is 3 '' 'jasminebrace: nowhere.sheet cannot be opened: No such file or directory' judge nowhere.sheet 1
+case_is 3 '' 'jasminebrace: nowhere.sheet cannot be opened: No such file or directory' plan --ceiling 5 nowhere.sheet
+# Read back: every figure with its name, in words and as figures for a script.
+read_back_as() { # FILE FIGURES: standard input has the lines
+    cat >expected
+    case_is 0 '*' '' read-sentence "$1"
+    cmp -s out expected || complain "read-sentence $1: not as it should be"
+    case_is 0 "$2" '' read-sentence --plain "$1"
+    [ "$(wc -l <out)" -eq 1 ] || complain "read-sentence --plain $1: not one line"
+}
+"$command" plan p1.sheet | sed -n 1p >p1.sentence
+read_back_as p1.sentence '0 1 0 6 0 0 0 4 0 1 2 3 4' <<'ANSWER'
+answer of: the planner
+number 0: success
+trials made: 6 trials
+order: 4 rows, highest first: 1 2 3 4
+rows left: 0 rows
+ANSWER
+{ "$command" plan p3.sheet 2>err || true; } | tr -d '\n' >p3.sentence
+read_back_as p3.sentence '0 1 7 2 0 0 0 0 2 1 2' <<'ANSWER'
+answer of: the planner
+number 7: no correct order exists
+trials made: 2 trials
+order: 0 rows
+rows left: 2 rows: 1 2
+ANSWER
+{ "$command" judge p1.sheet 4 3 2 1 || true; } | sed -n '1s/$/\r/p' >no.sentence
+read_back_as no.sentence '0 2 0 0 0 1 -10 0 0' <<'ANSWER'
+answer of: the judge
+number 0: success
+correct: no
+tightest row: 1
+slack: -10 slots
+ANSWER
+{ "$command" judge p1.sheet 1,1,3,4 2>err || true; } >six.sentence
+read_back_as six.sentence '0 2 6 0 0 0 0 0 0' <<'ANSWER'
+answer of: the judge
+number 6: the order does not name every row once and then only zeros, or has a row above the one that it follows
+correct: no
+tightest row: 0
+slack: 0 slots
+ANSWER
+# Figures that no call answers: they are told as they are.
+lines 'The planner answers number 4000000000 (a number without a meaning): 1 trial, 1 row in the order (highest first: 255), 1 row left (64).' >absurd.sentence
+read_back_as absurd.sentence '0 1 4000000000 1 0 0 0 1 1 255 64' <<'ANSWER'
+answer of: the planner
+number 4000000000: this number is never returned
+trials made: 1 trial
+order: 1 row, highest first: 255
+rows left: 1 row: 64
+ANSWER
+lines 'The judge says 7, neither yes nor no (number 0, an order was judged): tightest row 4294967295, slack -1 slot.' >absurd.sentence
+read_back_as absurd.sentence '0 2 0 0 7 4294967295 -1 0 0' <<'ANSWER'
+answer of: the judge
+number 0: success
+correct: 7, neither yes (1) nor no (0)
+tightest row: 4294967295
+slack: -1 slot
+ANSWER
+case_in=p1.sentence
+case_is 0 'trials made: 6 trials' '' read-sentence -
+case_in=/dev/null
+# What is no sentence: 2, where that can be seen, and what would be right; zeros for a script.
+not_read() { # WHERE ('' where nothing is said of it): standard input is the file
+    cat >given.sentence
+    case_is 2 '' "number 2: a field or a line end of the sheet is malformed, or the bytes are no answer's sentence" read-sentence given.sentence
+    also_err 'right: the first line of plan, as: The planner answers number 0 (an order was made): 3 trials, 2 rows in the order (highest first: 2, 1), 0 rows left.'
+    also_err 'right: the first line of judge, as: The judge says no (number 0, the order is not correct): tightest row 2, slack -10 slots.'
+    grep -q '^remedy: ' err || complain "read-sentence given.sentence: no remedy"
+    [ "$(sed -n 's/^where: //p' err)" = "$1" ] || complain "read-sentence given.sentence: not '$1'"
+    case_is 2 '2 0 0 0 0 0 0 0 0' '*' read-sentence --plain given.sentence
+    # What is right is right.
+    sed -n 's/^right: .*, as: //p' err | while read -r right; do
+        "$command" read-sentence - <<<"$right" >/dev/null 2>&1 || complain "read-sentence given.sentence: '$right' is no sentence"
+    done
+}
+printf '' | not_read 'there are no bytes, or a line end alone'
+printf '\r\n' | not_read 'there are no bytes, or a line end alone'
+sed 's/ / &/' p1.sentence | not_read ''
+sed 's/6 trials/06 trials/' p1.sentence | not_read ''
+sed 's/-10 slots/-1 slots/' no.sentence | not_read ''
+sed 's/4 rows/5 rows/' p1.sentence | not_read ''
+cat p1.sentence no.sentence | not_read 'byte 122: a line end (byte 10), and more after it'
+{ cat p1.sentence && echo; } | not_read 'byte 122: a line end (byte 10), and more after it'
+sed 's/\.$//' p1.sentence | not_read "byte 120: 't' (byte 116) where the full stop belongs, at the end"
+sed 's/$/ /' p1.sentence | not_read 'byte 122: a space (byte 32) where the full stop belongs, at the end'
+printf '%740s' . | not_read 'byte 740: no sentence has so many bytes'
+printf '%739s' . | not_read ''
+printf '%5000s' . | not_read 'byte 740: no sentence has so many bytes'
+cat p1.sheet | not_read 'byte 33: a line end (byte 10), and more after it'
+case_is 3 '' "jasminebrace: the name of the sentence's file is empty" read-sentence ''
+case_is 3 '' 'jasminebrace: nowhere.sentence cannot be opened: No such file or directory' read-sentence nowhere.sentence
+case_is 3 '' 'jasminebrace: read-sentence takes 1 argument; 2 given' read-sentence p1.sentence p3.sentence
+case_is 3 '' 'jasminebrace: read-sentence takes 1 argument; 0 given' read-sentence
+
 # ---- standard input ----
 case_in=p1.sheet
 case_is 0 'place 1: row 1 (HI), slack 0 slots' '' plan -
-case_is 0 'yes: the order is correct' '' judge - 1 2 3 4
+case_is 0 "$p1_correct" '' judge - 1 2 3 4
 case_in=/dev/null
-case_is 2 '' 'length: the sheet has 0 bytes; a first line alone takes 33' plan -
+refusal_is 2 1 'length: the sheet has 0 bytes; a first line alone takes 33' plan -
 case_in=/dev/zero
-case_is 2 '' 'where: first line, row count n, byte 1 (line 1, byte 1 of it): byte 0 where a space or a digit belongs' plan -
+refusal_is 2 2 'where: first line, row count n, byte 1 (line 1, byte 1 of it): byte 0 where a space or a digit belongs' plan -
 case_in=/dev/null
 cases=$((cases + 2))
 ended_with() { [ "$status" -eq "$1" ] && holds out "$2" && holds err "$3"; }
@@ -1800,7 +1932,8 @@ done
 for bad in x -1 1.5 '' 5x x5 0x5 1000X5 2x2x2 4294967296 1x4294967296 99999999999999999999x1 ' 5'; do
     case_is 3 '' "jasminebrace: not a supply from 0 to 4294967295, nor a count from 1 and a supply as 1000x5: '$bad'" run p1.sheet 5 "$bad"
 done
-case_is 2 '' 'number 19: planning the table takes more trials than the ceiling' plan --ceiling 5 p1.sheet
+refusal_is 2 19 'number 19: planning the table takes more trials than the ceiling' plan --ceiling 5 p1.sheet
+also_out 'The planner answers number 19 (refused: planning takes more trials than the ceiling): 5 trials, 0 rows in the order, 0 rows left.'
 case_is 3 '' 'jasminebrace: --ceiling belongs to plan' judge p1.sheet --ceiling 5 1
 ln -s loop.sheet loop.sheet
 case_is 3 '' 'jasminebrace: loop.sheet cannot be opened: Too many levels of symbolic links' plan loop.sheet
@@ -1811,7 +1944,7 @@ if [ "$(id -u)" -ne 0 ]; then
 fi
 for words in 'plan p1.sheet' 'plan --plain p1.sheet' 'judge p1.sheet 1 2 3 4' 'finishes p1.sheet' 'report p1.sheet' \
     'report --plain rows64.sheet' 'speeds p1.sheet' 'speeds --slacks --plain p1.sheet' 'run p1.sheet 5' 'run p1.sheet 2000000x5' 'day p1.sheet 11x5 then second.sheet 9x5' 'day p1.sheet 5 then second.sheet 5' 'explain p1.sheet' 'explain p3.sheet' \
-    'sheet 5 2 0 0,20,10,1' 'sheet p1.csv' 'rows p1.sheet' '--help' '--version'; do
+    'sheet 5 2 0 0,20,10,1' 'sheet p1.csv' 'rows p1.sheet' 'plan p3.sheet' 'judge p1.sheet 1 1' 'read-sentence p1.sentence' 'read-sentence --plain p1.sheet' '--help' '--version'; do
     cases=$((cases + 1))
     for full in /dev/full closed; do
         status=0
@@ -1827,7 +1960,7 @@ done
 # ---- help and version ----
 case_is 0 'usage: jasminebrace COMMAND [--plain] ARGUMENTS' '' --help
 case_is 0 "jasminebrace, interface $(sed -n 's/^#define JB_VERSION \([0-9]*\)u$/\1/p' "$root/c/jasminebrace.h")" '' --version
-for name in plan judge finishes report speeds run day explain sheet rows; do
+for name in plan judge finishes report speeds run day explain sheet rows read-sentence; do
     case_is 0 '*' '' "$name" --help
     grep -q "^usage: jasminebrace $name " out || complain "$name --help: no usage"
     grep -q -- '--plain' out || complain "$name --help: nothing on --plain"

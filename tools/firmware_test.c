@@ -1011,6 +1011,74 @@ static void list_of_jobs(void) {
     puts("the list of all jobs: the same at any clock, no slack below 0 slots exactly if the order is correct; 10 writes nothing");
 }
 
+/* An answer's sentence by the call for its kind. */
+static uint32_t told(const jb_answer *answer, uint8_t *line, size_t room, uint32_t *length) {
+    return answer->kind == JB_PLANNER
+               ? jb_write_plan(answer->number, answer->left, answer->order, answer->trials, line, room, length)
+               : jb_write_verdict(answer->number, answer->yes, answer->row, answer->slack, line, room, length);
+}
+
+/* A sentence within the room that is enough for all, with no byte 0 and no line end after it; 10 with a byte too few; and it is read back. */
+static void sentence_of(const jb_answer *answer) {
+    uint8_t line[JB_LONGEST_SENTENCE + 1];
+    jb_answer back;
+    uint32_t length, other;
+    memset(line, 'x', sizeof line);
+    must(told(answer, line, JB_LONGEST_SENTENCE, &length) == JB_OK && length <= 739, "739 bytes are not enough for a sentence");
+    must(line[length] == 'x' && line[length - 1] == '.' && memchr(line, '\n', sizeof line) == NULL && memchr(line, 0, sizeof line) == NULL,
+         "a sentence does not end with its full stop");
+    must(jb_read_answer(line, length, &back) == JB_OK && memcmp(&back, answer, sizeof back) == 0, "a sentence is not read back");
+    for (unsigned index = 0; index < 2; index++) {
+        line[length] = index == 0 ? 0 : '\n';
+        must(jb_read_answer(line, length + 1, &back) == JB_MALFORMED && back.kind == 0 && back.number == 0, "a byte after a sentence is not 2");
+    }
+    memset(line, 'x', sizeof line);
+    must(told(answer, line, length - 1, &other) == JB_NO_ROOM && other == 0, "a byte too few for a sentence is not 10");
+    must(line[0] == 'x' && memcmp(line, line + 1, sizeof line - 1) == 0, "10 writes a byte");
+}
+
+/* What planning a table at a ceiling and judging its order answer, as sentences; a sheet that is refused, too. */
+static void verdicts_as_sentences(void) {
+    static const char P1_PLANNED[] =
+        "The planner answers number 0 (an order was made): 6 trials, 4 rows in the order (highest first: 1, 2, 3, 4), 0 rows left.";
+    const uint32_t ceilings[] = {0, 10, JB_MOST_TRIALS};
+    uint8_t line[JB_LONGEST_SENTENCE];
+    uint32_t length, over = 0;
+    jb_table p1 = empty_table(5, 2, 0);
+    jb_answer answer;
+    add_row(&p1, 0, 20, 10, JB_HI);
+    add_row(&p1, 5, 15, 10, JB_LO);
+    add_row(&p1, 5, 11, 19, JB_HI);
+    add_row(&p1, 0, 5, 5, JB_LO);
+    memset(&answer, 0, sizeof answer);
+    answer.kind = JB_PLANNER;
+    answer.number = jb_plan_table_within(&p1, jb_most_trials(p1.n), answer.order, &answer.left, &answer.trials);
+    must(told(&answer, line, sizeof line, &length) == JB_OK && length == 121, "P1's plan has not 121 bytes");
+    must(length == sizeof P1_PLANNED - 1 && memcmp(line, P1_PLANNED, length) == 0, "P1's plan has another sentence");
+    for (int trial = 0; trial < TABLES; trial++) {
+        uint8_t order[JB_ROWS];
+        const jb_table table = planned_table(order);
+        for (size_t index = 0; index < sizeof ceilings / sizeof ceilings[0]; index++) {
+            memset(&answer, 0, sizeof answer);
+            answer.kind = JB_PLANNER;
+            answer.number = jb_plan_table_within(&table, ceilings[index], answer.order, &answer.left, &answer.trials);
+            sentence_of(&answer);
+            over += answer.number == JB_OVER_CEILING;
+        }
+        memset(&answer, 0, sizeof answer);
+        answer.kind = JB_JUDGE;
+        answer.number = jb_judge_order(&table, order, &answer.yes, &answer.row, &answer.slack);
+        sentence_of(&answer);
+    }
+    must(over >= TABLES, "%u plannings were over their ceiling", over);
+    memset(&answer, 0, sizeof answer);
+    answer.kind = JB_PLANNER;
+    answer.number = jb_read_table(NULL, 0, &p1);
+    must(answer.number == JB_LENGTH && sizeof answer == 96, "no bytes are no sheet, and an answer has another size");
+    sentence_of(&answer);
+    puts("verdicts as sentences: in 739 bytes, without a byte 0 or a line end, read back as they were; 10 writes nothing, other bytes are 2");
+}
+
 /* A search for a least speed: over a table and over a sheet, G if it is sought and not N, and the range of an accepted table. */
 typedef struct {
     uint32_t (*least)(const jb_table *table, uint32_t *speed, uint8_t order[JB_ROWS]);
@@ -1594,6 +1662,7 @@ int main(void) {
     allowance_stack();
     sheet_of_record();
     list_of_jobs();
+    verdicts_as_sentences();
     least_speeds();
     ceilings();
     new_sheets();

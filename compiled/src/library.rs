@@ -13,6 +13,7 @@ use model::plan::{Counted, Plan};
 use model::proposal::{Asked, Committed};
 use model::record::{Forward, OneSlot, Record};
 use model::report::LONGEST_REPORT;
+use model::sentences::{Answer, JudgeAnswer, PlannerAnswer, Read};
 use model::speeds::{Least, Sought};
 use model::table::{Row, Table, ROWS};
 
@@ -20,8 +21,8 @@ const RUBBISH: u32 = 0xA5A5_A5A5;
 const RUBBISH_BYTE: u8 = 0xA5;
 
 /// Bytes of rubbish on either side of lent memory that the library may write:
-/// no fewer than a report has, and so than a sheet, so that one written in the
-/// wrong place stays between them.
+/// no fewer than a report has, and so than a sheet or a sentence, so that one written in
+/// the wrong place stays between them.
 const GUARD: usize = LONGEST_REPORT;
 
 /// The reader: number and table.
@@ -341,6 +342,94 @@ pub fn program(input: &[u8]) -> Vec<u8> {
     let (written, after) = text.split_at(length as usize);
     assert!(after.iter().all(|&byte| byte == 0), "zeros follow the text");
     written.to_vec()
+}
+
+/// The composer: number and length of the answer's sentence in bytes. The lent bytes are then as
+/// the library has left them: all but the sentence's as they were, and with 10 every one (rule
+/// 24.9).
+pub fn compose(answer: &Answer, lent: &mut [u8]) -> (u32, u32) {
+    match answer {
+        Answer::Planner(answer) => compose_plan(answer, lent),
+        Answer::Judge(answer) => write_text(lent, &|line, room, length| {
+            let JudgeAnswer {
+                number,
+                yes,
+                row,
+                slack,
+            } = *answer;
+            // SAFETY: as in `read`.
+            unsafe { raw::jb_judge_sentence(number, yes, row, slack, line, room, length) }
+        }),
+    }
+}
+
+fn compose_plan(answer: &PlannerAnswer, lent: &mut [u8]) -> (u32, u32) {
+    let PlannerAnswer {
+        number,
+        left,
+        order,
+        trials,
+    } = *answer;
+    let written = write_text(lent, &|line, room, length| {
+        // SAFETY: as in `read`.
+        unsafe { raw::jb_plan_sentence(number, left, &order, trials, line, room, length) }
+    });
+    assert_eq!(order, answer.order, "the order was written");
+    written
+}
+
+/// The reader of sentences: number, kind and answer (rule 24.11). It is asked twice, with other
+/// rubbish where the answer goes.
+pub fn read_sentence(line: &[u8]) -> Read {
+    let before = line.to_vec();
+    let answer = read_sentence_over(RUBBISH, line);
+    let again = read_sentence_over(!RUBBISH, line);
+    assert_eq!(answer, again, "it matters what stood there before");
+    assert_eq!(line, before, "the line was written");
+    answer
+}
+
+/// Every field is kept, also one that is not of the kind told; the answer's number is the
+/// judge's if that is the kind, else the planner's.
+fn read_sentence_over(rubbish: u32, line: &[u8]) -> Read {
+    let mut words = [(); 5].map(|()| Between::new(rubbish, rubbish));
+    let mut left = Between::new(twice(rubbish), rubbish);
+    let mut order: Between<Order> = Between::new([rubbish as u8; ROWS], rubbish);
+    let mut slack = Between::new(rubbish as i32, rubbish);
+    let [kind, number, trials, yes, row] = &mut words;
+    // SAFETY: as in `read`.
+    let answered = unsafe {
+        raw::jb_read_sentence(
+            line.as_ptr(),
+            line.len(),
+            &mut kind.lent,
+            &mut number.lent,
+            &mut left.lent,
+            &mut order.lent,
+            &mut trials.lent,
+            &mut yes.lent,
+            &mut row.lent,
+            &mut slack.lent,
+        )
+    };
+    let [kind, number, trials, yes, row] = words.map(|word| word.looked_around());
+    let (of_planner, of_judge) = if kind == 2 { (0, number) } else { (number, 0) };
+    Read {
+        number: answered,
+        kind,
+        planner: PlannerAnswer {
+            number: of_planner,
+            left: left.looked_around(),
+            order: order.looked_around(),
+            trials,
+        },
+        judge: JudgeAnswer {
+            number: of_judge,
+            yes,
+            row,
+            slack: slack.looked_around(),
+        },
+    }
 }
 
 /// A table and an order as they are lent to the library.

@@ -122,6 +122,36 @@ extern "C" {
         run_state: *mut StateWords,
     ) -> u32;
     pub fn jb_program(input: *const u8, length: usize, text: *mut [u8; TEXT]) -> u32;
+    pub fn jb_plan_sentence(
+        number: u32,
+        left: u64,
+        order: *const Order,
+        trials: u32,
+        line: *mut u8,
+        room: usize,
+        length: *mut u32,
+    ) -> u32;
+    pub fn jb_judge_sentence(
+        number: u32,
+        yes: u32,
+        row: u32,
+        slack: i32,
+        line: *mut u8,
+        room: usize,
+        length: *mut u32,
+    ) -> u32;
+    pub fn jb_read_sentence(
+        line: *const u8,
+        length: usize,
+        kind: *mut u32,
+        number: *mut u32,
+        left: *mut u64,
+        order: *mut Order,
+        trials: *mut u32,
+        yes: *mut u32,
+        row: *mut u32,
+        slack: *mut i32,
+    ) -> u32;
     pub fn jb_version() -> u32;
 }
 

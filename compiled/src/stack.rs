@@ -6,10 +6,12 @@ use crate::raw::{self, StateWords, TableWords};
 use crate::sheets::{
     chain, easy, easy_loading, grouped, hard, largest, late_promises, longest_windows, promising,
 };
+use model::cases::sentences::{longest, refused_sentences, P1_PLANNED, P1_ROW_TWICE};
 use model::order::{order_of, Order};
 use model::plain;
 use model::record::Record;
 use model::report::LONGEST_REPORT;
+use model::sentences::LONGEST_OF_PLANNER;
 use model::sheet::{sheet_of, LONGEST_SHEET};
 use model::table::{earliest_release, Row, Table, LATEST_DEADLINE};
 use std::ffi::{c_int, c_void};
@@ -125,6 +127,8 @@ struct Inputs {
     /// What is committed: the table released later, with the planner's order or, if there is
     /// none, with this one.
     next: (TableWords, Order),
+    /// Sentences, the longest among them, and bytes that are none.
+    lines: Vec<Vec<u8>>,
 }
 
 impl Inputs {
@@ -161,8 +165,17 @@ impl Inputs {
             order,
             state: raw::state_words(reached),
             next: (raw::table_words(&released_later(table)), next),
+            lines: lines_to_read(),
         }
     }
+}
+
+/// The longest sentence of each kind, a short one of each, and all bytes that are refused by hand.
+fn lines_to_read() -> Vec<Vec<u8>> {
+    let long = longest().map(|case| case.sentence.into_bytes());
+    let short = [P1_PLANNED, P1_ROW_TWICE].map(|line| line.as_bytes().to_vec());
+    let refused = refused_sentences().into_iter().map(|case| case.bytes);
+    long.into_iter().chain(short).chain(refused).collect()
 }
 
 fn in_order(table: &Table) -> Order {
@@ -234,7 +247,7 @@ type Call = fn(&Inputs);
 
 /// Every export with the memory that it is lent. What is written lies outside
 /// the measured stack, in `Results`.
-const CALLS: [(&str, Call); 21] = [
+const CALLS: [(&str, Call); 24] = [
     ("jb_read", |on| {
         with_results(|out| unsafe {
             raw::jb_read(on.sheet.as_ptr(), on.sheet.len(), &mut out.table);
@@ -364,12 +377,65 @@ const CALLS: [(&str, Call); 21] = [
             raw::jb_program(on.sheet.as_ptr(), on.sheet.len(), &mut out.text);
         })
     }),
+    ("jb_plan_sentence", |_| {
+        with_results(|out| unsafe {
+            for (number, left, order, trials) in PLANS {
+                for room in [LONGEST_OF_PLANNER, 0] {
+                    let (line, length) = (out.line.as_mut_ptr(), &mut out.words[0]);
+                    raw::jb_plan_sentence(number, left, order, trials, line, room, length);
+                }
+            }
+        })
+    }),
+    ("jb_judge_sentence", |_| {
+        with_results(|out| unsafe {
+            for (number, yes, row, slack) in VERDICTS {
+                for room in [LONGEST_OF_PLANNER, 0] {
+                    let (line, length) = (out.line.as_mut_ptr(), &mut out.words[0]);
+                    raw::jb_judge_sentence(number, yes, row, slack, line, room, length);
+                }
+            }
+        })
+    }),
+    ("jb_read_sentence", |on| {
+        with_results(|out| unsafe {
+            for line in &on.lines {
+                let [kind, number, trials, yes, row, ..] = &mut out.words;
+                raw::jb_read_sentence(
+                    line.as_ptr(),
+                    line.len(),
+                    kind,
+                    number,
+                    &mut out.left,
+                    &mut out.order,
+                    trials,
+                    yes,
+                    row,
+                    &mut out.slack,
+                );
+            }
+        })
+    }),
     ("jb_version", |_| {
         black_box(unsafe { raw::jb_version() });
     }),
 ];
 
 static SUPPLIES: [u32; 3_000] = [2; 3_000];
+
+/// Planner's answers, of which one has the longest sentence: number, rows left, order and trials.
+static PLANS: [(u32, u64, &Order, u32); 3] = [
+    (5, u64::MAX, &[255; 64], u32::MAX),
+    (7, 3, &[0; 64], 2),
+    (0, 0, &[1; 64], 64),
+];
+
+/// Judge's answers, of which one has the longest sentence: number, yes, row, and slack in slots.
+static VERDICTS: [(u32, u32, u32, i32); 3] = [
+    (5, u32::MAX, u32::MAX, i32::MIN),
+    (0, 1, 1, 0),
+    (0, 0, 64, -10),
+];
 
 /// Ceilings that are too low for most tables, and one that no table needs, in trials.
 const CEILINGS: [u32; 4] = [0, 1, 100, u32::MAX];
@@ -386,6 +452,7 @@ struct Results {
     left: u64,
     slack: i32,
     text: [u8; raw::TEXT],
+    line: [u8; LONGEST_OF_PLANNER],
 }
 
 /// Makes a call with memory for its results that is not on the stack.
@@ -402,6 +469,7 @@ fn with_results(call: impl FnOnce(&mut Results)) {
         left: 0,
         slack: 0,
         text: [0; raw::TEXT],
+        line: [0; LONGEST_OF_PLANNER],
     });
     let mut results = RESULTS.lock().expect("no call panics");
     call(&mut results);

@@ -1,5 +1,6 @@
 //! The command's figures (`--plain`) against the model, on samples and random
-//! sheets, and its rows files against a reading of them by their description.
+//! sheets, the sentences of plan and judge and what is read back from sentences, and its
+//! rows files against a reading of them by their description.
 //! The program is the one that JASMINEBRACE_COMMAND names, or
 //! tools/jasminebrace. Tables come with promised parts and waits and without.
 
@@ -12,14 +13,20 @@ use common::{
 use compiled::sheets::{easy, hard};
 use model::before::{Before, TIMES};
 use model::calls::{one_slot_on_paper, LAST_CLOCK};
+use model::cases::sentences::{longest, refused_sentences, sentences};
+use model::judge::Verdict;
 use model::order::{check_order, Order};
 use model::place::place_of_fault;
 use model::plain;
-use model::plan::{most_trials, Counted, Plan};
+use model::plan::{most_trials, rows_in_word, Counted, Plan};
 use model::program::planning_program;
+use model::random::sentences::{answer as any_answer, damaged as damaged_sentence};
 use model::random::{random_order, Random};
 use model::report::LONGEST_REPORT;
 use model::run::{has_promised, kept_deadline, State};
+use model::sentences::{
+    read_sentence, Answer, JudgeAnswer, PlannerAnswer, LONGEST_OF_JUDGE, LONGEST_OF_PLANNER,
+};
 use model::sheet::{
     read_field, read_sheet, sheet_of, write_field, write_line, write_sheet, FIELD, FIRST_LINE,
     ROW_LINE,
@@ -221,29 +228,28 @@ fn said_of_19(rows: u32, ceiling: u32) -> String {
     .join("\n")
 }
 
-/// In words, at a ceiling: what `plan` says without one, and below it the trials made if they
-/// were counted; but of 19 what is said of it alone, and nothing of waits, which would take
-/// trials of its own.
+/// In words, at a ceiling: what `plan` says without one, and of 7 the trials made besides; but of
+/// 19 its sentence and what is said of it alone, and nothing of waits, which would take trials of
+/// its own.
 fn assert_words_within(sheet: &[u8], rows: u32, ceiling: u32, counted: &Counted) {
     let limit = ceiling.to_string();
     let said = command_with_errors(&["plan", "-", "--ceiling", &limit], sheet);
-    let (mut output, mut errors, status) = command_with_errors(&["plan", "-"], sheet);
+    let (output, mut errors, status) = command_with_errors(&["plan", "-"], sheet);
     let made = counted.trials;
     let line = format!(
         "trials made: {made}, of a ceiling of {}\n",
         trials_of(ceiling)
     );
     let expected = match counted.plan.number {
-        0 => {
-            output.extend(line.bytes());
-            (output, errors, status)
-        }
         7 => {
             let kept = errors.lines().filter(|said| !said.starts_with("waits: "));
             errors = kept.map(|said| format!("{said}\n")).collect::<String>() + &line;
             (output, errors, status)
         }
-        19 => (Vec::new(), said_of_19(rows, ceiling), 2),
+        19 => {
+            let sentence = line_of(&PlannerAnswer::of(counted).sentence());
+            (sentence, said_of_19(rows, ceiling), 2)
+        }
         _ => (output, errors, status),
     };
     assert_eq!(said, expected, "{ceiling}: {}", text_or_bytes(sheet));
@@ -332,6 +338,7 @@ fn ceilings_that_cannot_be_used() {
         &["explain", "-"],
         &["sheet", "-"],
         &["rows", "-"],
+        &["read-sentence", "-"],
     ];
     for words in commands {
         let words = [words, &["--ceiling", "5"]].concat();
@@ -415,6 +422,299 @@ fn judge_and_finishes() {
         assert_eq!(command(&["finishes", "--plain", "-"], &sheet), planned);
     }
     tally.assert_common(&[0, 1, 2], 40);
+}
+
+/// A sentence as the command prints it: in a line of its own.
+fn line_of(sentence: &[u8]) -> Vec<u8> {
+    [sentence, b"\n"].concat()
+}
+
+/// A row as it is named: its level, and the row that it follows if it follows one.
+fn row_words(table: &Table, row: u8) -> String {
+    let level = if table.row(row).level == HI {
+        "HI"
+    } else {
+        "LO"
+    };
+    match table.row(row).follows {
+        0 => format!("row {row} ({level})"),
+        followed => format!("row {row} ({level}, follows row {followed})"),
+    }
+}
+
+/// What `plan` says of an answer: its sentence, and after an order a line for each place with the
+/// slack in slots.
+fn plan_words(table: &Table, counted: &Counted) -> String {
+    let mut said = line_of(&PlannerAnswer::of(counted).sentence());
+    if counted.plan.number == 0 {
+        let order = &counted.plan.order;
+        let (_, slacks) = plain::slacks(table, order);
+        for (place, &row) in (1..=table.n).zip(order) {
+            let slack = slacks[row as usize - 1];
+            let slots = if slack == 1 { "slot" } else { "slots" };
+            let named = row_words(table, row);
+            said.extend(format!("place {place}: {named}, slack {slack} {slots}\n").bytes());
+        }
+    }
+    text(&said).to_string()
+}
+
+/// What `judge` says of a verdict: its sentence, and unless it is a refusal the level of its row.
+fn judge_words(table: &Table, verdict: &Verdict) -> String {
+    let mut said = line_of(&JudgeAnswer::of(verdict).sentence());
+    if verdict.number == 0 {
+        let named = row_words(table, verdict.row);
+        said.extend(format!("tightest: {named}\n").bytes());
+    }
+    text(&said).to_string()
+}
+
+/// The judge's refusal by this number.
+fn no_verdict(number: u32) -> Verdict {
+    Verdict {
+        number,
+        yes: false,
+        row: 0,
+        slack: 0,
+    }
+}
+
+/// `plan` and `judge` say every answer as its sentence first, refusals too, whose explanation is
+/// on standard error, where no sentence stands; and the sentence is read back.
+#[test]
+fn verdicts_as_sentences() {
+    let mut random = Random::seeded(715);
+    let mut tally = Tally::new("command plan and judge, sentences by number");
+    let mut compare = |words: &[&str], sheet: &[u8], expected: String, number, status| {
+        let (output, errors, ended) = command_with_errors(words, sheet);
+        assert_eq!(text(&output), expected, "{words:?}");
+        assert_eq!(ended, status, "{words:?} {}", text_or_bytes(sheet));
+        assert_eq!(errors.is_empty(), number == 0, "{words:?} {errors}");
+        assert!(!errors.contains("The planner answers"), "{errors}");
+        assert!(!errors.contains("The judge says"), "{errors}");
+        let first = expected.lines().next().expect("a sentence");
+        assert_eq!(read_back(first.as_bytes()).1, 0, "{first}");
+        tally.saw((words[0] == "plan", number));
+    };
+    for round in 0..250 {
+        let mut given = sheets(&mut random).to_vec();
+        given.push(sheet_of(&a_table(&mut random)));
+        for sheet in given {
+            let (number, table) = read_sheet(&sheet);
+            let counted = planned_within(number, &table, u32::MAX);
+            let answered = counted.plan.number;
+            let said = plan_words(&table, &counted);
+            compare(&["plan", "-"], &sheet, said, answered, status_of(answered));
+            let (order, verdict) = match number {
+                0 => {
+                    let order = any_order(&mut random, &table, 4);
+                    (order, plain::judge(&table, &order))
+                }
+                _ => ([round as u8; ROWS], no_verdict(number)),
+            };
+            let listed = order_words(&order).join(",");
+            let said = judge_words(&table, &verdict);
+            let status = match verdict.number {
+                0 => i32::from(!verdict.yes),
+                refused => status_of(refused),
+            };
+            let words = ["judge", "-", &listed];
+            compare(&words, &sheet, said, verdict.number, status);
+        }
+    }
+    tally.assert_common(&[(true, 7), (false, 6)], 20);
+    for number in [0, 1, 2].into_iter().chain(TABLE_CHECKS) {
+        tally.assert_common(&[(true, number), (false, number)], 10);
+    }
+}
+
+/// What `read-sentence` writes for these bytes, and the status.
+fn read_back(bytes: &[u8]) -> (String, i32) {
+    let (output, status) = command(&["read-sentence", "-"], bytes);
+    (text(&output).to_string(), status)
+}
+
+fn count_of(figure: u32, noun: &str) -> String {
+    format!("{figure} {noun}{}", if figure == 1 { "" } else { "s" })
+}
+
+/// Figures with a space before each.
+fn spaced(figures: &[u8]) -> String {
+    figures.iter().map(|figure| format!(" {figure}")).collect()
+}
+
+/// The places that a sentence tells: up to the last number that is not 0 (rule 24.4).
+fn places_of(order: &Order) -> &[u8] {
+    let last = order.iter().rposition(|&row| row != 0);
+    &order[..last.map_or(0, |last| last + 1)]
+}
+
+/// What `read-sentence` says of an answer, but for its second line, which has the words of the
+/// header.
+fn answer_words(answer: &Answer) -> Vec<String> {
+    match answer {
+        Answer::Planner(answer) => {
+            let (places, rows) = (places_of(&answer.order), rows_in_word(answer.left));
+            let counted = |count: usize, noun: &str| count_of(count as u32, noun);
+            let listed = if places.is_empty() {
+                ""
+            } else {
+                ", highest first:"
+            };
+            let named = if rows.is_empty() { "" } else { ":" };
+            vec![
+                "answer of: the planner".to_string(),
+                format!("number {}: ", answer.number),
+                format!("trials made: {}", count_of(answer.trials, "trial")),
+                format!(
+                    "order: {}{listed}{}",
+                    counted(places.len(), "row"),
+                    spaced(places)
+                ),
+                format!(
+                    "rows left: {}{named}{}",
+                    counted(rows.len(), "row"),
+                    spaced(&rows)
+                ),
+            ]
+        }
+        Answer::Judge(answer) => {
+            let minus = if answer.slack < 0 { "-" } else { "" };
+            let slots = count_of(answer.slack.unsigned_abs(), "slot");
+            let said = match answer.yes {
+                0 => "no".to_string(),
+                1 => "yes".to_string(),
+                other => format!("{other}, neither yes (1) nor no (0)"),
+            };
+            vec![
+                "answer of: the judge".to_string(),
+                format!("number {}: ", answer.number),
+                format!("correct: {said}"),
+                format!("tightest row: {}", answer.row),
+                format!("slack: {minus}{slots}"),
+            ]
+        }
+    }
+}
+
+/// The plain form of it: figures with a space between.
+fn answer_figures(answer: &Answer) -> String {
+    let (judge, planner) = match *answer {
+        Answer::Planner(planner) => (JudgeAnswer::ZERO, planner),
+        Answer::Judge(judge) => (judge, PlannerAnswer::ZERO),
+    };
+    let kind = if matches!(answer, Answer::Planner(_)) {
+        1
+    } else {
+        2
+    };
+    let (places, rows) = (places_of(&planner.order), rows_in_word(planner.left));
+    let number = if kind == 1 {
+        planner.number
+    } else {
+        judge.number
+    };
+    let (trials, lists) = (planner.trials, [places.len(), rows.len()]);
+    let JudgeAnswer {
+        yes, row, slack, ..
+    } = judge;
+    format!(
+        "0 {kind} {number} {trials} {yes} {row} {slack} {} {}{}{}\n",
+        lists[0],
+        lists[1],
+        spaced(places),
+        spaced(&rows)
+    )
+}
+
+/// A sentence is read in words and in figures, without a line end and with either one.
+fn assert_read_back(answer: &Answer) {
+    let sentence = answer.sentence();
+    let end = [&b""[..], b"\n", b"\r\n"][sentence.len() % 3];
+    let bytes = [&sentence, end].concat();
+    let (said, status) = read_back(&bytes);
+    assert_eq!(status, 0, "{answer:?}");
+    let expected = answer_words(answer);
+    let lines: Vec<&str> = said.lines().collect();
+    assert_eq!(lines.len(), expected.len(), "{said}");
+    for (line, words) in lines.iter().zip(&expected) {
+        if words.starts_with("number ") {
+            assert!(
+                line.starts_with(words) && line.len() > words.len(),
+                "{line}"
+            );
+        } else {
+            assert_eq!(line, words);
+        }
+    }
+    let plain = command(&["read-sentence", "--plain", "-"], &bytes);
+    assert_eq!(plain, (answer_figures(answer).into_bytes(), 0));
+}
+
+/// Bytes that are no sentence: 2 with what would be right on standard error, and zeros in the
+/// plain form.
+fn assert_not_read(bytes: &[u8]) {
+    let (output, errors, status) = command_with_errors(&["read-sentence", "-"], bytes);
+    assert_eq!((text(&output), status), ("", 2), "{bytes:?}");
+    assert!(errors.starts_with("number 2: "), "{errors}");
+    assert_eq!(errors.matches("\nright: ").count(), 2, "{errors}");
+    assert!(errors.contains("\nremedy: "), "{errors}");
+    let plain = command(&["read-sentence", "--plain", "-"], bytes);
+    assert_eq!(plain, (b"2 0 0 0 0 0 0 0 0\n".to_vec(), 2), "{bytes:?}");
+}
+
+#[test]
+fn sentences_read_back() {
+    let mut random = Random::seeded(716);
+    for case in sentences() {
+        assert_read_back(&case.answer);
+    }
+    for _ in 0..400 {
+        assert_read_back(&any_answer(&mut random));
+    }
+}
+
+/// The reader's refusals come through; a line end is no part of a sentence, and nothing else is
+/// left out after one.
+#[test]
+fn lines_that_are_no_sentence() {
+    let mut random = Random::seeded(717);
+    let mut tally = Tally::new("command read-sentence, damaged lines by status");
+    for case in refused_sentences() {
+        // A line end after a sentence, which the reader refuses, is what the command leaves out.
+        if !case.bytes.ends_with(b"\n") {
+            assert_not_read(&case.bytes);
+        }
+    }
+    let [plan, verdict] = longest().map(|case| case.sentence.into_bytes());
+    assert_eq!(
+        [plan.len(), verdict.len()],
+        [LONGEST_OF_PLANNER, LONGEST_OF_JUDGE]
+    );
+    let two = [&plan[..], b"\n", &verdict].concat();
+    for bytes in [&two[..], b"", b"\n", b"\r\n", b"\n\n"] {
+        assert_not_read(bytes);
+    }
+    for end in [
+        "\n\n", "\r", "\n\r", "\r\r\n", "\0", "\n ", " \n", "\r\n\n", "\n\n\n",
+    ] {
+        assert_not_read(&[&verdict, end.as_bytes()].concat());
+        assert_not_read(&[&plan, end.as_bytes()].concat());
+    }
+    // Of a long file no beginning is taken for the sentence.
+    assert_not_read(&[&plan[..], &[b'\n'; 1_000]].concat());
+    assert_not_read(&[&plan[..], b"\r\n", &[b' '; 1_000]].concat());
+    for _ in 0..300 {
+        let sentence = any_answer(&mut random).sentence();
+        let bytes = damaged_sentence(&mut random, &sentence);
+        let line = bytes.strip_suffix(b"\n").unwrap_or(&bytes);
+        match read_sentence(line).answer() {
+            Some(_) => assert_eq!(read_back(&bytes).1, 0, "{bytes:?}"),
+            None => assert_not_read(&bytes),
+        }
+        tally.saw(read_sentence(line).number);
+    }
+    tally.assert_common(&[0, 2], 20);
 }
 
 /// What stands above a report: what its last line has, and the name and the unit

@@ -11,10 +11,10 @@ use crate::sheet::put_text;
 use crate::table::ROWS;
 
 /// Bytes in the planner's longest sentences (rule 24.10). So many are enough for every answer.
-pub const LONGEST_OF_PLANNER: usize = 732;
+pub const LONGEST_OF_PLANNER: usize = 739;
 
 /// Bytes in the judge's longest sentences (rule 24.10).
-pub const LONGEST_OF_JUDGE: usize = 174;
+pub const LONGEST_OF_JUDGE: usize = 177;
 
 /// A planner's answer, with any values (rule 24.1).
 #[derive(Clone, Copy, Debug, PartialEq, Eq)]
@@ -57,23 +57,23 @@ impl PlannerAnswer {
     }
 
     /// The numbers up to the last one that is not 0 (rule 24.4).
-    fn places(&self) -> &[u8] {
+    fn rows_in_order(&self) -> &[u8] {
         let last = self.order.iter().rposition(|&held| held != 0);
         &self.order[..last.map_or(0, |index| index + 1)]
     }
 
     /// The planner's sentence (rule 24.3).
     pub fn sentence(&self) -> Vec<u8> {
-        let (places, rows) = (self.places(), rows_in_word(self.left));
+        let (placed, left) = (self.rows_in_order(), rows_in_word(self.left));
         let sentence = format!(
-            "The planner answers number {} ({}): {}, {} filled{}, {} left{}.",
+            "The planner answers number {} ({}): {}, {} in the order{}, {} left{}.",
             self.number,
             meaning(self.number, PLANNED),
             counted(self.trials, "trial"),
-            counted(places.len() as u32, "place"),
-            list(" (highest first: ", places),
-            counted(rows.len() as u32, "row"),
-            list(" (", &rows),
+            counted(placed.len() as u32, "row"),
+            list(" (highest first: ", placed),
+            counted(left.len() as u32, "row"),
+            list(" (", &left),
         );
         sentence.into_bytes()
     }
@@ -136,8 +136,8 @@ fn meaning(number: u32, of_zero: &'static str) -> &'static str {
         2 => "refused: a field or a line end is malformed",
         3 => "refused: the row count is beyond its limits",
         4 => "refused: a speed is beyond its limits",
-        5 => "refused: a row is beyond its limits",
-        6 => "refused: the order does not name every row once, or breaks a wait",
+        5 => "refused: a row is beyond its limits, or figures stand after the last",
+        6 => "refused: the numbers are not an order of the table",
         7 => "no correct order exists",
         8 => "refused: the clock is at its end",
         9 => "refused: the run record is unsound",
@@ -269,7 +269,7 @@ fn read_planner(bytes: &[u8]) -> Option<PlannerAnswer> {
     rest.expect("): ")?;
     let trials = rest.counted(u32::MAX, "trial")?;
     rest.expect(", ")?;
-    let order = rest.places()?;
+    let order = rest.rows_in_order()?;
     rest.expect(", ")?;
     let left = rest.rows_left()?;
     rest.full_stop()?;
@@ -353,12 +353,12 @@ impl Rest<'_> {
         Some(figures)
     }
 
-    /// The places and their list, of which the last number is not 0 (rule 24.4).
-    fn places(&mut self) -> Option<Order> {
-        let count = self.counted(ROWS as u32, "place")?;
-        self.expect(" filled")?;
-        let places = self.list(" (highest first: ", count, u8::MAX)?;
-        (places.last() != Some(&0)).then(|| order_of(&places))
+    /// The rows in the order and their list, of which the last number is not 0 (rule 24.4).
+    fn rows_in_order(&mut self) -> Option<Order> {
+        let count = self.counted(ROWS as u32, "row")?;
+        self.expect(" in the order")?;
+        let numbers = self.list(" (highest first: ", count, u8::MAX)?;
+        (numbers.last() != Some(&0)).then(|| order_of(&numbers))
     }
 
     /// The rows left and their list, each row above the one before it and none of them 0 (rule

@@ -7,7 +7,8 @@ mod common;
 use common::{rubbish, table_and_order, SMALL};
 use model::cases::sentences::{
     examples, longest, refused_sentences, sentences, ABSURD_PLAN, ABSURD_VERDICT, OF_65_ROWS,
-    P1_CORRECT, P1_NOT_CORRECT, P1_OVER_5, P1_PLANNED, P1_ROW_TWICE, P3_PLANNED, WORDS,
+    ONE_BELOW, ONE_OF_EACH, P1_CORRECT, P1_NOT_CORRECT, P1_OVER_5, P1_PLANNED, P1_ROW_TWICE,
+    P3_PLANNED, WORDS,
 };
 use model::cases::{p1, p3};
 use model::judge::judge_table;
@@ -59,7 +60,7 @@ fn sentences_written_out_by_hand() {
         assert_comes_back(&case.answer);
         assert!(names.insert(case.what.clone()), "{} twice", case.what);
     }
-    assert_eq!(examples().len(), 9);
+    assert_eq!(examples().len(), 11);
 }
 
 /// The examples of rule 24.8 that come from tables.
@@ -68,6 +69,7 @@ fn what_the_planner_and_the_judge_answer() {
     let says = |answer: Answer, sentence: &str| {
         assert_eq!(String::from_utf8_lossy(&answer.sentence()), sentence);
         assert_comes_back(&answer);
+        assert_as_calls_answer(&answer);
     };
     for ceiling in [6, 7, 10, u32::MAX] {
         says(planned(&p1(), ceiling), P1_PLANNED);
@@ -143,7 +145,7 @@ fn figures_of_every_length() {
 
 /// Every number but 0 alone at each place, and the rows of its bits from each row on.
 #[test]
-fn one_place_and_some_rows() {
+fn one_number_and_some_rows() {
     for index in 0..ROWS {
         for held in 1..=255 {
             let mut order = NO_ORDER;
@@ -179,6 +181,28 @@ fn there_and_back() {
     assert_eq!(numbers.len(), 2 * 21);
 }
 
+/// Only number 0 comes with an order and only number 7 with rows left (rules 24.4 and 24.5); what
+/// the judge refuses has zeros and words that begin with `refused:` (rule 24.7).
+fn assert_as_calls_answer(answer: &Answer) {
+    match *answer {
+        Answer::Planner(plan) => {
+            assert_eq!(plan.order != NO_ORDER, plan.number == 0, "{plan:?}");
+            assert_eq!(plan.left != 0, plan.number == 7, "{plan:?}");
+        }
+        Answer::Judge(verdict) => {
+            let number = verdict.number;
+            let zeros = JudgeAnswer {
+                number,
+                ..JudgeAnswer::ZERO
+            };
+            assert!(number == 0 || verdict == zeros, "{verdict:?}");
+            let begin = format!("The judge says no (number {number}, refused: ");
+            let is_refused = answer.sentence().starts_with(begin.as_bytes());
+            assert_eq!(is_refused, number != 0, "{verdict:?}");
+        }
+    }
+}
+
 /// What the planner and the judge answer to random tables comes back; one sentence never tells
 /// two answers (rule 24.14).
 #[test]
@@ -196,6 +220,7 @@ fn answers_to_random_tables_come_back() {
         }
         for answer in [planned(&table, ceiling), judged(&table, &numbers)] {
             assert_comes_back(&answer);
+            assert_as_calls_answer(&answer);
             if let Some(other) = told.insert(answer.sentence(), answer) {
                 assert_eq!(other, answer);
                 again += 1;
@@ -376,9 +401,9 @@ fn other_sentences(sentence: &[u8]) -> [usize; 3] {
 /// many of them are sentences is counted by hand.
 #[test]
 fn every_change_of_a_byte_of_plans() {
-    // Other trials: 0, 2 to 5, 7 to 9, and two digits; other places, the last of them not 0.
-    let [trials, places] = [[8, 9 + 10], [9 + 9 + 9 + 8, 4 * (9 + 10)]];
-    let expected = [trials[0] + places[0], trials[1] + places[1], 0];
+    // Other trials: 0, 2 to 5, 7 to 9, and two digits; another order, its last number not 0.
+    let [trials, order] = [[8, 9 + 10], [9 + 9 + 9 + 8, 4 * (9 + 10)]];
+    let expected = [trials[0] + order[0], trials[1] + order[1], 0];
     assert_eq!(other_sentences(P1_PLANNED.as_bytes()), expected);
     // Other trials: 0, 3 to 9. A last row from 3 to 9, or of two digits: 12, 20 to 29, 32, 42, 52
     // and 62; 22 comes up twice.
@@ -387,13 +412,17 @@ fn every_change_of_a_byte_of_plans() {
     // The number: 1, 2 or 3 for its first digit, 1 or 2 for the second, any for the others; no
     // digit more, and a zero less.
     let number = [3 + 2 + 8 * 9, 0, 9];
-    // The places: any digit for 0 or before it; 155, 205 to 245 and 250 to 254 for 255, or one
+    // The order: any digit for 0 or before it; 155, 205 to 245 and 250 to 254 for 255, or one
     // of its digits less.
-    let places = [9 + 9 + 1 + 5 + 5, 9 + 9, 3];
+    let order = [9 + 9 + 1 + 5 + 5, 9 + 9, 3];
     // The rows: 2 to 9, 11 to 61 and 10 to 19 for 1; 14 to 54, 60 to 63, 6 and 4 for 64.
     let rows = [8 + 5 + 4, 6 + 10, 2];
-    let expected = [0, 1, 2].map(|of| number[of] + places[of] + rows[of]);
+    let expected = [0, 1, 2].map(|of| number[of] + order[of] + rows[of]);
     assert_eq!(other_sentences(ABSURD_PLAN.as_bytes()), expected);
+    // No other trials, for their noun would take an s. In the order 2 to 9 for 1, and two digits;
+    // left 1 and 3 to 9 for 2, 12 to 62 and 20 to 29.
+    let expected = [8 + 8, 9 + 10 + 6 + 10, 0];
+    assert_eq!(other_sentences(ONE_OF_EACH.as_bytes()), expected);
 }
 
 #[test]
@@ -407,6 +436,10 @@ fn every_change_of_a_byte_of_verdicts() {
     // Another row than 0; slacks as before.
     let expected = [9 + 8, 9 + 9, 0];
     assert_eq!(other_sentences(P1_ROW_TWICE.as_bytes()), expected);
+    // Another row: 14 to 94 and 60 to 69, a digit more, 4 and 6. No other slack but 1, without the
+    // minus, for the noun would take an s.
+    let expected = [8 + 9, 9 + 10 + 10, 2 + 1];
+    assert_eq!(other_sentences(ONE_BELOW.as_bytes()), expected);
     for case in [ABSURD_VERDICT, &longest()[1].sentence] {
         let [changed, longer, shorter] = other_sentences(case.as_bytes());
         println!("{changed} changed, {longer} longer, {shorter} shorter: {case}");
@@ -438,8 +471,8 @@ fn every_change_of_a_byte_of_the_longest_plan() {
         other.remove(at);
         shorter += read(&other);
     }
-    // The trials: each digit lower, the first of them not 0; each place: 155, 205 to 245, 250 to
-    // 254. Taken out: any digit of the trials and of the places.
+    // The trials: each digit lower, the first of them not 0; each number of the order: 155, 205 to
+    // 245, 250 to 254. Taken out: any digit of the trials and of the order.
     let trials = 3 + 2 + 9 + 4 + 9 + 6 + 7 + 2 + 9 + 5;
     assert_eq!(changed, trials + 64 * (1 + 5 + 5));
     assert_eq!(shorter, 10 + 64 * 3);
@@ -503,11 +536,11 @@ fn assert_composed(answer: &Answer, room: usize) {
 /// The example of rule 10.10.
 #[test]
 fn a_byte_less_than_the_sentence_of_p1() {
-    let (plan, mut lent) = (planned(&p1(), 6), [165; 118]);
-    assert_eq!(compose(&plan, &mut lent[..116]), (10, 0));
-    assert_eq!(lent, [165; 118]);
-    assert_eq!(compose(&plan, &mut lent[..117]), (0, 117));
-    assert_eq!((&lent[..117], lent[117]), (P1_PLANNED.as_bytes(), 165));
+    let (plan, mut lent) = (planned(&p1(), 6), [165; 122]);
+    assert_eq!(compose(&plan, &mut lent[..120]), (10, 0));
+    assert_eq!(lent, [165; 122]);
+    assert_eq!(compose(&plan, &mut lent[..121]), (0, 121));
+    assert_eq!((&lent[..121], lent[121]), (P1_PLANNED.as_bytes(), 165));
     assert_eq!(compose(&plan, &mut []), (10, 0));
 }
 
@@ -555,20 +588,20 @@ fn over_other_sentences() {
     }
 }
 
-/// No sentence has more than 732 bytes, and no judge's more than 174 (rule 24.10). How long each
+/// No sentence has more than 739 bytes, and no judge's more than 177 (rule 24.10). How long each
 /// part is depends on no other part, but for the yes or no and its words.
 #[test]
 fn the_longest_sentences() {
     let lengths = longest().map(|case| case.answer.sentence().len());
-    assert_eq!(lengths, [732, 174]);
+    assert_eq!(lengths, [739, 177]);
     assert_eq!([LONGEST_OF_PLANNER, LONGEST_OF_JUDGE], lengths);
     let numbers = || (0..=20).chain([u32::MAX]);
     let mut most = [0; 2];
     for number in numbers() {
-        for filled in 0..=64 {
+        for count in 0..=64 {
             let mut order = NO_ORDER;
-            order[..filled].fill(255);
-            let left = u64::MAX.checked_shl(64 - filled as u32).unwrap_or(0);
+            order[..count].fill(255);
+            let left = u64::MAX.checked_shl(64 - count as u32).unwrap_or(0);
             for (order, left) in [(order, u64::MAX), ([255; ROWS], left)] {
                 let planner = PlannerAnswer {
                     number,
@@ -594,11 +627,11 @@ fn the_longest_sentences() {
     assert_eq!(most, lengths);
     let mut random = Random::seeded(147);
     for _ in 0..20_000 {
-        assert!(planner_answer(&mut random).sentence().len() <= 732);
-        assert!(judge_answer(&mut random).sentence().len() <= 174);
+        assert!(planner_answer(&mut random).sentence().len() <= 739);
+        assert!(judge_answer(&mut random).sentence().len() <= 177);
     }
     for _ in 0..2_000 {
         let table = table_in(&mut random, SMALL);
-        assert!(planned(&table, u32::MAX).sentence().len() <= 732);
+        assert!(planned(&table, u32::MAX).sentence().len() <= 739);
     }
 }

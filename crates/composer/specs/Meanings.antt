@@ -1,5 +1,5 @@
 -- What a number means, for each of the first twenty numbers, and that any other has no meaning.
-use Prim.Native.Nat.{ℕ, zero, suc, _≤_}
+use Prim.Native.Nat.{ℕ, zero, suc, _+_, _≤_}
 use Prim.Native.String.{String}
 use mathlib.Core.List.{List, [], _∷_}
 use mathlib.Core.Path.{_≡_, refl, sym, ap}
@@ -9,14 +9,17 @@ use lib.ListN.{length}
 use Rattle.texts.specs.Quoted.{bytes}
 use Rattle.sentences.specs.Sentences.{meanings, wordsAt, meaning}
 
--- a number that is none of the first k is not below k
-abbrev pub NoneBelow : ℕ → ℕ → Type 0
-NoneBelow zero n = Unit {0}
-NoneBelow (suc k) n = NoneBelow k n × (n ≡ k → ⊥)
+-- a number that is none of the k from b on
+abbrev pub NoneFrom : ℕ → ℕ → ℕ → Type 0
+NoneFrom b zero n = Unit {0}
+NoneFrom b (suc k) n = NoneFrom b k n × (n ≡ b + k → ⊥)
 
-from-there : (k n : ℕ) → NoneBelow k n → k ≤ n
-from-there zero n h = omega arith
-from-there (suc k) n h = lt-of-le-ne (from-there k n (h .0)) (λ e. h .1 (sym e))
+-- is not below the next one
+from-there : (b k n : ℕ) → b ≤ n → NoneFrom b k n → b + k ≤ n
+from-there b zero n l h = omega arith
+from-there b (suc k) n l h =
+    let e : b + suc k ≡ suc (b + k) = omega arith in
+    rw e (lt-of-le-ne (from-there b k n l (h .0)) (λ z. h .1 (sym z)))
 
 -- at an index after the last there are no words
 words-none : (ss : List String) (k : ℕ) → length ss ≤ k → wordsAt ss k ≡ "a number without a meaning"
@@ -29,6 +32,10 @@ module _ (number : ℕ) where
   unfolding meaning
   meaning-is k e = ap meaning e
 
-  pub meaning-none : NoneBelow 20 number → meaning number ≡ bytes "a number without a meaning"
+  -- the last that is left of numbers from b to b + k
+  pub meaning-last : (b k : ℕ) → b ≤ number → number ≤ b + k → NoneFrom b k number → meaning number ≡ bytes (wordsAt meanings (b + k))
+  meaning-last b k l u h = meaning-is (b + k) (omega (arith, from-there b k number l h))
+
+  pub meaning-none : 14 ≤ number → NoneFrom 14 6 number → meaning number ≡ bytes "a number without a meaning"
   unfolding meaning
-  meaning-none h = ap bytes (words-none meanings number (from-there 20 number h))
+  meaning-none l h = ap bytes (words-none meanings number (from-there 14 6 number l h))

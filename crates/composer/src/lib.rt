@@ -13,7 +13,7 @@ use sentences::JudgeAnswer;
 use sentences::PlanAnswer;
 
 // The bytes of the longest sentence (rule 24.10).
-pub const LONGEST: usize = 732;
+pub const LONGEST: usize = 739;
 
 // Words.
 fn put_words(out: &mut [u8], at: usize, words: &[u8]) -> usize
@@ -28,9 +28,9 @@ fn put_words(out: &mut [u8], at: usize, words: &[u8]) -> usize
     at + i
 }
 
-// What a number means.
-fn put_meaning(out: &mut [u8], at: usize, number: u32) -> usize
-    requires { ⌜ at + length (meaning number) ≤ length (now out) ⌝ }
+// What a number up to 6 means.
+fn put_meaning_to_6(out: &mut [u8], at: usize, number: u32) -> usize
+    requires { ⌜ (number ≤ 6) × (at + length (meaning number) ≤ length (now out)) ⌝ }
     ensures { λ r. ⌜ Wrote (now (out .entry)) at (now (out .exit)) r (meaning number) ⌝ }
 {
     match number {
@@ -39,23 +39,45 @@ fn put_meaning(out: &mut [u8], at: usize, number: u32) -> usize
         2 => put_words(out, at, b"refused: a field or a line end is malformed"),
         3 => put_words(out, at, b"refused: the row count is beyond its limits"),
         4 => put_words(out, at, b"refused: a speed is beyond its limits"),
-        5 => put_words(out, at, b"refused: a row is beyond its limits"),
-        6 => put_words(
+        5 => put_words(
             out,
             at,
-            b"refused: the order does not name every row once, or breaks a wait",
+            b"refused: a row is beyond its limits, or figures stand after the last",
         ),
+        _ => put_words(
+            out,
+            at,
+            b"refused: the numbers are not an order of the table",
+        ),
+    }
+}
+
+// What a number from 7 to 13 means.
+fn put_meaning_to_13(out: &mut [u8], at: usize, number: u32) -> usize
+    requires { ⌜ (7 ≤ number) × (number ≤ 13) × (at + length (meaning number) ≤ length (now out)) ⌝ }
+    ensures { λ r. ⌜ Wrote (now (out .entry)) at (now (out .exit)) r (meaning number) ⌝ }
+{
+    match number {
         7 => put_words(out, at, b"no correct order exists"),
         8 => put_words(out, at, b"refused: the clock is at its end"),
         9 => put_words(out, at, b"refused: the run record is unsound"),
         10 => put_words(out, at, b"refused: the memory lent is too short"),
         11 => put_words(out, at, b"refused: the loading is beyond its limit"),
         12 => put_words(out, at, b"refused: a promised part is beyond its limit"),
-        13 => put_words(
+        _ => put_words(
             out,
             at,
             b"refused: a row follows what is not a row above it",
         ),
+    }
+}
+
+// What a number from 14 on means.
+fn put_meaning_from_14(out: &mut [u8], at: usize, number: u32) -> usize
+    requires { ⌜ (14 ≤ number) × (at + length (meaning number) ≤ length (now out)) ⌝ }
+    ensures { λ r. ⌜ Wrote (now (out .entry)) at (now (out .exit)) r (meaning number) ⌝ }
+{
+    match number {
         14 => put_words(
             out,
             at,
@@ -76,6 +98,20 @@ fn put_meaning(out: &mut [u8], at: usize, number: u32) -> usize
         ),
         _ => put_words(out, at, b"a number without a meaning"),
     }
+}
+
+// What a number means.
+fn put_meaning(out: &mut [u8], at: usize, number: u32) -> usize
+    requires { ⌜ at + length (meaning number) ≤ length (now out) ⌝ }
+    ensures { λ r. ⌜ Wrote (now (out .entry)) at (now (out .exit)) r (meaning number) ⌝ }
+{
+    if number <= 6 {
+        return put_meaning_to_6(out, at, number);
+    }
+    if number <= 13 {
+        return put_meaning_to_13(out, at, number);
+    }
+    put_meaning_from_14(out, at, number)
 }
 
 // A figure and its noun, with an s unless the figure is 1.
@@ -202,7 +238,7 @@ fn put_plan(out: &mut [u8], answer: PlanAnswer) -> usize
     ensures { λ r. ⌜ Wrote (now (out .entry)) 0 (now (out .exit)) r (planSentence answer) ⌝ }
 {
     let order = answer.order;
-    let filled = places(order);
+    let placed = places(order);
     let left = rows_of(answer.left);
     let rows = left.rows;
     let opened = put_plan_opening(out, answer.number);
@@ -211,11 +247,11 @@ fn put_plan(out: &mut [u8], answer: PlanAnswer) -> usize
     let after_places = put_enumerated(
         out,
         before_places,
-        b" place",
-        b" filled",
+        b" row",
+        b" in the order",
         b" (highest first: ",
         order,
-        filled,
+        placed,
     );
     let before_rows = put_words(out, after_places, b", ");
     let after_rows = put_enumerated(out, before_rows, b" row", b" left", b" (", rows, left.many);
@@ -305,7 +341,7 @@ fn put_judge(out: &mut [u8], answer: JudgeAnswer) -> usize
 
 // A sentence that is made, copied to the start of lent bytes if there are enough.
 fn hand_over(sentence: &[u8], out: &mut [u8]) -> Writing
-    requires { ⌜ length (now sentence) ≤ 732 ⌝ }
+    requires { ⌜ length (now sentence) ≤ 739 ⌝ }
     ensures { λ r. ⌜ (let back = composeOf (now (sentence .entry)) (now (out .entry)) in (r ≡ back .said) × (now (out .exit) ≡ back .bytes)) ⌝ }
 {
     let check = checks::check_room(sentence.len(), out.len());

@@ -28,6 +28,7 @@ use Rattle.texts.specs.Fields.{valueOf, isField}
 use Rattle.texts.specs.Program.{programText}
 use Rattle.texts.specs.Reports.{figure}
 use Rattle.texts.specs.Sheets.{isLine, numberAt, readOf}
+use Rattle.sentences.specs.Reading.{readSentence, kindNumber, numberTold}
 use Rattle.record.specs.Answers.{slotSaid, forwardSaid}
 use Rattle.record.specs.Records.{isSound, startRun, oneSlot, forwardOver}
 use Rattle.words.specs.Words.{tableIn, wordsOf, runIn, stateWords}
@@ -40,6 +41,7 @@ use Rattle.conclusions.specs.declared.Drawing.{Drawing}
 use Rattle.conclusions.specs.declared.Forwards.{Forwards}
 use Rattle.conclusions.specs.declared.Opinion.{Opinion}
 use Rattle.conclusions.specs.declared.Slots.{Slots}
+use Rattle.conclusions.specs.declared.Pasted.{Pasted}
 
 -- ---- The table author: a sheet that is taken states its table (rules 6.5 to 6.8), and a refusal means what it says (rules 10.1 to 10.5,
 -- 10.11 to 10.15).
@@ -653,3 +655,31 @@ pub record Listing (t : Table) (o lent : List ℕ) (number size : ℕ) (after : 
   -- it is 10 if only the room is missing, and else what table or order are refused for (rules 10.10, 11.7)
   pub ten : number ≡ 10 → Accepted t × (isOrder t o ≡ true) × (length lent < 51 * t .n + 21)
   pub own : (number ≡ 10 → ⊥) → number ≡ checkNumber (checkBoth t o)
+
+-- ---- A planner who pastes an answer into a drawing: through the exported functions it comes back, whatever it holds (rules 24.12, 24.14).
+
+-- every field is what the reader tells of the line
+pub record LineRead (composed : ℕ) (line : List ℕ) (r : Pasted) : Type 0 where
+  pub composed-is : r .composed ≡ composed
+  pub read-is : r .read ≡ checkNumber (readSentence line .check)
+  pub kind-is : r .kind ≡ kindNumber (readSentence line .kind)
+  pub number-is : r .number ≡ numberTold (readSentence line .kind) (readSentence line .plan) (readSentence line .verdict)
+  pub left-is : r .left ≡ readSentence line .plan .left
+  pub order-is : r .order ≡ readSentence line .plan .order
+  pub trials-is : r .trials ≡ readSentence line .plan .trials
+  pub yes-is : r .yes ≡ readSentence line .verdict .yes
+  pub row-is : r .row ≡ readSentence line .verdict .row
+  pub slack-is : r .slack ≡ readSentence line .verdict .slack
+
+-- composing and reading both say 0, it is a planner's answer (1), its number, rows left, order and trials are those that were told, and nothing is told
+-- of a judge's
+pub record PlanPasted (number left : ℕ) (order : List ℕ) (trials : ℕ) (r : Pasted) : Type 0 where
+  pub numbers : (r .composed ≡ 0) × (r .read ≡ 0) × (r .kind ≡ 1)
+  pub answer : (r .number ≡ number) × (r .left ≡ left) × (r .order ≡ order) × (r .trials ≡ trials)
+  pub others : (r .yes ≡ 0) × (r .row ≡ 0) × (r .slack ≡ pos 0)
+
+-- likewise for a judge's answer (2)
+pub record VerdictPasted (number said row : ℕ) (slack : ℤ) (r : Pasted) : Type 0 where
+  pub numbers : (r .composed ≡ 0) × (r .read ≡ 0) × (r .kind ≡ 2)
+  pub answer : (r .number ≡ number) × (r .yes ≡ said) × (r .row ≡ row) × (r .slack ≡ slack)
+  pub others : (r .left ≡ 0) × (r .order ≡ replicate 64 0) × (r .trials ≡ 0)

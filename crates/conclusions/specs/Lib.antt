@@ -26,3 +26,4 @@ pub mod Settled
 pub mod Previews
 pub mod Soundness
 pub mod Renewals
+pub mod Pasting

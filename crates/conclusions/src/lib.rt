@@ -3,7 +3,7 @@
 ghost use mathlib.Core.Path.{_≡_};
 ghost use lib.ListN.{getD};
 ghost use Rattle.words.specs.Words.{tableIn};
-ghost use Rattle.conclusions.specs.Conclusions.{TableAuthor, SheetBack, SheetAgain, NumberField, Text, Planner, PlannerWithin, LeastFound, LeastRead, FreshRecord, Proposing, Committing, FirmwareWriter, Forwarding, Drawn, SalesDesk, Listing};
+ghost use Rattle.conclusions.specs.Conclusions.{TableAuthor, SheetBack, SheetAgain, NumberField, Text, Planner, PlannerWithin, LeastFound, LeastRead, FreshRecord, Proposing, Committing, FirmwareWriter, Forwarding, Drawn, SalesDesk, Listing, LineRead, PlanPasted, VerdictPasted};
 
 // What reading a sheet and writing its table back said: both numbers, and the length in bytes.
 pub struct Again {
@@ -67,6 +67,20 @@ pub struct Reads {
     pub read: u32,
     pub number: u32,
     pub table: [u32; 388],
+}
+
+// What is had back from a drawing: the numbers of composing a sentence and of reading it, whose answer it tells, and the fields of both answers.
+pub struct Pasted {
+    pub composed: u32,
+    pub read: u32,
+    pub kind: u32,
+    pub number: u32,
+    pub left: u64,
+    pub order: [u8; 64],
+    pub trials: u32,
+    pub yes: u32,
+    pub row: u32,
+    pub slack: i32,
 }
 
 // A table author hands in a sheet.
@@ -326,6 +340,72 @@ pub fn job_list(table: [u32; 388], order: [u8; 64], report: &mut [u8], size: &mu
     ensures { λ r. ⌜ Listing (tableIn table) order (now (report .entry)) r (now (size .exit)) (now (report .exit)) ⌝ }
 {
     jasminebrace::jb_report(&table, &order, report, size)
+}
+
+// Whoever finds a line in a drawing has it read.
+pub fn line_read(composed: u32, line: &[u8]) -> Pasted
+    ensures { λ r. ⌜ LineRead composed (now (line .entry)) r ⌝ }
+{
+    let mut kind: u32 = 0;
+    let mut number: u32 = 0;
+    let mut left: u64 = 0;
+    let mut order = [0u8; 64];
+    let mut trials: u32 = 0;
+    let mut yes: u32 = 0;
+    let mut row: u32 = 0;
+    let mut slack: i32 = 0;
+    let read = jasminebrace::jb_read_sentence(
+        line,
+        &mut kind,
+        &mut number,
+        &mut left,
+        &mut order,
+        &mut trials,
+        &mut yes,
+        &mut row,
+        &mut slack,
+    );
+    Pasted {
+        composed,
+        read,
+        kind,
+        number,
+        left,
+        order,
+        trials,
+        yes,
+        row,
+        slack,
+    }
+}
+
+// A planner pastes an answer of the planner's into a drawing, whatever it holds, and has it read again.
+pub fn plan_pasted(number: u32, left: u64, order: [u8; 64], trials: u32) -> Pasted
+    ensures { λ r. ⌜ PlanPasted number left order trials r ⌝ }
+{
+    let mut line = [0u8; 739];
+    let mut size: u32 = 0;
+    let composed = jasminebrace::jb_plan_sentence(
+        number,
+        left,
+        &order,
+        trials,
+        &mut line,
+        &mut size,
+    );
+    let length = size as usize;
+    line_read(composed, &line[..length])
+}
+
+// And an answer of the judge's, with a slack in slots.
+pub fn verdict_pasted(number: u32, yes: u32, row: u32, slack: i32) -> Pasted
+    ensures { λ r. ⌜ VerdictPasted number yes row slack r ⌝ }
+{
+    let mut line = [0u8; 739];
+    let mut size: u32 = 0;
+    let composed = jasminebrace::jb_judge_sentence(number, yes, row, slack, &mut line, &mut size);
+    let length = size as usize;
+    line_read(composed, &line[..length])
 }
 
 // Whoever links the archive asks which interface it has.

@@ -63,8 +63,8 @@ pub struct Reading {
     pub table: Table,
 }
 
-// The answer of a call that writes text into lent bytes, the writer or the report, and the text's length in bytes (0 on a refusal)
-// (rules 15.2, 15.5, 16.5, 16.8).
+// The answer of a call that writes text into lent bytes, the writer, the report or the composer, and the text's length in bytes (0 on a refusal)
+// (rules 15.2, 15.5, 16.5, 16.8, 24.9).
 pub struct Writing {
     pub check: Check,
     pub size: u32,

@@ -75,17 +75,17 @@ up-to p k z e zero h = z
 up-to p k z e (suc n) h = all-in p (rowsTo k) e (suc n) (omega (arith, count-rows k (suc n) (omega arith) h))
 
 abbrev meantShort : ℕ → Bool
-meantShort number = leb (length (decimal number) + length (meaning number)) 66
+meantShort number = leb (length (decimal number) + length (meaning number)) 69
 
 meant-few : (number : ℕ) → number ≤ 19 → meantShort number ≡ true
 unfolding decimal digitIf meaning
 meant-few = up-to meantShort 19 refl refl
 
-meant-long : (number : ℕ) → number ≤ 4294967295 → length (decimal number) + length (meaning number) ≤ 66
+meant-long : (number : ℕ) → number ≤ 4294967295 → length (decimal number) + length (meaning number) ≤ 69
 unfolding meaning
 meant-long number h =
     by-leb number 19
-    (λ e l. leb-true (length (decimal number) + length (meaning number)) 66 (meant-few number l))
+    (λ e l. leb-true (length (decimal number) + length (meaning number)) 69 (meant-few number l))
     (λ e l. omega (arith, decimal-long number 9 (omega arith), ap (λ (s : String). length (bytes s)) (beyond meanings number (omega arith))))
 
 -- ---- lists
@@ -134,7 +134,7 @@ enumerated-long noun tail opening xs h =
     )
 
 -- ---- the planner's sentence
-opening-long : (number : ℕ) → number ≤ 4294967295 → length (planOpening number) ≤ 98
+opening-long : (number : ℕ) → number ≤ 4294967295 → length (planOpening number) ≤ 101
 unfolding planOpening
 opening-long number h =
     omega (
@@ -144,19 +144,19 @@ opening-long number h =
       length-append (meaning number) (together (bytes "): " ∷ [])),
     )
 
-pub plan-longest : (a : PlanAnswer) → PlanFits a → length (planSentence a) ≤ 732
+pub plan-longest : (a : PlanAnswer) → PlanFits a → length (planSentence a) ≤ 739
 unfolding planSentence
 plan-longest a f =
     let P = upToLast (a .order) in
     let R = rowsIn (a .left) in
-    let places = enumerated (bytes " place") (bytes " filled") (bytes " (highest first: ") P in
+    let places = enumerated (bytes " row") (bytes " in the order") (bytes " (highest first: ") P in
     let rows = enumerated (bytes " row") (bytes " left") (bytes " (") R in
     let few : length P ≤ 64 = omega (arith, last-within (a .order), f .long) in
     omega (
       arith,
       opening-long (a .number) (f .number),
       counted-long (a .trials) 9 (bytes " trial") (omega (arith, f .trials)),
-      enumerated-long (bytes " place") (bytes " filled") (bytes " (highest first: ") P few,
+      enumerated-long (bytes " row") (bytes " in the order") (bytes " (highest first: ") P few,
       items-small P (last-all (λ x. leb x 255) (a .order) (f .small)),
       few,
       enumerated-long (bytes " row") (bytes " left") (bytes " (") R (rows-in-held (a .left) .1),
@@ -183,13 +183,13 @@ zero-meant : leb (length (meaning 0)) 40 ≡ true
 unfolding meaning
 zero-meant = refl
 
-judged-long : (number said : ℕ) → number ≤ 4294967295 → length (decimal number) + length (judgedMeaning number said) ≤ 66
+judged-long : (number said : ℕ) → number ≤ 4294967295 → length (decimal number) + length (judgedMeaning number said) ≤ 69
 judged-long number said h =
     by-eqb number 0
     (λ e q. omega (arith, decimal-long number 0 (omega arith), leb-true (length (judgedMeaning number said)) 40 (judged-all (λ t. leb (length t) 40) number said refl refl refl (rw q zero-meant))))
     (λ e q. omega (arith, meant-long number h, ap length (judged-other number said e)))
 
-opened-long : (number said : ℕ) → number ≤ 4294967295 → said ≤ 4294967295 → length (judgeOpening number said) ≤ 125
+opened-long : (number said : ℕ) → number ≤ 4294967295 → said ≤ 4294967295 → length (judgeOpening number said) ≤ 128
 unfolding judgeOpening
 opened-long number said h y =
     let J = judgedMeaning number said in
@@ -209,7 +209,7 @@ size-long (pos v) f =
 size-long (negsuc m) f =
     omega (arith, counted-long (suc m) 9 (bytes " slot") (omega arith), length-append (counted (suc m) (bytes " slot")) [])
 
-pub judge-longest : (a : JudgeAnswer) → JudgeFits a → length (judgeSentence a) ≤ 174
+pub judge-longest : (a : JudgeAnswer) → JudgeFits a → length (judgeSentence a) ≤ 177
 unfolding judgeSentence
 judge-longest a f =
     omega (

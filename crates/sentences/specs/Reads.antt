@@ -1,5 +1,5 @@
 -- Back and there: what the reader takes is the sentence of the answer that it read, and that answer fits its fields; what it refuses is no answer's
--- sentence (rules 24.11, 24.13). And the answers of the planner and of the judge, as they give them, are told apart (rule 24.14).
+-- sentence (rules 24.11, 24.13).
 use Prim.Native.Nat.{ℕ, zero, suc, min, _+_, _-_, _*_, _/_, _%_, _^_, _≤_, _<_}
 use mathlib.Core.Bool.{Bool, true, false, true≢false, cond, _&&_}
 use mathlib.Core.List.{List, [], _∷_, _++_, map}
@@ -138,6 +138,14 @@ judge-in-fits bytes =
 -- the answers that are read from any bytes
 pub plan-in-fits : (bytes : List ℕ) → PlanFits (planIn (figuresIn bytes))
 plan-in-fits bytes = plan-fits (figuresIn bytes) (scan-held false 0 bytes (omega arith))
+
+-- what is told of a judge's slack fits, with a refusal too
+pub told-slack-fits : (bytes : List ℕ) → SlackFits (readSentence bytes .verdict .slack)
+unfolding readSentence
+told-slack-fits bytes =
+    by-bool (same bytes (planSentence (planIn (figuresIn bytes))))
+    (λ e. rw e (omega arith))
+    (λ e. rw e (by-bool (same bytes (judgeSentence (judgeIn bytes))) (λ g. rw g (judge-in-fits bytes .slack)) (λ g. rw g (omega arith))))
 
 -- ---- any bytes
 -- what the reader answers, and why

@@ -25,8 +25,8 @@ meanings =
     ∷ "refused: a field or a line end is malformed"
     ∷ "refused: the row count is beyond its limits"
     ∷ "refused: a speed is beyond its limits"
-    ∷ "refused: a row is beyond its limits"
-    ∷ "refused: the order does not name every row once, or breaks a wait"
+    ∷ "refused: a row is beyond its limits, or figures stand after the last"
+    ∷ "refused: the numbers are not an order of the table"
     ∷ "no correct order exists"
     ∷ "refused: the clock is at its end"
     ∷ "refused: the run record is unsound"
@@ -99,7 +99,7 @@ planSentence a =
     (planOpening (a .number)
     ∷ counted (a .trials) (bytes " trial")
     ∷ bytes ", "
-    ∷ enumerated (bytes " place") (bytes " filled") (bytes " (highest first: ") (upToLast (a .order))
+    ∷ enumerated (bytes " row") (bytes " in the order") (bytes " (highest first: ") (upToLast (a .order))
     ∷ bytes ", "
     ∷ enumerated (bytes " row") (bytes " left") (bytes " (") (rowsIn (a .left))
     ∷ bytes "."

@@ -122,18 +122,15 @@ plan-tells a n t l h k g =
     tells-then (opening-tells (a .number) n)
     (tells-then (counted-tells (a .trials) (bytes " trial") t noun)
     (tells-then (tells-plain (bytes ", ") refl)
-    (tells-then (enumerated-tells (bytes " place") (bytes " filled") (bytes " (highest first: ") (upToLast (a .order)) noun' refl refl l h)
+    (tells-then (enumerated-tells (bytes " row") (bytes " in the order") (bytes " (highest first: ") (upToLast (a .order)) noun' refl refl l h)
     (tells-then (tells-plain (bytes ", ") refl)
-    (tells-figures (append-nil _) (tells-then (enumerated-tells (bytes " row") (bytes " left") (bytes " (") (rowsIn (a .left)) noun'' refl refl k g) (tells-plain _ refl)))))))
+    (tells-figures (append-nil _) (tells-then (enumerated-tells (bytes " row") (bytes " left") (bytes " (") (rowsIn (a .left)) noun' refl refl k g) (tells-plain _ refl)))))))
   where
     noun : After (bytes " trial")
     noun = record { words = refl; begins = λ rest. refl }
 
-    noun' : After (bytes " place")
+    noun' : After (bytes " row")
     noun' = record { words = refl; begins = λ rest. refl }
-
-    noun'' : After (bytes " row")
-    noun'' = record { words = refl; begins = λ rest. refl }
 
 -- ---- the judge's sentence
 -- the figure of a yes or no that is neither

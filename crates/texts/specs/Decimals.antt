@@ -14,6 +14,6 @@ hasDigit v w = leb w v || eqb w 1
 unfoldable pub digitIf : ℕ → ℕ → List ℕ
 digitIf v w = cond (hasDigit v w) ((48 + v / w % 10) ∷ []) []
 
--- the digits of a number of at most ten (rule 24.2)
+-- the digits of a number that has at most ten (rule 24.2)
 unfoldable pub decimal : ℕ → List ℕ
 decimal v = joined (digitIf v) columns

@@ -27,7 +27,9 @@ fn words_for(number: u32) -> &'static str {
     match number {
         0 => "success",
         1 => "the sheet has under 33 bytes, or not 33 + 49 for each row",
-        2 => "a field or a line end of the sheet is malformed",
+        2 => {
+            "a field or a line end of the sheet is malformed, or the bytes are no answer's sentence"
+        }
         3 => "the row count is not 1 to 64",
         4 => "N is not 1 to 1,000, or G is not 1 to N (work units per slot)",
         5 => concat!(

@@ -25,8 +25,8 @@ pub const WORDS: [&str; 19] = [
     "refused: a field or a line end is malformed",
     "refused: the row count is beyond its limits",
     "refused: a speed is beyond its limits",
-    "refused: a row is beyond its limits",
-    "refused: the order does not name every row once, or breaks a wait",
+    "refused: a row is beyond its limits, or figures stand after the last",
+    "refused: the numbers are not an order of the table",
     "no correct order exists",
     "refused: the clock is at its end",
     "refused: the run record is unsound",
@@ -44,27 +44,32 @@ pub const WORDS: [&str; 19] = [
 
 /// The examples of rule 24.8, in its sequence.
 pub const P1_PLANNED: &str =
-    "The planner answers number 0 (an order was made): 6 trials, 4 places filled (highest \
+    "The planner answers number 0 (an order was made): 6 trials, 4 rows in the order (highest \
      first: 1, 2, 3, 4), 0 rows left.";
 pub const P3_PLANNED: &str =
-    "The planner answers number 7 (no correct order exists): 2 trials, 0 places filled, 2 rows \
-     left (1, 2).";
+    "The planner answers number 7 (no correct order exists): 2 trials, 0 rows in the order, 2 \
+     rows left (1, 2).";
 pub const P1_OVER_5: &str =
     "The planner answers number 19 (refused: planning takes more trials than the ceiling): 5 \
-     trials, 0 places filled, 0 rows left.";
+     trials, 0 rows in the order, 0 rows left.";
 pub const OF_65_ROWS: &str =
-    "The planner answers number 3 (refused: the row count is beyond its limits): 0 trials, 0 \
-     places filled, 0 rows left.";
+    "The planner answers number 3 (refused: the row count is beyond its limits): 0 trials, 0 rows \
+     in the order, 0 rows left.";
 pub const ABSURD_PLAN: &str =
-    "The planner answers number 4000000000 (a number without a meaning): 1 trial, 3 places \
-     filled (highest first: 0, 0, 255), 2 rows left (1, 64).";
+    "The planner answers number 4000000000 (a number without a meaning): 1 trial, 3 rows in \
+     the order (highest first: 0, 0, 255), 2 rows left (1, 64).";
 pub const P1_CORRECT: &str =
     "The judge says yes (number 0, the order is correct): tightest row 1, slack 0 slots.";
 pub const P1_NOT_CORRECT: &str =
     "The judge says no (number 0, the order is not correct): tightest row 1, slack -10 slots.";
 pub const P1_ROW_TWICE: &str =
-    "The judge says no (number 6, refused: the order does not name every row once, or breaks a \
-     wait): tightest row 0, slack 0 slots.";
+    "The judge says no (number 6, refused: the numbers are not an order of the table): tightest \
+     row 0, slack 0 slots.";
+pub const ONE_OF_EACH: &str =
+    "The planner answers number 0 (an order was made): 1 trial, 1 row in the order (highest \
+     first: 1), 1 row left (2).";
+pub const ONE_BELOW: &str =
+    "The judge says yes (number 0, the order is correct): tightest row 64, slack -1 slot.";
 pub const ABSURD_VERDICT: &str =
     "The judge says 7, neither yes nor no (number 0, an order was judged): tightest row \
      4294967295, slack -2147483648 slots.";
@@ -109,7 +114,7 @@ pub fn sentences() -> Vec<SentenceCase> {
     cases
 }
 
-/// The nine examples of rule 24.8.
+/// The eleven examples of rule 24.8.
 pub fn examples() -> Vec<SentenceCase> {
     let p1_order = order_of(&[1, 2, 3, 4]);
     let absurd = planned(4_000_000_000, 1, order_of(&[0, 0, 255]), (1 << 63) + 1);
@@ -127,6 +132,12 @@ pub fn examples() -> Vec<SentenceCase> {
         case("another order of P1", judged(0, 0, 1, -10), P1_NOT_CORRECT),
         case("row 1 of P1 twice", judged(6, 0, 0, 0), P1_ROW_TWICE),
         case(
+            "one of each in a plan",
+            planned(0, 1, order_of(&[1]), 0b10),
+            ONE_OF_EACH,
+        ),
+        case("one slot below", judged(0, 1, 64, -1), ONE_BELOW),
+        case(
             "a verdict that no call answers",
             judged(0, 7, u32::MAX, i32::MIN),
             ABSURD_VERDICT,
@@ -141,7 +152,7 @@ fn plan_of_number(number: u32, words: &str) -> SentenceCase {
         planned(number, 0, NO_ORDER, 0),
         format!(
             "The planner answers number {number} ({words}): \
-             0 trials, 0 places filled, 0 rows left."
+             0 trials, 0 rows in the order, 0 rows left."
         ),
     )
 }
@@ -180,16 +191,25 @@ fn absurd_plans() -> Vec<SentenceCase> {
     };
     let mut last_only = NO_ORDER;
     last_only[ROWS - 1] = 255;
-    let places = |each: &str, last: &str| {
+    let numbers = |each: &str, last: &str| {
         let list = each.repeat(ROWS - 1) + last;
-        format!("0 trials, 64 places filled (highest first: {list}), 0 rows left")
+        format!("0 trials, 64 rows in the order (highest first: {list}), 0 rows left")
     };
-    let every_row = format!("0 trials, 0 places filled, 64 rows left ({})", all_rows());
-    let row_64 = "0 trials, 0 places filled, 1 row left (64)";
-    let most = "4294967295 trials, 0 places filled, 0 rows left";
+    let every_row = format!(
+        "0 trials, 0 rows in the order, 64 rows left ({})",
+        all_rows()
+    );
+    let row_64 = "0 trials, 0 rows in the order, 1 row left (64)";
+    let most = "4294967295 trials, 0 rows in the order, 0 rows left";
     vec![
-        plan("255 after 63 zeros", 0, last_only, 0, &places("0, ", "255")),
-        plan("64 times 255", 0, [255; ROWS], 0, &places("255, ", "255")),
+        plan(
+            "255 after 63 zeros",
+            0,
+            last_only,
+            0,
+            &numbers("0, ", "255"),
+        ),
+        plan("64 times 255", 0, [255; ROWS], 0, &numbers("255, ", "255")),
         plan("all rows left", 0, NO_ORDER, u64::MAX, &every_row),
         plan("row 64 left", 0, NO_ORDER, 1 << 63, row_64),
         plan(
@@ -197,7 +217,7 @@ fn absurd_plans() -> Vec<SentenceCase> {
             1,
             NO_ORDER,
             0,
-            "1 trial, 0 places filled, 0 rows left",
+            "1 trial, 0 rows in the order, 0 rows left",
         ),
         plan("4,294,967,295 trials", u32::MAX, NO_ORDER, 0, most),
         plan_of_number(20, "a number without a meaning"),
@@ -232,32 +252,32 @@ fn absurd_verdicts() -> Vec<SentenceCase> {
     ]
 }
 
-/// The longest sentences, of 732 and of 174 bytes (rule 24.10).
+/// The longest sentences, of 739 and of 177 bytes (rule 24.10).
 pub fn longest() -> [SentenceCase; 2] {
-    let refused = WORDS[5];
-    let (places, rows) = ("255, ".repeat(63), all_rows());
+    let refused = WORDS[4];
+    let (numbers, rows) = ("255, ".repeat(63), all_rows());
     [
         case(
             "the longest plan",
-            planned(6, u32::MAX, [255; ROWS], u64::MAX),
+            planned(5, u32::MAX, [255; ROWS], u64::MAX),
             format!(
-                "The planner answers number 6 ({refused}): 4294967295 trials, \
-                 64 places filled (highest first: {places}255), 64 rows left ({rows})."
+                "The planner answers number 5 ({refused}): 4294967295 trials, \
+                 64 rows in the order (highest first: {numbers}255), 64 rows left ({rows})."
             ),
         ),
         case(
             "the longest verdict",
-            judged(6, u32::MAX, u32::MAX, i32::MIN),
+            judged(5, u32::MAX, u32::MAX, i32::MIN),
             format!(
-                "The judge says 4294967295, neither yes nor no (number 6, {refused}): \
+                "The judge says 4294967295, neither yes nor no (number 5, {refused}): \
                  tightest row 4294967295, slack -2147483648 slots."
             ),
         ),
     ]
 }
 
-/// One place, one row, zeros between and before places, and words beside a yes or no that no
-/// call answers with them.
+/// One row in the order and one left, zeros between and before other numbers, and words beside a
+/// yes or no that no call answers with them.
 fn more_sentences() -> Vec<SentenceCase> {
     let plan = |what: &str, order: &[u8], rows: &[u8], rest: &str| {
         let sentence = format!("The planner answers number 7 (no correct order exists): {rest}.");
@@ -270,28 +290,28 @@ fn more_sentences() -> Vec<SentenceCase> {
     };
     vec![
         plan(
-            "one place, one row",
+            "one row in the order and one left",
             &[1],
             &[1],
-            "10 trials, 1 place filled (highest first: 1), 1 row left (1)",
+            "10 trials, 1 row in the order (highest first: 1), 1 row left (1)",
         ),
         plan(
-            "a zero between two places",
+            "a zero between two numbers",
             &[1, 0, 2],
             &[],
-            "10 trials, 3 places filled (highest first: 1, 0, 2), 0 rows left",
+            "10 trials, 3 rows in the order (highest first: 1, 0, 2), 0 rows left",
         ),
         plan(
-            "a zero before the only place",
+            "a zero before the only number",
             &[0, 10],
             &[9, 10, 11],
-            "10 trials, 2 places filled (highest first: 0, 10), 3 rows left (9, 10, 11)",
+            "10 trials, 2 rows in the order (highest first: 0, 10), 3 rows left (9, 10, 11)",
         ),
         case(
             "a planner's zeros",
             Answer::Planner(PlannerAnswer::ZERO),
             "The planner answers number 0 (an order was made): \
-             0 trials, 0 places filled, 0 rows left.",
+             0 trials, 0 rows in the order, 0 rows left.",
         ),
         case(
             "a judge's zeros",
@@ -343,7 +363,7 @@ pub fn refused_sentences() -> Vec<RefusedCase> {
 /// Those of rule 13.18 that are no bytes at all or come from P1's plan.
 fn refused_plans() -> Vec<RefusedCase> {
     let plan = |what, words, others| with(what, P1_PLANNED, words, others);
-    let listed = "4 places filled (highest first: 1, 2, 3, 4)";
+    let listed = "4 rows in the order (highest first: 1, 2, 3, 4)";
     vec![
         RefusedCase {
             what: "no bytes",
@@ -357,12 +377,16 @@ fn refused_plans() -> Vec<RefusedCase> {
         plan("a leading zero in the list", ": 1, 2", ": 01, 2"),
         plan("1 trials", "6 trials", "1 trials"),
         plan("words of 7", "an order was made", "no correct order exists"),
-        plan("a place more than is listed", "4 places", "5 places"),
-        plan("a place fewer than is listed", "4 places", "3 places"),
+        plan("a row more in the order than is listed", "4 rows", "5 rows"),
         plan(
-            "a last place 0",
+            "a row fewer in the order than is listed",
+            "4 rows",
+            "3 rows",
+        ),
+        plan(
+            "a last 0 in the order",
             listed,
-            "5 places filled (highest first: 1, 2, 3, 4, 0)",
+            "5 rows in the order (highest first: 1, 2, 3, 4, 0)",
         ),
         plan("number 4,294,967,296", "number 0", "number 4294967296"),
         plan(
@@ -370,8 +394,8 @@ fn refused_plans() -> Vec<RefusedCase> {
             "0 (an order was made)",
             "4294967296 (a number without a meaning)",
         ),
-        plan("place 256", ": 1, 2", ": 256, 2"),
-        plan("a last place 256", "3, 4)", "3, 256)"),
+        plan("a 256 in the order", ": 1, 2", ": 256, 2"),
+        plan("a last 256 in the order", "3, 4)", "3, 256)"),
     ]
 }
 
@@ -391,7 +415,7 @@ fn refused_verdicts() -> Vec<RefusedCase> {
     let yes = |what, words, others| with(what, P1_CORRECT, words, others);
     vec![
         yes("slack -0 slots", "0 slots", "-0 slots"),
-        slack("slack 10 slot", "10 slot"),
+        slack("slack -10 slot", "-10 slot"),
         slack("slack 2,147,483,648", "2147483648 slots"),
         slack("slack -2,147,483,649", "-2147483649 slots"),
         yes(
@@ -440,32 +464,33 @@ fn more_refused_plans() -> Vec<RefusedCase> {
         plan("+6 trials", "6 trials", "+6 trials"),
         plan("-6 trials", "6 trials", "-6 trials"),
         plan("6,000 trials", "6 trials", "6,000 trials"),
-        plan("no list of places", " (highest first: 1, 2, 3, 4)", ""),
+        plan("no list of the order", " (highest first: 1, 2, 3, 4)", ""),
         plan("a list that stops", "3, 4)", "3, 4"),
         plan("a list without a space", "3, 4)", "3,4)"),
         plan("a list that begins otherwise", "(highest first: ", "("),
         plan(
-            "a row fewer than is listed",
+            "a row fewer left than is listed",
             "0 rows left",
             "0 rows left (1)",
         ),
         plan("an empty list of rows", "0 rows left", "0 rows left ()"),
         stuck(
-            "an empty list of places",
-            "filled",
-            "filled (highest first: )",
+            "an empty list of the order",
+            "in the order",
+            "in the order (highest first: )",
         ),
-        stuck("0 place", "0 places", "0 place"),
+        stuck("0 row", "0 rows", "0 row"),
         stuck("1 rows", rows, "1 rows left (1)"),
         stuck("2 row", rows, "2 row left (1, 2)"),
         stuck("row 0", "(1, 2)", "(0, 2)"),
-        stuck("a row more than is listed", "2 rows", "3 rows"),
+        stuck("a row more left than is listed", "2 rows", "3 rows"),
         stuck("rows without a list", rows, "2 rows left"),
+        with("1 rows in the order", ONE_OF_EACH, "1 row in", "1 rows in"),
         with(
-            "65 places",
+            "65 rows in the order",
             P1_PLANNED,
-            "4 places filled (highest first: ",
-            &format!("65 places filled (highest first: {}", "5, ".repeat(61)),
+            "4 rows in the order (highest first: ",
+            &format!("65 rows in the order (highest first: {}", "5, ".repeat(61)),
         ),
     ]
 }

@@ -29,7 +29,7 @@ pub fn planner_answer(random: &mut Random) -> PlannerAnswer {
     PlannerAnswer {
         number: figure(random),
         left: left(random),
-        order: places(random),
+        order: numbers(random),
         trials: figure(random),
     }
 }
@@ -94,19 +94,19 @@ fn left(random: &mut Random) -> u64 {
 
 /// Sixty-four numbers: none but zeros, the rows of a table, zeros among others, large ones, or
 /// any.
-fn places(random: &mut Random) -> Order {
+fn numbers(random: &mut Random) -> Order {
     let rows: Vec<u8> = (1..=random.between(1, 64) as u8).collect();
     match random.between(0, 4) {
         0 => NO_ORDER,
         1 => order_of(&random.shuffled(&rows)),
-        2 => few_places(random),
+        2 => few_numbers(random),
         3 => [random.one_of(&[1, 9, 10, 99, 100, 255]); ROWS],
         _ => any_bytes(random),
     }
 }
 
 /// Zeros, and up to four numbers at any of the places.
-fn few_places(random: &mut Random) -> Order {
+fn few_numbers(random: &mut Random) -> Order {
     let mut order = NO_ORDER;
     for _ in 0..random.between(1, 4) {
         let index = random.between(0, ROWS as u32 - 1) as usize;
@@ -170,8 +170,8 @@ const SWAPS: [[&[u8]; 2]; 12] = [
     [b"no", b"yes"],
     [b"trials", b"trial"],
     [b"trial", b"trials"],
-    [b"places", b"place"],
     [b"rows", b"row"],
+    [b"row", b"rows"],
     [b"slots", b"slot"],
     [b"-", b""],
 ];

@@ -60,14 +60,14 @@ fn for_verdict(answer: &Answer, other: impl Fn(&mut JudgeAnswer)) -> String {
 }
 
 /// The nouns that figures have.
-const NOUNS: [&str; 4] = ["trial", "place", "row", "slot"];
+const NOUNS: [&str; 3] = ["trial", "row", "slot"];
 
-/// The word before a list, and what the list begins with.
+/// The words before a list, and what the list begins with.
 type ListOf = [&'static str; 2];
-const PLACES: ListOf = [" filled", " (highest first: "];
+const IN_ORDER: ListOf = [" in the order", " (highest first: "];
 const ROWS_LEFT: ListOf = [" left", " ("];
 
-/// What stands before a list and its word, the numbers in it, and what stands after it; none if
+/// What stands before a list and its words, the numbers in it, and what stands after it; none if
 /// some number has a leading zero.
 fn listed(text: &str, of: ListOf) -> Option<(&str, Vec<u32>, &str)> {
     let (head, rest) = text.split_once(&of.concat())?;
@@ -78,13 +78,13 @@ fn listed(text: &str, of: ListOf) -> Option<(&str, Vec<u32>, &str)> {
     is_plain.then_some((head, numbers, tail))
 }
 
-/// The word before a list, and the list.
-fn list(numbers: &[u32], [word, begin]: ListOf) -> String {
+/// The words before a list, and the list.
+fn list(numbers: &[u32], [words, begin]: ListOf) -> String {
     if numbers.is_empty() {
-        return word.to_string();
+        return words.to_string();
     }
     let figures: Vec<String> = numbers.iter().map(u32::to_string).collect();
-    format!("{word}{begin}{})", figures.join(", "))
+    format!("{words}{begin}{})", figures.join(", "))
 }
 
 /// The text with another list, if it has one.
@@ -97,7 +97,7 @@ fn relisted(text: &str, of: ListOf, change: impl Fn(&mut Vec<u32>)) -> String {
 }
 
 /// The same, with the count of the list before its noun, whatever count stood there.
-fn recounted(text: &str, noun: &str, of: ListOf, change: impl Fn(&mut Vec<u32>)) -> String {
+fn recounted(text: &str, of: ListOf, change: impl Fn(&mut Vec<u32>)) -> String {
     let Some((head, mut numbers, tail)) = listed(text, of) else {
         return text.to_string();
     };
@@ -105,7 +105,7 @@ fn recounted(text: &str, noun: &str, of: ListOf, change: impl Fn(&mut Vec<u32>))
     let mut words = head.rsplitn(3, ' ');
     let before = words.nth(2).unwrap_or("");
     let s = if numbers.len() == 1 { "" } else { "s" };
-    let count = format!("{} {noun}{s}", numbers.len());
+    let count = format!("{} row{s}", numbers.len());
     format!("{before} {count}{}{tail}", list(&numbers, of))
 }
 
@@ -204,7 +204,7 @@ const MORE: &[Faulty] = &[
     Faulty {
         name: "-1 takes an s",
         sentence: |answer| text(answer).replace("-1 slot.", "-1 slots."),
-        told_by: "slack -1",
+        told_by: "one slot below",
     },
     Faulty {
         name: "a line end",
@@ -213,14 +213,14 @@ const MORE: &[Faulty] = &[
     },
     Faulty {
         name: "zeros are left out of the list",
-        sentence: |answer| relisted(&text(answer), PLACES, |places| places.retain(|&it| it != 0)),
+        sentence: |answer| relisted(&text(answer), IN_ORDER, |order| order.retain(|&it| it != 0)),
         told_by: "a plan that no call answers",
     },
     Faulty {
         name: "zeros are left out of the list and of the count",
         sentence: |answer| {
-            recounted(&text(answer), "place", PLACES, |places| {
-                places.retain(|&held| held != 0);
+            recounted(&text(answer), IN_ORDER, |order| {
+                order.retain(|&held| held != 0);
             })
         },
         told_by: "a plan that no call answers",
@@ -228,15 +228,15 @@ const MORE: &[Faulty] = &[
     Faulty {
         name: "all sixty-four numbers",
         sentence: |answer| {
-            recounted(&text(answer), "place", PLACES, |places| {
-                places.resize(64, 0);
+            recounted(&text(answer), IN_ORDER, |order| {
+                order.resize(64, 0);
             })
         },
         told_by: "P1 planned",
     },
     Faulty {
         name: "the lowest place first",
-        sentence: |answer| relisted(&text(answer), PLACES, |places| places.reverse()),
+        sentence: |answer| relisted(&text(answer), IN_ORDER, |order| order.reverse()),
         told_by: "P1 planned",
     },
     Faulty {
@@ -443,15 +443,15 @@ const TAKING: &[FaultyReader] = &[
         told_by: "number 4,294,967,296 without a meaning",
     },
     FaultyReader {
-        name: "places that wrap at 256",
+        name: "numbers of the order that wrap at 256",
         read: |bytes| {
             repaired(bytes, |text| {
-                relisted(text, PLACES, |places| {
-                    places.iter_mut().for_each(|held| *held %= 256);
+                relisted(text, IN_ORDER, |order| {
+                    order.iter_mut().for_each(|held| *held %= 256);
                 })
             })
         },
-        told_by: "place 256",
+        told_by: "a 256 in the order",
     },
     FaultyReader {
         name: "an s after 1",
@@ -473,7 +473,7 @@ const TAKING: &[FaultyReader] = &[
                 text.replace("trial,", "trials,").replace("slot.", "slots.")
             })
         },
-        told_by: "slack 10 slot",
+        told_by: "slack -10 slot",
     },
     FaultyReader {
         name: "another number's words",
@@ -492,29 +492,29 @@ const TAKING: &[FaultyReader] = &[
         told_by: "words of 7",
     },
     FaultyReader {
-        name: "any count of places",
-        read: |bytes| repaired(bytes, |text| recounted(text, "place", PLACES, |_| {})),
-        told_by: "a place more than is listed",
+        name: "any count of rows in the order",
+        read: |bytes| repaired(bytes, |text| recounted(text, IN_ORDER, |_| {})),
+        told_by: "a row more in the order than is listed",
     },
     FaultyReader {
-        name: "a last place 0",
+        name: "a last 0 in the order",
         read: |bytes| {
-            repaired(bytes, |text| match listed(text, PLACES) {
-                Some((_, places, _)) if places.last() == Some(&0) => {
-                    recounted(text, "place", PLACES, |places| {
-                        let last = places.iter().rposition(|&held| held != 0);
-                        places.truncate(last.map_or(0, |at| at + 1));
+            repaired(bytes, |text| match listed(text, IN_ORDER) {
+                Some((_, order, _)) if order.last() == Some(&0) => {
+                    recounted(text, IN_ORDER, |order| {
+                        let last = order.iter().rposition(|&held| held != 0);
+                        order.truncate(last.map_or(0, |at| at + 1));
                     })
                 }
                 _ => text.to_string(),
             })
         },
-        told_by: "a last place 0",
+        told_by: "a last 0 in the order",
     },
     FaultyReader {
         name: "any count of rows left",
-        read: |bytes| repaired(bytes, |text| recounted(text, "row", ROWS_LEFT, |_| {})),
-        told_by: "a row fewer than is listed",
+        read: |bytes| repaired(bytes, |text| recounted(text, ROWS_LEFT, |_| {})),
+        told_by: "a row fewer left than is listed",
     },
     FaultyReader {
         name: "rows left in any sequence",
@@ -527,14 +527,14 @@ const TAKING: &[FaultyReader] = &[
     },
     FaultyReader {
         name: "a row left twice",
-        read: |bytes| repaired(bytes, |text| recounted(text, "row", ROWS_LEFT, Vec::dedup)),
+        read: |bytes| repaired(bytes, |text| recounted(text, ROWS_LEFT, Vec::dedup)),
         told_by: "one row twice",
     },
     FaultyReader {
         name: "rows left from 65 on",
         read: |bytes| {
             repaired(bytes, |text| {
-                recounted(text, "row", ROWS_LEFT, |rows| rows.retain(|&row| row <= 64))
+                recounted(text, ROWS_LEFT, |rows| rows.retain(|&row| row <= 64))
             })
         },
         told_by: "row 65",
@@ -543,10 +543,10 @@ const TAKING: &[FaultyReader] = &[
         name: "row 0 left",
         read: |bytes| {
             repaired(bytes, |text| {
-                recounted(text, "row", ROWS_LEFT, |rows| rows.retain(|&row| row != 0))
+                recounted(text, ROWS_LEFT, |rows| rows.retain(|&row| row != 0))
             })
         },
-        told_by: "a row fewer than is listed",
+        told_by: "a row fewer left than is listed",
     },
     FaultyReader {
         name: "a minus before 0",
@@ -586,7 +586,7 @@ const ANSWERING: &[FaultyReader] = &[
         told_by: "a plan that no call answers",
     },
     FaultyReader {
-        name: "zeros before the last place are refused",
+        name: "zeros before the last number are refused",
         read: |bytes| {
             refusing_plans(bytes, |plan| {
                 let zero = plan.order.iter().position(|&held| held == 0);
@@ -605,7 +605,7 @@ const ANSWERING: &[FaultyReader] = &[
     FaultyReader {
         name: "rows left beside an order are refused",
         read: |bytes| refusing_plans(bytes, |plan| plan.left != 0 && plan.order[0] != 0),
-        told_by: "the longest plan",
+        told_by: "one of each in a plan",
     },
     FaultyReader {
         name: "neither yes nor no is refused",
@@ -675,7 +675,7 @@ const COMPOSERS: &[FaultyComposer] = &[
             true => (10, 0),
             false => compose(answer, lent),
         },
-        told_by: 117,
+        told_by: 121,
     },
     FaultyComposer {
         name: "10 with fewer bytes than the longest sentence has",
@@ -683,7 +683,7 @@ const COMPOSERS: &[FaultyComposer] = &[
             true => (10, 0),
             false => compose(answer, lent),
         },
-        told_by: 117,
+        told_by: 121,
     },
     FaultyComposer {
         name: "as much as there is room for",
@@ -709,7 +709,7 @@ const COMPOSERS: &[FaultyComposer] = &[
             }
             told
         },
-        told_by: 118,
+        told_by: 122,
     },
 ];
 
@@ -912,9 +912,9 @@ fn sentences_without_a_fault() {
     for case in sentences() {
         let own = text(&case.answer);
         assert_eq!(own, case.sentence, "{}", case.what);
-        for (noun, of) in [("place", PLACES), ("row", ROWS_LEFT)] {
+        for of in [IN_ORDER, ROWS_LEFT] {
             assert_eq!(relisted(&own, of, |_| {}), own);
-            assert_eq!(recounted(&own, noun, of, |_| {}), own);
+            assert_eq!(recounted(&own, of, |_| {}), own);
         }
         assert_eq!(refigured(&own, str::to_string), own);
         assert_eq!(for_plan(&case.answer, |_| {}), own);

@@ -22,7 +22,7 @@ slack-fits (pos v) f = let s = f .sfits in omega arith
 slack-fits (negsuc m) f = let s = f .sfits in omega arith
 
 -- the fields fit their types, so the sentence fits
-sentence-fits : (c : tie.After-made) → length (judgeSentence (c .before .before .args .answer)) ≤ 732
+sentence-fits : (c : tie.After-made) → length (judgeSentence (c .before .before .args .answer)) ≤ 739
 sentence-fits c =
     let a = c .before .before .args .answer in
     let n : Fits w32 (a .number) = search needs in

@@ -26,7 +26,7 @@ entry-fits c i =
     le-leb (getD o i 0) 255 (omega (arith, f .fits))
 
 -- the fields fit their types, so the sentence fits
-sentence-fits : (c : tie.After-made) → length (planSentence (c .before .before .args .answer)) ≤ 732
+sentence-fits : (c : tie.After-made) → length (planSentence (c .before .before .args .answer)) ≤ 739
 sentence-fits c =
     let a = c .before .before .args .answer in
     let n : Fits w32 (a .number) = search needs in

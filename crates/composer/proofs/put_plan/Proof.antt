@@ -18,7 +18,7 @@ abbrev trials : PlanAnswer → List ℕ
 trials a = counted (a .trials) (bytes " trial")
 
 abbrev placed : List ℕ → List ℕ
-placed = enumerated (bytes " place") (bytes " filled") (bytes " (highest first: ")
+placed = enumerated (bytes " row") (bytes " in the order") (bytes " (highest first: ")
 
 abbrev unplaced : List ℕ → List ℕ
 unplaced = enumerated (bytes " row") (bytes " left") (bytes " (")

@@ -15,7 +15,7 @@ use Rattle.parser.proofs.is_plan.Tie as tie
 abbrev start : tie.After-plan-sentence → tie.Start
 start c = c .before .before .before
 
-enough : (c : tie.After-plan-sentence) → length (planSentence (start c .args .answer)) ≤ 732
+enough : (c : tie.After-plan-sentence) → length (planSentence (start c .args .answer)) ≤ 739
 enough c = plan-longest (start c .args .answer) (start c .pre)
 
 slice-aggregate-plan-sentence : tie.Need-slice-aggregate-plan-sentence
