@@ -3,3 +3,4 @@ pub mod Front
 pub mod Choices
 pub mod Meanings
 pub mod Together
+pub mod Fits

@@ -7,6 +7,7 @@ use native.Mathlib.Omega.{arith}
 use lib.Arith.{lt-of-le-ne}
 use lib.ListN.{length}
 use Rattle.texts.specs.Quoted.{bytes}
+use Rattle.sentences.specs.Longest.{beyond}
 use Rattle.sentences.specs.Sentences.{meanings, wordsAt, meaning}
 
 -- a number that is none of the k from b on
@@ -21,12 +22,6 @@ from-there b (suc k) n l h =
     let e : b + suc k ≡ suc (b + k) = omega arith in
     rw e (lt-of-le-ne (from-there b k n l (h .0)) (λ z. h .1 (sym z)))
 
--- at an index after the last there are no words
-words-none : (ss : List String) (k : ℕ) → length ss ≤ k → wordsAt ss k ≡ "a number without a meaning"
-words-none [] k h = refl
-words-none (s ∷ ss) zero h = absurd (omega arith)
-words-none (s ∷ ss) (suc k) h = words-none ss k (omega arith)
-
 module _ (number : ℕ) where
   pub meaning-is : (k : ℕ) → number ≡ k → meaning number ≡ bytes (wordsAt meanings k)
   unfolding meaning
@@ -38,4 +33,4 @@ module _ (number : ℕ) where
 
   pub meaning-none : 14 ≤ number → NoneFrom 14 6 number → meaning number ≡ bytes "a number without a meaning"
   unfolding meaning
-  meaning-none l h = ap bytes (words-none meanings number (from-there 14 6 number l h))
+  meaning-none l h = ap bytes (beyond meanings number (from-there 14 6 number l h))

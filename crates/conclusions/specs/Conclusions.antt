@@ -28,6 +28,10 @@ use Rattle.texts.specs.Fields.{valueOf, isField}
 use Rattle.texts.specs.Program.{programText}
 use Rattle.texts.specs.Reports.{figure}
 use Rattle.texts.specs.Sheets.{isLine, numberAt, readOf}
+use Rattle.sentences.specs.declared.PlanAnswer.{PlanAnswer}
+use Rattle.sentences.specs.declared.JudgeAnswer.{JudgeAnswer}
+use Rattle.sentences.specs.Sentences.{planSentence, judgeSentence}
+use Rattle.sentences.specs.RoundTrip.{PlanFits, JudgeFits}
 use Rattle.sentences.specs.Reading.{readSentence, kindNumber, numberTold}
 use Rattle.record.specs.Answers.{slotSaid, forwardSaid}
 use Rattle.record.specs.Records.{isSound, startRun, oneSlot, forwardOver}
@@ -659,7 +663,7 @@ pub record Listing (t : Table) (o lent : List ℕ) (number size : ℕ) (after : 
 -- ---- A planner who pastes an answer into a drawing: through the exported functions it comes back, whatever it holds (rules 24.12, 24.14).
 
 -- every field is what the reader tells of the line
-pub record LineRead (composed : ℕ) (line : List ℕ) (r : Pasted) : Type 0 where
+pub record LineTold (composed : ℕ) (line : List ℕ) (r : Pasted) : Type 0 where
   pub composed-is : r .composed ≡ composed
   pub read-is : r .read ≡ checkNumber (readSentence line .check)
   pub kind-is : r .kind ≡ kindNumber (readSentence line .kind)
@@ -670,6 +674,23 @@ pub record LineRead (composed : ℕ) (line : List ℕ) (r : Pasted) : Type 0 whe
   pub yes-is : r .yes ≡ readSentence line .verdict .yes
   pub row-is : r .row ≡ readSentence line .verdict .row
   pub slack-is : r .slack ≡ readSentence line .verdict .slack
+
+-- the answers in these fields
+abbrev pub planBack : Pasted → PlanAnswer
+planBack r = record { number = r .number; left = r .left; order = r .order; trials = r .trials }
+
+abbrev pub verdictBack : Pasted → JudgeAnswer
+verdictBack r = record { number = r .number; yes = r .yes; row = r .row; slack = r .slack }
+
+-- any line is the sentence of the planner's answer that is read (1), or of the judge's (2), or refused with 2, and then it is no answer's sentence (rules 24.11,
+-- 24.13)
+pub record LineRead (composed : ℕ) (line : List ℕ) (r : Pasted) : Type 0 where
+  pub told : LineTold composed line r
+  pub back : ((r .read ≡ 0) × (r .kind ≡ 1) × (planSentence (planBack r) ≡ line))
+      ⊎ (((r .read ≡ 0) × (r .kind ≡ 2) × (judgeSentence (verdictBack r) ≡ line))
+      ⊎ ((r .read ≡ 2) × (r .kind ≡ 0)
+      × ((a : PlanAnswer) → PlanFits a → planSentence a ≡ line → ⊥)
+      × ((a : JudgeAnswer) → JudgeFits a → judgeSentence a ≡ line → ⊥)))
 
 -- composing and reading both say 0, it is a planner's answer (1), its number, rows left, order and trials are those that were told, and nothing is told
 -- of a judge's

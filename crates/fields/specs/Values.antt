@@ -60,7 +60,7 @@ value-last v = omega (arith, weighed v 8)
 pub value-written : (v : ℕ) → v < 100000000 → valueOf (written v) ≡ v
 value-written v h = omega (arith, value-last v)
 
-same-same : (xs : List ℕ) → same xs xs ≡ true
+pub same-same : (xs : List ℕ) → same xs xs ≡ true
 same-same [] = refl
 same-same (x ∷ xs) = rw (eq-eqb x x refl) (same-same xs)
 

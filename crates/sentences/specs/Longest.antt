@@ -64,7 +64,8 @@ counted-long v k noun h =
     suffix = by-bool (eqb v 1) (λ e. rw e (omega arith)) (λ e. rw e (omega arith))
 
 -- ---- a number and its meaning
-beyond : (ss : List String) (n : ℕ) → length ss ≤ n → wordsAt ss n ≡ "a number without a meaning"
+-- at an index after the last there are the words of a number without a meaning
+pub beyond : (ss : List String) (n : ℕ) → length ss ≤ n → wordsAt ss n ≡ "a number without a meaning"
 beyond [] n h = refl
 beyond (s ∷ ss) zero h = absurd (omega arith)
 beyond (s ∷ ss) (suc n) h = beyond ss n (omega arith)

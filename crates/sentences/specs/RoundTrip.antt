@@ -19,6 +19,7 @@ use Rattle.rules.specs.Choice.{padded}
 use Rattle.theory.specs.Counts.{keep-append}
 use Rattle.checks.specs.RowLists.{all-append}
 use Rattle.theory.specs.Tests.{by-bool, by-leb, by-eqb, and-left, and-right, and-both}
+use Rattle.fields.specs.Values.{same-same}
 use Rattle.sweep.specs.Padded.{zeros, padded-zeros}
 use Rattle.sweep.specs.Masks.{bit, above}
 use Rattle.sentences.specs.declared.PlanAnswer.{PlanAnswer}
@@ -244,11 +245,7 @@ module _ (a : JudgeAnswer) (f : JudgeFits a) where
       minus = hasMinus (judgeSentence a)
 
 -- ---- the theorems
--- equal lists of numbers are the same, and the same are equal
-same-refl : (xs : List ℕ) → same xs xs ≡ true
-same-refl [] = refl
-same-refl (x ∷ xs) = rw (eq-eqb x x refl) (same-refl xs)
-
+-- lists of numbers that are the same are equal
 pub same-equal : (xs ys : List ℕ) → same xs ys ≡ true → xs ≡ ys
 same-equal [] [] e = refl
 same-equal [] (y ∷ ys) e = absurd (true≢false (sym e))
@@ -267,7 +264,7 @@ kinds-differ a v e = omega (arith, byte)
 -- reading a planner's sentence (rule 24.12)
 pub plan-there-back : (a : PlanAnswer) → PlanFits a → readSentence (planSentence a) ≡ record { check = Passed; kind = Planner; plan = a; verdict = noVerdict }
 unfolding readSentence
-plan-there-back a f = rw (plan-back a f, same-refl (planSentence a))
+plan-there-back a f = rw (plan-back a f, same-same (planSentence a))
 
 -- reading a judge's sentence (rule 24.12)
 pub judge-there-back : (a : JudgeAnswer) → JudgeFits a → readSentence (judgeSentence a) ≡ record { check = Passed; kind = Judge; plan = noPlan; verdict = a }
@@ -276,7 +273,7 @@ judge-there-back a f =
     let p = planIn (figuresIn (judgeSentence a)) in
     by-bool (same (judgeSentence a) (planSentence p))
     (λ e. absurd (kinds-differ p a (sym (same-equal (judgeSentence a) (planSentence p) e))))
-    (λ e. rw (e, judge-back a f, same-refl (judgeSentence a)))
+    (λ e. rw (e, judge-back a f, same-same (judgeSentence a)))
 
 -- two different answers never have the same sentence (rule 24.14)
 pub plans-differ : (a b : PlanAnswer) → PlanFits a → PlanFits b → planSentence a ≡ planSentence b → a ≡ b

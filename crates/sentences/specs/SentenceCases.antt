@@ -27,7 +27,7 @@ use Rattle.sentences.specs.declared.PlanAnswer.{PlanAnswer}
 use Rattle.sentences.specs.declared.JudgeAnswer.{JudgeAnswer}
 use Rattle.sentences.specs.declared.Told.{Told}
 use Rattle.sentences.specs.Sentences.{meaning, judgedMeaning, counted, enumerated, rowsIn, planOpening, planSentence, yesOrNo, slackWords, judgeOpening, judgeSentence, planAnswer, judgeAnswer, composeOf}
-use Rattle.sentences.specs.Reading.{grown, scan, marked, planIn, judgeIn, readSentence, noPlan, noVerdict, kindNumber}
+use Rattle.sentences.specs.Reading.{grown, scan, marked, planIn, judgeIn, readSentence, noPlan, noVerdict, kindNumber, numberTold}
 
 pub data Case : Type 0 where
   -- a planner's answer and its sentence, from which it is read again
@@ -55,19 +55,24 @@ sameSlack (negsuc v) (pos w) = false
 abbrev sameJudge : JudgeAnswer → JudgeAnswer → Bool
 sameJudge a b = eqb (a .number) (b .number) && eqb (a .yes) (b .yes) && eqb (a .row) (b .row) && sameSlack (a .slack) (b .slack)
 
--- the reader's number and kind, and both answers
-abbrev tells : Told → ℕ → ℕ → PlanAnswer → JudgeAnswer → Bool
-tells t number kind p v = eqb (checkNumber (t .check)) number && eqb (kindNumber (t .kind)) kind && samePlan (t .plan) p && sameJudge (t .verdict) v
+-- the reader's number and kind, the number of the answer read, and both answers
+abbrev tells : Told → ℕ → ℕ → ℕ → PlanAnswer → JudgeAnswer → Bool
+tells t number kind told p v =
+    eqb (checkNumber (t .check)) number
+    && eqb (kindNumber (t .kind)) kind
+    && eqb (numberTold (t .kind) (t .plan) (t .verdict)) told
+    && samePlan (t .plan) p
+    && sameJudge (t .verdict) v
 
 abbrev holds : Case → Bool
-holds (plan a s) = same (planSentence a) (bytes s) && tells (readSentence (bytes s)) 0 1 a noVerdict
-holds (judge a s) = same (judgeSentence a) (bytes s) && tells (readSentence (bytes s)) 0 2 noPlan a
+holds (plan a s) = same (planSentence a) (bytes s) && tells (readSentence (bytes s)) 0 1 (a .number) a noVerdict
+holds (judge a s) = same (judgeSentence a) (bytes s) && tells (readSentence (bytes s)) 0 2 (a .number) noPlan a
 holds (planLong a k) = eqb (length (planSentence a)) k
 holds (judgeLong a k) = eqb (length (judgeSentence a)) k
 holds (lent s before number size after) =
     let back = composeOf (bytes s) before in
     eqb (checkNumber (back .said .check)) number && eqb (back .said .size) size && same (back .bytes) after
-holds (refused bs) = tells (readSentence bs) 2 0 noPlan noVerdict
+holds (refused bs) = tells (readSentence bs) 2 0 0 noPlan noVerdict
 
 abbrev allHold : List Case → Bool
 allHold [] = true

@@ -4,22 +4,16 @@ use borrow.Author.Needs.{needs}
 use mathlib.Core.List.{List}
 use mathlib.Core.Path.{ap, _∙_}
 use native.Mathlib.Omega.{arith}
-use lib.IntN.{ℤ, pos, negsuc}
 use lib.ListN.{length}
 use mir.Syntax.{w32}
 use mir.Val.{Fits, SFits}
 use Rattle.texts.specs.Lent.{WrittenBack}
 use Rattle.sentences.specs.Sentences.{judgeSentence, composeOf}
-use Rattle.sentences.specs.RoundTrip.{SlackFits}
 use Rattle.sentences.specs.Longest.{judge-longest}
+use Rattle.composer.specs.Fits.{slack-fits}
 use Rattle.composer.specs.Front.{front-is, front-long}
 use Rattle.composer.proofs.judge_sentence.Statement.{statement}
 use Rattle.composer.proofs.judge_sentence.Tie as tie
-
--- a slack of 32 bits
-slack-fits : (z : ℤ) → SFits w32 z → SlackFits z
-slack-fits (pos v) f = let s = f .sfits in omega arith
-slack-fits (negsuc m) f = let s = f .sfits in omega arith
 
 -- the fields fit their types, so the sentence fits
 sentence-fits : (c : tie.After-made) → length (judgeSentence (c .before .before .args .answer)) ≤ 739

@@ -73,7 +73,7 @@ returns c =
     plan-pasted (told p) (fits p) _ _ _
     (p .jb-plan-sentence .ensures .0 ∙ composed-zero (planSentence (told p)) _ (enough p))
     (line-front (planSentence (told p)) _ (enough p) _ _ (p .jb-plan-sentence .ensures .1) (p .jb-plan-sentence .ensures .2))
-    (c .line-read .ensures)
+    (c .line-read .ensures .told)
 
 pub plan-pasted-spec : {M : Type 1} → statement M
 plan-pasted-spec =

@@ -12,8 +12,9 @@ use Rattle.sentences.specs.declared.JudgeAnswer.{JudgeAnswer}
 use Rattle.sentences.specs.Sentences.{judgeSentence}
 use Rattle.sentences.specs.Longest.{judge-longest}
 use Rattle.sentences.specs.RoundTrip.{SlackFits, JudgeFits}
+use Rattle.composer.specs.Fits.{slack-fits}
 use Rattle.conclusions.specs.Conclusions.{VerdictPasted}
-use Rattle.conclusions.specs.Pasting.{held-slack, composed-zero, line-within, line-front, line-long, verdict-pasted}
+use Rattle.conclusions.specs.Pasting.{composed-zero, line-within, line-front, line-long, verdict-pasted}
 use Rattle.conclusions.proofs.verdict_pasted.Statement.{statement}
 use Rattle.conclusions.proofs.verdict_pasted.Tie as tie
 
@@ -34,7 +35,7 @@ fits c =
     let n : Fits w32 (x .number) = search needs in
     let y : Fits w32 (x .yes) = search needs in
     let r : Fits w32 (x .row) = search needs in
-    record { number = omega (arith, n .fits); yes = omega (arith, y .fits); row = omega (arith, r .fits); slack = subst SlackFits (sym (same c)) (held-slack (x .slack) (start c .fits .slack)) }
+    record { number = omega (arith, n .fits); yes = omega (arith, y .fits); row = omega (arith, r .fits); slack = subst SlackFits (sym (same c)) (slack-fits (x .slack) (start c .fits .slack)) }
 
 enough : (c : tie.After-jb-judge-sentence) → length (judgeSentence (told c)) ≤ 739
 enough c = omega (arith, judge-longest (told c) (fits c))
@@ -66,7 +67,7 @@ returns c =
     (verdict-pasted (told p) (fits p) _ _ _
     (p .jb-judge-sentence .ensures .0 ∙ composed-zero (judgeSentence (told p)) _ (enough p))
     (line-front (judgeSentence (told p)) _ (enough p) _ _ (p .jb-judge-sentence .ensures .1) (p .jb-judge-sentence .ensures .2))
-    (c .line-read .ensures))
+    (c .line-read .ensures .told))
 
 pub verdict-pasted-spec : {M : Type 1} → statement M
 verdict-pasted-spec =
