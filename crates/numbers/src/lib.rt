@@ -50,6 +50,7 @@ pub fn refusal_number(why: Refusal) -> u32
         Refusal::RowOpen => 17,
         Refusal::ReleasedBefore => 18,
         Refusal::TrialsOver => 19,
+        Refusal::TooManyRows => 20,
     }
 }
 

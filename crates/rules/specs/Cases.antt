@@ -13,7 +13,7 @@ use lib.ListN.{length, replicate}
 use Rattle.rules.specs.declared.Row.{Row}
 use Rattle.rules.specs.declared.Table.{Table}
 use Rattle.rules.specs.declared.Verdict.{Verdict}
-use Rattle.rules.specs.declared.Refusal.the-variants.{ClockOver, Unsound, NoRoom, Loading, NotCorrect, RowOpen, ReleasedBefore, TrialsOver}
+use Rattle.rules.specs.declared.Refusal.the-variants.{ClockOver, Unsound, NoRoom, Loading, NotCorrect, RowOpen, ReleasedBefore, TrialsOver, TooManyRows}
 use Rattle.rules.specs.declared.Check.the-variants.{Passed}
 use Rattle.rules.specs.Calls.{Call, one, forward, Said, tellOne, tellForward, tellAll, allSupplies, supplyFrom, supplyAt}
 use Rattle.rules.specs.Correct.{earliest, Window}
@@ -367,6 +367,7 @@ runs =
     ∷ gives (refusalNumber RowOpen) 17
     ∷ gives (refusalNumber ReleasedBefore) 18
     ∷ gives (refusalNumber TrialsOver) 19
+    ∷ gives (refusalNumber TooManyRows) 20
     ∷ []
 
 -- the small definitions that the others share

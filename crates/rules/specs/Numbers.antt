@@ -3,7 +3,7 @@ use Prim.Native.Nat.{ℕ}
 use mathlib.Core.Bool.{Bool, true, false}
 use lib.IntN.{ℤ, pos}
 use Rattle.rules.specs.declared.Refusal.{Refusal}
-use Rattle.rules.specs.declared.Refusal.the-variants.{Length, Malformed, RowCount, Speeds, RowLimits, NotAnOrder, ClockOver, Unsound, NoRoom, Loading, Promised, NotLower, ReleasedLater, FollowsLow, NotCorrect, RowOpen, ReleasedBefore, TrialsOver}
+use Rattle.rules.specs.declared.Refusal.the-variants.{Length, Malformed, RowCount, Speeds, RowLimits, NotAnOrder, ClockOver, Unsound, NoRoom, Loading, Promised, NotLower, ReleasedLater, FollowsLow, NotCorrect, RowOpen, ReleasedBefore, TrialsOver, TooManyRows}
 use Rattle.rules.specs.declared.Check.{Check}
 use Rattle.rules.specs.declared.Check.the-variants as Checks
 use Rattle.rules.specs.declared.Planned.{Planned}
@@ -13,7 +13,7 @@ use Rattle.rules.specs.declared.Searched.the-variants as Searches
 use Rattle.rules.specs.declared.Verdict.{Verdict}
 use Rattle.rules.specs.declared.Verdict.the-variants as Verdicts
 
--- a refusal's number (rules 10.1 to 10.6, 10.8 to 10.19)
+-- a refusal's number (rules 10.1 to 10.6, 10.8 to 10.20)
 unfoldable pub refusalNumber : Refusal → ℕ
 refusalNumber Length = 1
 refusalNumber Malformed = 2
@@ -33,6 +33,7 @@ refusalNumber NotCorrect = 16
 refusalNumber RowOpen = 17
 refusalNumber ReleasedBefore = 18
 refusalNumber TrialsOver = 19
+refusalNumber TooManyRows = 20
 
 -- the number of the reader, of the writer, of the report, of the checks of tables and orders, of the fresh record, of a commit: 0 where no check refuses (rule 10.0)
 unfoldable pub checkNumber : Check → ℕ

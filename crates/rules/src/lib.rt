@@ -29,7 +29,7 @@ pub struct Table {
     pub follows: [u32; 64],
 }
 
-// Why a call was refused (rules 10.1 to 10.6, 10.8 to 10.19). The number of each is given by specs/Numbers.
+// Why a call was refused (rules 10.1 to 10.6, 10.8 to 10.20). The number of each is given by specs/Numbers.
 pub enum Refusal {
     Length,
     Malformed,
@@ -49,6 +49,7 @@ pub enum Refusal {
     RowOpen,
     ReleasedBefore,
     TrialsOver,
+    TooManyRows,
 }
 
 // A check passed, or what it was refused for (rule 11.1).

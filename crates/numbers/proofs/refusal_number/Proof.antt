@@ -59,6 +59,9 @@ enum-told-17 c = search needs
 enum-told-18 : tie.Need-enum-told-18
 enum-told-18 c = search needs
 
+enum-told-19 : tie.Need-enum-told-19
+enum-told-19 c = search needs
+
 returns : tie.Need-returns
 unfolding refusalNumber
 returns c = sym (ap refusalNumber (c .enum-told .given .1))
@@ -131,6 +134,10 @@ returns-18 : tie.Need-returns-18
 unfolding refusalNumber
 returns-18 c = sym (ap refusalNumber (c .enum-told18 .given .1))
 
+returns-19 : tie.Need-returns-19
+unfolding refusalNumber
+returns-19 c = sym (ap refusalNumber (c .enum-told19 .given .1))
+
 pub refusal-number-spec : {M : Type 1} → statement M
 refusal-number-spec =
     tie.close
@@ -153,6 +160,7 @@ refusal-number-spec =
     enum-told-16
     enum-told-17
     enum-told-18
+    enum-told-19
     returns
     returns-2
     returns-3
@@ -170,4 +178,5 @@ refusal-number-spec =
     returns-15
     returns-16
     returns-17
-    returns-18)
+    returns-18
+    returns-19)
