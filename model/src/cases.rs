@@ -1,9 +1,10 @@
 //! The tables and answers of cases P1 to P4 (section 13 of the rules), and cases,
 //! runs and reports worked out by hand, for tests here and of the compiled library. Those
-//! in which rows follow rows are in `waits`, commits in `commits`, ceilings in `ceilings`, and
-//! sentences in `sentences`.
+//! in which rows follow rows are in `waits`, commits in `commits`, ceilings in `ceilings`,
+//! sentences in `sentences`, and counted choices in `choices`.
 
 pub mod ceilings;
+pub mod choices;
 pub mod commits;
 pub mod sentences;
 pub mod waits;

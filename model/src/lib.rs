@@ -22,6 +22,7 @@
 //! | `plan`      | worst finish, promised moment, slack, choice at a ceiling    |
 //! | `judge`     | the judge of orders                                          |
 //! | `proposal`  | asking, committing, and days of run calls and commits        |
+//! | `choices`   | correct orders counted, of a table and of each word of rows  |
 //! | `speeds`    | the least workable speeds, by a scan over all of the range   |
 //! | `sheet`     | the sheet's fields, its reader and its writer                |
 //! | `place`     | where a refused sheet is at fault                            |
@@ -32,11 +33,13 @@
 //! | `before`    | answers from before loading times, promises and waits        |
 //! | `random`    | a fixed-seed generator of numbers, tables, days, answers     |
 //! | `plain`     | the same answers by sweeps, for large tables and measures    |
-//! | `planners`  | planning with a sweep for each trial, and for each place     |
+//! | `planners`  | planning with a sweep for each trial, and for each place;    |
+//! |             | choices with sweeps for each word                            |
 
 pub mod before;
 pub mod calls;
 pub mod cases;
+pub mod choices;
 pub mod judge;
 pub mod order;
 pub mod place;

@@ -21,6 +21,9 @@ use crate::table::{check_table, earliest_release, need, promised_need, Table, HI
 /// The planner: of the two, the one that is faster on hard sheets.
 pub use crate::planners::each_place::{plan, plan_and_trials};
 
+/// The choices of a table and of each word of its rows.
+pub use crate::planners::lowest::count_choices;
+
 /// The least workable speed: every speed of the range is planned, from the least
 /// on, until one has an order.
 pub fn least_by_scan(table: &Table, sought: Sought) -> Least {

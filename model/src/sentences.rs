@@ -151,6 +151,7 @@ fn meaning(number: u32, of_zero: &'static str) -> &'static str {
         17 => "refused: a row of the running sheet is open",
         18 => "refused: a row is released before the clock",
         19 => "refused: planning takes more trials than the ceiling",
+        20 => "refused: the table has more rows than can be counted",
         _ => "a number without a meaning",
     }
 }

@@ -1,14 +1,16 @@
 //! Every number of section 10 of the rules: its example there, its neighbours,
-//! and the order of the checks on a table (rules 11.4, 11.6 and 11.11). Number 7 is
+//! and the order of the checks on a table (rules 11.4, 11.6, 11.11 and 11.13). Number 7 is
 //! case P3. The order of the checks of a commit is in `commits`.
 
 mod common;
 
 use common::{p3_at, refused_verdict, rubbish, TOO_LONG};
 use model::cases::ceilings::{counted, over, unplanned};
+use model::cases::choices::wherever;
 use model::cases::commits::drawn;
 use model::cases::waits::{checked_wait_orders, checked_waits};
 use model::cases::{checked_promises, p1, p2, p3, table};
+use model::choices::{check_counting, SCRATCH};
 use model::judge::{judge, judge_table};
 use model::order::{check_order, order_of, Order, NO_ORDER};
 use model::plain;
@@ -460,4 +462,57 @@ fn checks_at_a_ceiling_come_in_their_order() {
     assert_eq!(numbers_of(&limited), [19, 7, 7]);
     limited.deadline[0] = 6;
     assert_eq!(numbers_of(&limited), [19, 0, 0]);
+}
+
+/// An accepted table of 13 rows, whatever is lent, and one of 12 (rule 10.20); 4,096 numbers of
+/// scratch are asked for, whatever n is (rule 10.10).
+#[test]
+fn number_20_more_rows_than_can_be_counted() {
+    let numbers_of = |table: &Table| LENT_NUMBERS.map(|lent| check_counting(table, lent));
+    for rows in [13, 14, 63, 64] {
+        assert_eq!(numbers_of(&wherever(rows)), [20; 5], "{rows} rows");
+    }
+    for rows in [1, 2, 11, 12] {
+        assert_eq!(
+            numbers_of(&wherever(rows)),
+            [10, 10, 10, 0, 0],
+            "{rows} rows"
+        );
+    }
+}
+
+/// Numbers of scratch that are lent: too few, just enough, and more.
+const LENT_NUMBERS: [usize; 5] = [0, 2, SCRATCH - 1, SCRATCH, SCRATCH + 1];
+
+/// 3, 4, 11, 5, 12 and 13 to 15 come before 20, and 20 before 10 (rule 11.13).
+#[test]
+fn checks_of_counting_come_in_their_order() {
+    let numbers_of = |table: &Table| LENT_NUMBERS.map(|lent| check_counting(table, lent));
+    let mut wrong = Table {
+        n: 65,
+        normal: 0,
+        ..wherever(13).with_loading(17)
+    };
+    (wrong.deadline[12], wrong.promised[12], wrong.follows[12]) = (0, 2, 13);
+    assert_eq!(numbers_of(&wrong), [3; 5]);
+    wrong.n = 13;
+    assert_eq!(numbers_of(&wrong), [4; 5]);
+    wrong.normal = 1;
+    assert_eq!(numbers_of(&wrong), [11; 5]);
+    wrong.loading = 1;
+    assert_eq!(numbers_of(&wrong), [5; 5]);
+    wrong.deadline[12] = 13;
+    assert_eq!(numbers_of(&wrong), [12; 5]);
+    wrong.promised[12] = 1;
+    assert_eq!(numbers_of(&wrong), [13; 5]);
+    wrong.follows[12] = 12;
+    wrong.release[11] = 1;
+    assert_eq!(numbers_of(&wrong), [14; 5]);
+    wrong.release[12] = 1;
+    (wrong.level[12], wrong.promised[12]) = (1, 0);
+    assert_eq!(numbers_of(&wrong), [15; 5]);
+    wrong.level[11] = 1;
+    assert_eq!(numbers_of(&wrong), [20; 5]);
+    let fewer = Table::of(1, 1, 1, &wrong.rows()[..12]);
+    assert_eq!(numbers_of(&fewer), [10, 10, 10, 0, 0]);
 }

@@ -94,7 +94,7 @@ fn words_of_the_numbers() {
         assert!(words.bytes().all(is_plain), "{words}");
         assert_eq!(words.starts_with("refused: "), number != 7, "{words}");
     }
-    let numbers = [0, 1, 2, 19, 20, 21, 99, 1 << 31, u32::MAX];
+    let numbers = [0, 1, 2, 19, 20, 21, 22, 99, 1 << 31, u32::MAX];
     for number in numbers.into_iter().chain((0..32).map(|bit| 1 << bit)) {
         let answers = [
             Answer::Planner(PlannerAnswer {
@@ -109,7 +109,7 @@ fn words_of_the_numbers() {
         for answer in answers {
             let sentence = String::from_utf8(answer.sentence()).expect("plain letters");
             let is_without = sentence.contains("a number without a meaning");
-            assert_eq!(is_without, number > 19, "{sentence}");
+            assert_eq!(is_without, number > 20, "{sentence}");
             assert_comes_back(&answer);
         }
     }
@@ -173,12 +173,12 @@ fn there_and_back() {
             Answer::Judge(it) => (1, it.number),
         };
         kinds[kind] += 1;
-        if number <= 20 {
+        if number <= 21 {
             numbers.insert((kind, number));
         }
     }
     assert!(kinds.iter().all(|&times| times > 20_000), "{kinds:?}");
-    assert_eq!(numbers.len(), 2 * 21);
+    assert_eq!(numbers.len(), 2 * 22);
 }
 
 /// Only number 0 comes with an order and only number 7 with rows left (rules 24.4 and 24.5); what
@@ -595,7 +595,7 @@ fn the_longest_sentences() {
     let lengths = longest().map(|case| case.answer.sentence().len());
     assert_eq!(lengths, [739, 177]);
     assert_eq!([LONGEST_OF_PLANNER, LONGEST_OF_JUDGE], lengths);
-    let numbers = || (0..=20).chain([u32::MAX]);
+    let numbers = || (0..=21).chain([u32::MAX]);
     let mut most = [0; 2];
     for number in numbers() {
         for count in 0..=64 {

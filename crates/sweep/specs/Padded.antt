@@ -111,7 +111,7 @@ module _ (f : ℕ → ℕ) where
   rows-length zero = refl
   rows-length (suc k) = rw (map-last (rowsTo k) (suc k)) (omega (arith, length-append (map f (rowsTo k)) (f (suc k) ∷ []), rows-length k))
 
-  rows-entry : (n j : ℕ) → j < n → getD (map f (rowsTo n)) j 0 ≡ f (suc j)
+  pub rows-entry : (n j : ℕ) → j < n → getD (map f (rowsTo n)) j 0 ≡ f (suc j)
   rows-entry zero j h = absurd (omega arith)
   rows-entry (suc k) j h =
       rw (map-last (rowsTo k) (suc k))

@@ -19,8 +19,8 @@ pub struct RefusedCase {
     pub bytes: Vec<u8>,
 }
 
-/// The words of the numbers from 1 to 19, by rule 24.6.
-pub const WORDS: [&str; 19] = [
+/// The words of the numbers from 1 to 20, by rule 24.6.
+pub const WORDS: [&str; 20] = [
     "refused: the sheet has the wrong length",
     "refused: a field or a line end is malformed",
     "refused: the row count is beyond its limits",
@@ -40,6 +40,7 @@ pub const WORDS: [&str; 19] = [
     "refused: a row of the running sheet is open",
     "refused: a row is released before the clock",
     "refused: planning takes more trials than the ceiling",
+    "refused: the table has more rows than can be counted",
 ];
 
 /// The examples of rule 24.8, in its sequence.
@@ -166,7 +167,7 @@ fn verdict_of_number(number: u32, words: &str) -> SentenceCase {
     )
 }
 
-/// Each number from 1 to 19 of the planner and of the judge.
+/// Each number from 1 to 20 of the planner and of the judge.
 fn every_number() -> Vec<SentenceCase> {
     let mut cases = Vec::new();
     for (number, words) in (1..).zip(WORDS) {
@@ -220,7 +221,7 @@ fn absurd_plans() -> Vec<SentenceCase> {
             "1 trial, 0 rows in the order, 0 rows left",
         ),
         plan("4,294,967,295 trials", u32::MAX, NO_ORDER, 0, most),
-        plan_of_number(20, "a number without a meaning"),
+        plan_of_number(21, "a number without a meaning"),
         plan_of_number(u32::MAX, "a number without a meaning"),
     ]
 }
@@ -247,7 +248,7 @@ fn absurd_verdicts() -> Vec<SentenceCase> {
         no("the last row", u32::MAX, 0, "4294967295, slack 0 slots"),
         neither("yes or no 2", 2),
         neither("yes or no 4,294,967,295", u32::MAX),
-        verdict_of_number(20, "a number without a meaning"),
+        verdict_of_number(21, "a number without a meaning"),
         verdict_of_number(4_000_000_000, "a number without a meaning"),
     ]
 }
@@ -332,10 +333,10 @@ fn more_sentences() -> Vec<SentenceCase> {
             "10, neither yes nor no (number 10, refused: the memory lent is too short",
         ),
         verdict(
-            "yes beside 20",
-            20,
+            "yes beside 21",
+            21,
             1,
-            "yes (number 20, a number without a meaning",
+            "yes (number 21, a number without a meaning",
         ),
     ]
 }
@@ -447,7 +448,7 @@ fn more_refused_plans() -> Vec<RefusedCase> {
         plan("judge for planner", "planner", "judge"),
         plan("number 00", "number 0", "number 00"),
         plan("no number", "number 0", "number "),
-        plan("number 20 with the words of 0", "number 0", "number 20"),
+        plan("number 21 with the words of 0", "number 0", "number 21"),
         plan(
             "a judge's words",
             "an order was made",

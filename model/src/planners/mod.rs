@@ -1,5 +1,6 @@
 //! The planner in plain Rust, twice: `each_trial` sweeps for each row that it tries,
-//! `each_place` once for each place, for all rows that are tried there.
+//! `each_place` once for each place, for all rows that are tried there. `lowest` counts choices
+//! by sweeps over words of rows.
 //!
 //! A sweep goes through the rows left by rising release and adds up what they take:
 //! where the processor is free by the next release a busy period ends, and that is the
@@ -13,6 +14,7 @@
 pub mod each_place;
 pub mod each_trial;
 pub mod left;
+pub mod lowest;
 
 use crate::order::NO_ORDER;
 use crate::plan::Plan;

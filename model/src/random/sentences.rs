@@ -68,7 +68,7 @@ fn figure(random: &mut Random) -> u32 {
         2 => random.one_of(&[two - 1, two, two + 1]),
         3 => u32::MAX - random.between(0, 2),
         4 => random.between(0, 2),
-        _ => random.between(0, 21),
+        _ => random.between(0, 22),
     }
 }
 

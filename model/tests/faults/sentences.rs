@@ -582,7 +582,7 @@ const TAKING: &[FaultyReader] = &[
 const ANSWERING: &[FaultyReader] = &[
     FaultyReader {
         name: "numbers without a meaning are refused",
-        read: |bytes| refusing_plans(bytes, |plan| plan.number > 19),
+        read: |bytes| refusing_plans(bytes, |plan| plan.number > 20),
         told_by: "a plan that no call answers",
     },
     FaultyReader {
