@@ -145,7 +145,7 @@ module _ (t : Table) (f : TableFacts t) where
           ∙ ap (λ (n : ℕ). byLowest (mayStand t) n (erase i (rowsIn t m))) (erased-length k (rowsIn t m) i j e))
 
   -- ALL ROWS. The word of all rows has the choices of the table (rule 25.10).
-  all-in-word : rowsIn t (2 ^ t .n - 1) ≡ rowsOf t
+  pub all-in-word : rowsIn t (2 ^ t .n - 1) ≡ rowsOf t
   all-in-word = keep-all (isLeft (2 ^ t .n - 1)) (rowsOf t) (λ x i. let r = rows-in t x i in bit-left (2 ^ t .n - 1) x (full-bit (t .n) (x - 1) (omega (arith, r .from, r .upTo))))
 
   pub choices-all : choices t ≡ choicesOf t (2 ^ t .n - 1)

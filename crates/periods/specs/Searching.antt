@@ -30,11 +30,11 @@ module _ (queue : List ℕ) (n : ℕ) (release deadline cap entry : List ℕ) (l
   abbrev ends : ℕ → ℕ
   ends k = finish (λ j. at release j) (λ j. at cap j) (isLeft left) q k
 
-  pass : (k : ℕ) → In-time k → passes (row q k) ≡ true
+  pub pass : (k : ℕ) → In-time k → passes (row q k) ≡ true
   unfolding inTime
   pass k m = le-leb (ends k) (at deadline (row q k)) m
 
-  fail : (k : ℕ) → (In-time k → ⊥) → passes (row q k) ≡ false
+  pub fail : (k : ℕ) → (In-time k → ⊥) → passes (row q k) ≡ false
   unfolding inTime
   fail k n = by-leb (ends k) (at deadline (row q k)) (λ _ m. absurd (n m)) (λ e _. e)
 

@@ -41,7 +41,7 @@ fn in_time<'a>(
 // Sweeps the rows left of one busy period, that which began at place `begin` of the queue: without a row it may have fallen into several. Notes of
 // each row the place where its busy period begins, and gives the entries of those that finish by their deadlines, as a word. Rows of a busy
 // period finish together by the sweep, when its busy time ends. Releases, deadlines and caps in slots.
-fn renew<'a>(
+pub fn renew<'a>(
     queue: &'a [u8; 64],
     n: u32,
     release: &'a [u32; 64],
@@ -162,7 +162,7 @@ pub fn first_in_time<'a>(
 
 // Whether a row, tried with every other row left above it, has its promised part by its deadline (rules 3.9, 4.4); a row that is promised nothing has
 // it always. Caps and needs at the degraded speed, clocks and deadlines in slots.
-fn part_in_time<'a>(
+pub fn part_in_time<'a>(
     queue: &'a [u8; 64],
     n: u32,
     release: &'a [u32; 64],

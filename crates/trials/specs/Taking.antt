@@ -44,7 +44,7 @@ use Rattle.trials.specs.Opening.{openTo, open-inside, open-clear, open-w
 use Rattle.trials.specs.Allowed.{FirstOf, first-below, first-within, first-inside}
 
 -- the later of two clocks is in time if both are
-later-both : (a b d : ℕ) → leb a d && leb b d ≡ leb (max a b) d
+pub later-both : (a b d : ℕ) → leb a d && leb b d ≡ leb (max a b) d
 later-both a b d =
     by-leb a d
     (λ e p. by-leb b d
@@ -83,7 +83,7 @@ module _ (t : Table) (accepted : Accepted t) where
 
   -- the entries of the rows in the trial sequence
 
-  sequence-length : length (sequence t) ≡ t .n
+  pub sequence-length : length (sequence t) ≡ t .n
   sequence-length = every-length t f (sequence t) (same-sequence t)
 
   pub sequence-entry : (i : ℕ) → i < t .n → getD (padded (sequence t)) i 0 ≡ getD (sequence t) i 0
@@ -109,10 +109,10 @@ module _ (t : Table) (accepted : Accepted t) where
       i h
 
   -- a row of the table has an entry
-  entry-at : (x : ℕ) → In x (rowsOf t) → At (sequence t) x
+  pub entry-at : (x : ℕ) → In x (rowsOf t) → At (sequence t) x
   entry-at x i = place-of (sequence t) x (omega (arith, same-sequence t x))
 
-  entry-place : (x : ℕ) (i : In x (rowsOf t)) → at entryOf x ≡ entry-at x i .place
+  pub entry-place : (x : ℕ) (i : In x (rowsOf t)) → at entryOf x ≡ entry-at x i .place
   entry-place x i =
       let a = entry-at x i in
       let e = sequence-length in
@@ -120,10 +120,10 @@ module _ (t : Table) (accepted : Accepted t) where
 
   -- the columns of a speed
 
-  cap-entry : (s x : ℕ) → In x (rowsOf t) → at (capsAt t s) x ≡ cap t s x
+  pub cap-entry : (s x : ℕ) → In x (rowsOf t) → at (capsAt t s) x ≡ cap t s x
   cap-entry s x i = let r = rows-in t x i in padded-at (cap t s) (t .n) x (r .from) (r .upTo) (f .few)
 
-  queue-is : take (t .n) (padded (byRelease t)) ≡ byRelease t
+  pub queue-is : take (t .n) (padded (byRelease t)) ≡ byRelease t
   queue-is = every-take t f (byRelease t) same-release
 
   queue-of : (s : ℕ) → 1 ≤ s → Queue (λ j. at (t .release) j) (λ j. at (capsAt t s) j) (λ j. at entryOf j) (byRelease t)
