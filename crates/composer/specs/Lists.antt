@@ -1,21 +1,19 @@
--- The places of an order and the rows of a word, one more at a time; the entries of an array as a list of them.
-use Prim.Native.Nat.{ℕ, zero, suc, _+_, _-_, _≤_, _<_}
+-- The places of an order and the rows of a word, one more at a time; the entries of an array together.
+use Prim.Native.Nat.{ℕ, zero, suc, _+_, _≤_, _<_}
 use mathlib.Core.Bool.{Bool, true, false, _&&_}
 use mathlib.Core.List.{List, [], _∷_, _++_, append-nil}
 use mathlib.Core.Path.{_≡_, refl, ap, _∙_}
 use native.Mathlib.Numerals.{add-one}
 use native.Mathlib.Omega.{arith}
 use lib.Dec.{eqb}
-use lib.ListN.{length, getD, take, drop, length-append, length-drop}
-use lib.Seq.{take-suc, length-take-le, getD-take, getD-drop}
-use Rattle.rules.specs.Lists.{all, allZero, rowsTo, keep, joined}
-use Rattle.texts.specs.Decimals.{decimal}
-use Rattle.texts.specs.Quoted.{bytes, together}
+use lib.ListN.{length, getD, take, length-append}
+use lib.Seq.{take-suc}
+use Rattle.rules.specs.Lists.{all, allZero, rowsTo, keep}
 use Rattle.theory.specs.Counts.{keep-append}
 use Rattle.theory.specs.Tests.{by-bool, and-true, and-false, and-both}
 use Rattle.checks.specs.RowLists.{all-append}
 use Rattle.sweep.specs.Masks.{bit, isLeft}
-use Rattle.sentences.specs.Sentences.{upToLast, rowsIn, item, listed}
+use Rattle.sentences.specs.Sentences.{upToLast, rowsIn}
 use Rattle.composer.specs.declared.Rows.{Rows}
 
 -- ---- up to the last number that is not 0
@@ -67,25 +65,7 @@ among-few word (suc k) =
     (λ e. omega (arith, ap length (row-there word k e), length-append (among word k) (suc k ∷ []), among-few word k))
     (λ e. omega (arith, ap length (row-absent word k e), among-few word k))
 
--- ---- the first entries of an array, as a list of them has them
--- one entry or more: the first, and those after it
-pub listed-some : (opening entries : List ℕ) (many : ℕ) → 1 ≤ many → many ≤ length entries
-    → listed opening (take many entries) ≡ together (opening ∷ decimal (getD entries 0 0) ∷ joined item (drop 1 (take many entries)) ∷ bytes ")" ∷ [])
-listed-some opening [] many h k = absurd (omega arith)
-listed-some opening (x ∷ xs) zero h k = absurd (omega arith)
-listed-some opening (x ∷ xs) (suc k) h n = refl
-
--- an entry after the first, counted from the second
-module _ (entries : List ℕ) (many i : ℕ) (some : 1 ≤ i) (before : i < many) (within : many ≤ length entries) where
-  pub later-there : i - 1 < length (drop 1 (take many entries))
-  later-there = omega (arith, length-drop 1 (take many entries), length-take-le many entries within)
-
-  pub later-entry : getD (drop 1 (take many entries)) (i - 1) 0 ≡ getD entries i 0
-  later-entry =
-      let e : 1 + (i - 1) ≡ i = omega arith in
-      getD-drop 1 (take many entries) (i - 1) 0 ∙ ap (λ (j : ℕ). getD (take many entries) j 0) e ∙ getD-take many entries i 0 before
-
--- what holds of each entry holds of all
+-- ---- what holds of each entry of an array holds of all
 pub all-entries : (p : ℕ → Bool) (l : List ℕ) → ((i : ℕ) → p (getD l i 0) ≡ true) → all p l ≡ true
 all-entries p [] h = refl
 all-entries p (x ∷ l) h = and-both (p x) (all p l) (h 0) (all-entries p l (λ i. h (suc i)))

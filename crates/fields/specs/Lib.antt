@@ -3,6 +3,5 @@ pub mod Bytes
 pub mod Digits
 pub mod Wrote
 pub mod Lengths
-pub mod Decimal
 pub mod Values
 pub mod Figures

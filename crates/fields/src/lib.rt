@@ -8,8 +8,6 @@ ghost use Prim.Native.Nat.{_+_, _-_, _*_, _/_, _%_, _≤_, _<_};
 ghost use lib.Dec.{ltb, leb};
 ghost use lib.IntN.{pos, natAbs};
 ghost use lib.ListN.{length};
-ghost use Rattle.rules.specs.Lists.{joined};
-ghost use Rattle.texts.specs.Decimals.{hasDigit, digitIf, decimal};
 ghost use Rattle.texts.specs.Fields.{weights, digitAt, written, digitOf, valueOf, isField, fieldAt, line};
 ghost use Rattle.texts.specs.Reports.{figure};
 ghost use Rattle.fields.specs.Scan.{stands, fieldIn};
@@ -17,7 +15,7 @@ ghost use Rattle.fields.specs.Wrote.{Wrote};
 ghost use Rattle.fields.specs.Figures.{signedAt, signedColumns};
 
 // What a digit counts for at each of a field's eight places (rule 6.3), which are the last eight of a figure's ten (rule 16.1).
-const WEIGHTS: [u32; 8] = [10000000, 1000000, 100000, 10000, 1000, 100, 10, 1];
+pub const WEIGHTS: [u32; 8] = [10000000, 1000000, 100000, 10000, 1000, 100, 10, 1];
 
 // What a field of eight bytes holds: a number, or nothing that is well formed.
 enum Field {
@@ -105,7 +103,7 @@ pub fn number(bytes: &[u8], start: usize) -> u32
 }
 
 // The digit of a number at a weight, as its byte (48 is "0").
-fn numeral(value: u32, weight: u32) -> u8
+pub fn numeral(value: u32, weight: u32) -> u8
     requires { ⌜ 1 ≤ weight ⌝ }
     ensures { λ r. ⌜ r ≡ 48 + value / weight % 10 ⌝ }
 {
@@ -179,48 +177,6 @@ pub fn put_triple(out: &mut [u8], at: usize, first: u32, second: u32, third: u32
 {
     let after_first = put_field(out, at, first);
     put_pair(out, after_first, second, third)
-}
-
-// A number has a digit at a weight: from its first digit on, and at the last place.
-fn has_digit(value: u32, weight: u32) -> bool
-    ensures { λ r. ⌜ r ≡ hasDigit value weight ⌝ }
-{
-    weight <= value || weight == 1
-}
-
-// The digit of a number at a weight, nothing before its first digit.
-fn put_digit(out: &mut [u8], at: usize, value: u32, weight: u32) -> usize
-    requires { ⌜ (1 ≤ weight) × (at + length (digitIf value weight) ≤ length (now out)) ⌝ }
-    ensures { λ r. ⌜ Wrote (now (out .entry)) at (now (out .exit)) r (digitIf value weight) ⌝ }
-{
-    if has_digit(value, weight) {
-        return put_byte(out, at, numeral(value, weight));
-    }
-    at
-}
-
-// The last eight places of a number in decimal.
-fn put_last_digits(out: &mut [u8], at: usize, value: u32) -> usize
-    requires { ⌜ at + length (joined (digitIf value) weights) ≤ length (now out) ⌝ }
-    ensures { λ r. ⌜ Wrote (now (out .entry)) at (now (out .exit)) r (joined (digitIf value) weights) ⌝ }
-{
-    let mut next = at;
-    let mut i: usize = 0;
-    while i < 8 {
-        next = put_digit(out, next, value, WEIGHTS[i]);
-        i += 1;
-    }
-    next
-}
-
-// A number in decimal, its digits alone.
-pub fn put_decimal(out: &mut [u8], at: usize, value: u32) -> usize
-    requires { ⌜ at + length (decimal value) ≤ length (now out) ⌝ }
-    ensures { λ r. ⌜ Wrote (now (out .entry)) at (now (out .exit)) r (decimal value) ⌝ }
-{
-    let second = put_digit(out, at, value, 1000000000);
-    let third = put_digit(out, second, value, 100000000);
-    put_last_digits(out, third, value)
 }
 
 // A whole number without its sign.

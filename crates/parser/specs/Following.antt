@@ -9,6 +9,7 @@ use lib.ListN.{length, getD, take, drop, set, length-take, length-map, List·get
 use lib.Seq.{take-suc, take-all, getD-drop, drop-drop, set-getD, length-take-le}
 use Rattle.rules.specs.Choice.{padded}
 use Rattle.sentences.specs.Reading.{figuresIn, marked, wordOf, small}
+use Rattle.sentences.specs.RoundTrip.{word-append}
 use Rattle.sweep.specs.Padded.{padded-more, padded-beyond, map-append}
 use Rattle.theory.specs.Tests.{by-ltb}
 use Rattle.parser.specs.declared.Figure.{Figure}
@@ -53,11 +54,7 @@ take-more xs i h = rw (add-one i) (take-suc xs i 0 h)
 take-none : (xs : List ℕ) (i : ℕ) → length xs ≤ i → take (i + 1) xs ≡ take i xs
 take-none xs i h = take-all (i + 1) xs (omega arith) ∙ sym (take-all i xs h)
 
--- the last row comes into the word last, and row 0 does not come into it
-word-last : (w : ℕ) (xs : List ℕ) (x : ℕ) → wordOf w (xs ++ (x ∷ [])) ≡ marked (wordOf w xs) x
-word-last w [] x = refl
-word-last w (y ∷ xs) x = word-last (marked w y) xs x
-
+-- row 0 does not come into a word
 marked-zero : (w : ℕ) → marked w 0 ≡ w
 unfolding marked
 marked-zero w = refl
@@ -66,7 +63,7 @@ marked-zero w = refl
 pub word-more : (xs : List ℕ) (i : ℕ) → marked (wordOf 0 (take i xs)) (getD xs i 0) ≡ wordOf 0 (take (i + 1) xs)
 word-more xs i =
     by-ltb i (length xs)
-    (λ e h. rw (take-more xs i h) (sym (word-last 0 (take i xs) (getD xs i 0))))
+    (λ e h. rw (take-more xs i h) (sym (word-append 0 (take i xs) (getD xs i 0 ∷ []))))
     (λ e h. rw (take-none xs i h, List·getD-eq-default xs 0 h) (marked-zero (wordOf 0 (take i xs))))
 
 -- there are as many small numbers as figures

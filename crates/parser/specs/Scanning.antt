@@ -8,6 +8,7 @@ use native.Mathlib.Omega.{arith}
 use lib.ListN.{length, getD, drop, drop-of-length-le}
 use lib.Seq.{drop-cons}
 use Rattle.sentences.specs.Reading.{isDigit, grown, scan, figuresIn}
+use Rattle.sentences.specs.Scanned.{scan-digit}
 use Rattle.parser.specs.Figures.{FigureAt}
 
 -- the walk from a byte on has come to byte i: a figure has begun or not, its value so far is 0 where it has not, and the figures are those of the scan
@@ -21,12 +22,7 @@ pub record Scanned (bytes : List ℕ) (start : ℕ) (begun : Bool) (value i : �
 pub scan-start : (bytes : List ℕ) (start : ℕ) → start ≤ length bytes → Scanned bytes start false 0 start
 scan-start bytes start h = record { within = h; none = λ e. refl; figures = refl }
 
--- one byte of a scan: a digit, a byte after a figure, a byte before one
-scan-digit : (begun : Bool) (v b : ℕ) (bs : List ℕ) → isDigit b ≡ true → scan begun v (b ∷ bs) ≡ scan true (grown v b) bs
-unfolding scan
-scan-digit true v b bs e = rw e
-scan-digit false v b bs e = rw e
-
+-- one byte of a scan that is no digit: after a figure, and before one
 scan-after : (v b : ℕ) (bs : List ℕ) → isDigit b ≡ false → scan true v (b ∷ bs) ≡ v ∷ figuresIn bs
 unfolding scan
 scan-after v b bs e = rw e

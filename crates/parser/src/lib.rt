@@ -261,7 +261,7 @@ fn is_judge(bytes: &[u8], answer: JudgeAnswer) -> bool
     requires { ⌜ JudgeFits answer ⌝ }
     ensures { λ r. ⌜ r ≡ same (now (bytes .entry)) (judgeSentence answer) ⌝ }
 {
-    let mut made = [0u8; composer::LONGEST];
+    let mut made = [0u8; composer::LONGEST_VERDICT];
     let writing = composer::judge_sentence(answer, &mut made);
     let size = writing.size as usize;
     same(bytes, &made[..size])

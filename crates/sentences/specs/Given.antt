@@ -6,7 +6,7 @@ use mathlib.Core.Path.{_≡_, refl, sym, ap, _∙_}
 use lib.Dec.{eqb}
 use lib.IntN.{ℤ}
 use Rattle.rules.specs.declared.Refusal.{Refusal}
-use Rattle.rules.specs.declared.Refusal.the-variants.{Length, Malformed, RowCount, Speeds, RowLimits, NotAnOrder, ClockOver, Unsound, NoRoom, Loading, Promised, NotLower, ReleasedLater, FollowsLow, NotCorrect, RowOpen, ReleasedBefore, TrialsOver}
+use Rattle.rules.specs.declared.Refusal.the-variants.{Length, Malformed, RowCount, Speeds, RowLimits, NotAnOrder, ClockOver, Unsound, NoRoom, Loading, Promised, NotLower, ReleasedLater, FollowsLow, NotCorrect, RowOpen, ReleasedBefore, TrialsOver, TooManyRows}
 use Rattle.rules.specs.declared.Planned.{Planned}
 use Rattle.rules.specs.declared.Planned.the-variants as Plans
 use Rattle.rules.specs.declared.Verdict.{Verdict}
@@ -28,7 +28,7 @@ abbrev refusalOf : ℕ → Refusal
 refusalOf =
     first
     (Length ∷ Malformed ∷ RowCount ∷ Speeds ∷ RowLimits ∷ NotAnOrder ∷ ClockOver ∷ Unsound ∷ NoRoom ∷ Loading ∷ Promised ∷ NotLower ∷ ReleasedLater
-    ∷ FollowsLow ∷ NotCorrect ∷ RowOpen ∷ ReleasedBefore ∷ TrialsOver ∷ [])
+    ∷ FollowsLow ∷ NotCorrect ∷ RowOpen ∷ ReleasedBefore ∷ TrialsOver ∷ TooManyRows ∷ [])
 
 -- each refusal has its own number, which is neither 0 nor 7
 refusal-back : (r : Refusal) → (refusalOf (refusalNumber r) ≡ r) × (eqb (refusalNumber r) 0 ≡ false) × (eqb (refusalNumber r) 7 ≡ false)
@@ -51,6 +51,7 @@ refusal-back NotCorrect = (refl, refl, refl)
 refusal-back RowOpen = (refl, refl, refl)
 refusal-back ReleasedBefore = (refl, refl, refl)
 refusal-back TrialsOver = (refl, refl, refl)
+refusal-back TooManyRows = (refl, refl, refl)
 
 abbrev plannedOf : ℕ → ℕ → Planned
 plannedOf number left = cond (eqb number 0) Plans.Ordered (cond (eqb number 7) (Plans.NoOrder left) (Plans.Refused (refusalOf number)))

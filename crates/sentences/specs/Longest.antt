@@ -15,7 +15,7 @@ use Rattle.texts.specs.Decimals.{hasDigit, digitIf, decimal}
 use Rattle.texts.specs.Quoted.{bytes, together}
 use Rattle.theory.specs.Facts.{count-rows, all-in}
 use Rattle.theory.specs.Tests.{by-bool, by-leb, by-eqb, and-left, and-right}
-use Rattle.fields.specs.Decimal.{digit-there, digit-none}
+use Rattle.decimals.specs.Decimal.{digit-there, digit-none}
 use Rattle.fields.specs.Scan.{powers}
 use Rattle.sentences.specs.declared.PlanAnswer.{PlanAnswer}
 use Rattle.sentences.specs.declared.JudgeAnswer.{JudgeAnswer}
@@ -78,14 +78,14 @@ up-to p k z e (suc n) h = all-in p (rowsTo k) e (suc n) (omega (arith, count-row
 abbrev meantShort : ℕ → Bool
 meantShort number = leb (length (decimal number) + length (meaning number)) 69
 
-meant-few : (number : ℕ) → number ≤ 19 → meantShort number ≡ true
+meant-few : (number : ℕ) → number ≤ 20 → meantShort number ≡ true
 unfolding decimal digitIf meaning
-meant-few = up-to meantShort 19 refl refl
+meant-few = up-to meantShort 20 refl refl
 
 meant-long : (number : ℕ) → number ≤ 4294967295 → length (decimal number) + length (meaning number) ≤ 69
 unfolding meaning
 meant-long number h =
-    by-leb number 19
+    by-leb number 20
     (λ e l. leb-true (length (decimal number) + length (meaning number)) 69 (meant-few number l))
     (λ e l. omega (arith, decimal-long number 9 (omega arith), ap (λ (s : String). length (bytes s)) (beyond meanings number (omega arith))))
 

@@ -13,7 +13,7 @@ use Rattle.texts.specs.Decimals.{hasDigit, digitIf, decimal}
 use Rattle.texts.specs.Quoted.{bytes, together}
 use Rattle.theory.specs.Counts.{count-append, count-other}
 use Rattle.theory.specs.Tests.{by-bool, and-left, and-right}
-use Rattle.fields.specs.Decimal.{digit-none}
+use Rattle.decimals.specs.Decimal.{digit-none}
 use Rattle.fields.specs.Scan.{powers}
 use Rattle.sentences.specs.declared.JudgeAnswer.{JudgeAnswer}
 use Rattle.sentences.specs.Sentences.{meanings, meaning, judgedMeaning, counted, yesOrNo, minusOf, slackWords, judgeOpening, judgeSentence}

@@ -57,7 +57,7 @@ order-back o l =
     ∙ zeros-after o
 
 -- ---- the word: its rows, marked one after the other
-word-append : (w : ℕ) (xs ys : List ℕ) → wordOf w (xs ++ ys) ≡ wordOf (wordOf w xs) ys
+pub word-append : (w : ℕ) (xs ys : List ℕ) → wordOf w (xs ++ ys) ≡ wordOf (wordOf w xs) ys
 word-append w [] ys = refl
 word-append w (x ∷ xs) ys = word-append (marked w x) xs ys
 

@@ -12,7 +12,7 @@ use Rattle.texts.specs.Decimals.{hasDigit, digitIf, decimal}
 use Rattle.texts.specs.Fields.{digitOf}
 use Rattle.texts.specs.Quoted.{together}
 use Rattle.theory.specs.Tests.{by-bool, by-leb, and-left, and-right, not-is}
-use Rattle.fields.specs.Decimal.{digit-none}
+use Rattle.decimals.specs.Decimal.{digit-none}
 use Rattle.fields.specs.Scan.{powers}
 use Rattle.fields.specs.Values.{digit-back}
 use Rattle.sentences.specs.Reading.{isDigit, grown, scan, figuresIn}

@@ -112,7 +112,7 @@ examples =
     ∷ plan (planned 0 2 (1 ∷ []) 1) "The planner answers number 0 (an order was made): 1 trial, 1 row in the order (highest first: 1), 1 row left (2)."
     ∷ []
 
--- ---- each number from 1 to 19, the other fields zero
+-- ---- each number from 1 to 20, the other fields zero
 abbrev numbers : List Case
 numbers =
     plan (planned 1 0 [] 0) "The planner answers number 1 (refused: the sheet has the wrong length): 0 trials, 0 rows in the order, 0 rows left."
@@ -134,6 +134,7 @@ numbers =
     ∷ plan (planned 17 0 [] 0) "The planner answers number 17 (refused: a row of the running sheet is open): 0 trials, 0 rows in the order, 0 rows left."
     ∷ plan (planned 18 0 [] 0) "The planner answers number 18 (refused: a row is released before the clock): 0 trials, 0 rows in the order, 0 rows left."
     ∷ plan (planned 19 0 [] 0) "The planner answers number 19 (refused: planning takes more trials than the ceiling): 0 trials, 0 rows in the order, 0 rows left."
+    ∷ plan (planned 20 0 [] 0) "The planner answers number 20 (refused: the table has more rows than can be counted): 0 trials, 0 rows in the order, 0 rows left."
     ∷ judge (judged 1 0 0 (pos 0)) "The judge says no (number 1, refused: the sheet has the wrong length): tightest row 0, slack 0 slots."
     ∷ judge (judged 2 0 0 (pos 0)) "The judge says no (number 2, refused: a field or a line end is malformed): tightest row 0, slack 0 slots."
     ∷ judge (judged 3 0 0 (pos 0)) "The judge says no (number 3, refused: the row count is beyond its limits): tightest row 0, slack 0 slots."
@@ -153,6 +154,7 @@ numbers =
     ∷ judge (judged 17 0 0 (pos 0)) "The judge says no (number 17, refused: a row of the running sheet is open): tightest row 0, slack 0 slots."
     ∷ judge (judged 18 0 0 (pos 0)) "The judge says no (number 18, refused: a row is released before the clock): tightest row 0, slack 0 slots."
     ∷ judge (judged 19 0 0 (pos 0)) "The judge says no (number 19, refused: planning takes more trials than the ceiling): tightest row 0, slack 0 slots."
+    ∷ judge (judged 20 0 0 (pos 0)) "The judge says no (number 20, refused: the table has more rows than can be counted): tightest row 0, slack 0 slots."
     ∷ []
 
 -- ---- absurd fields
@@ -160,7 +162,7 @@ abbrev absurds : List Case
 absurds =
     plan (planned 0 0 (replicate 63 0 ++ (255 ∷ [])) 4294967295) "The planner answers number 0 (an order was made): 4294967295 trials, 64 rows in the order (highest first: 0, 0, 0, 0, 0, 0, 0, 0, 0, 0, 0, 0, 0, 0, 0, 0, 0, 0, 0, 0, 0, 0, 0, 0, 0, 0, 0, 0, 0, 0, 0, 0, 0, 0, 0, 0, 0, 0, 0, 0, 0, 0, 0, 0, 0, 0, 0, 0, 0, 0, 0, 0, 0, 0, 0, 0, 0, 0, 0, 0, 0, 0, 0, 255), 0 rows left."
     ∷ plan (planned 0 9223372036854775808 (replicate 64 255) 0) "The planner answers number 0 (an order was made): 0 trials, 64 rows in the order (highest first: 255, 255, 255, 255, 255, 255, 255, 255, 255, 255, 255, 255, 255, 255, 255, 255, 255, 255, 255, 255, 255, 255, 255, 255, 255, 255, 255, 255, 255, 255, 255, 255, 255, 255, 255, 255, 255, 255, 255, 255, 255, 255, 255, 255, 255, 255, 255, 255, 255, 255, 255, 255, 255, 255, 255, 255, 255, 255, 255, 255, 255, 255, 255, 255), 1 row left (64)."
-    ∷ plan (planned 20 18446744073709551615 [] 10) "The planner answers number 20 (a number without a meaning): 10 trials, 0 rows in the order, 64 rows left (1, 2, 3, 4, 5, 6, 7, 8, 9, 10, 11, 12, 13, 14, 15, 16, 17, 18, 19, 20, 21, 22, 23, 24, 25, 26, 27, 28, 29, 30, 31, 32, 33, 34, 35, 36, 37, 38, 39, 40, 41, 42, 43, 44, 45, 46, 47, 48, 49, 50, 51, 52, 53, 54, 55, 56, 57, 58, 59, 60, 61, 62, 63, 64)."
+    ∷ plan (planned 21 18446744073709551615 [] 10) "The planner answers number 21 (a number without a meaning): 10 trials, 0 rows in the order, 64 rows left (1, 2, 3, 4, 5, 6, 7, 8, 9, 10, 11, 12, 13, 14, 15, 16, 17, 18, 19, 20, 21, 22, 23, 24, 25, 26, 27, 28, 29, 30, 31, 32, 33, 34, 35, 36, 37, 38, 39, 40, 41, 42, 43, 44, 45, 46, 47, 48, 49, 50, 51, 52, 53, 54, 55, 56, 57, 58, 59, 60, 61, 62, 63, 64)."
     ∷ plan (planned 4294967295 0 (100 ∷ 0 ∷ 99 ∷ 0 ∷ []) 100) "The planner answers number 4294967295 (a number without a meaning): 100 trials, 3 rows in the order (highest first: 100, 0, 99), 0 rows left."
     ∷ judge (judged 0 0 64 (negsuc 2147483647)) "The judge says no (number 0, the order is not correct): tightest row 64, slack -2147483648 slots."
     ∷ judge (judged 0 1 64 (negsuc 0)) "The judge says yes (number 0, the order is correct): tightest row 64, slack -1 slot."

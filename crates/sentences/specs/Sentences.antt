@@ -40,6 +40,7 @@ meanings =
     ∷ "refused: a row of the running sheet is open"
     ∷ "refused: a row is released before the clock"
     ∷ "refused: planning takes more trials than the ceiling"
+    ∷ "refused: the table has more rows than can be counted"
     ∷ []
 
 -- the entry at an index, and where there is none the words of a number that no call answers

@@ -31,12 +31,12 @@ tells-last {t} {figures} f = tells-text (sym (append-nil t)) f
 
 -- ---- words
 -- words that may come after a figure: none of their bytes is a digit, and there is one
-pub record After (t : List ℕ) : Type 0 where
+pub record AfterFigure (t : List ℕ) : Type 0 where
   pub words : plain t ≡ true
   pub begins : (rest : List ℕ) → stops (t ++ rest) ≡ true
 
 -- they still do with more behind them
-begins-then : {t : List ℕ} → After t → (u rest : List ℕ) → stops ((t ++ u) ++ rest) ≡ true
+begins-then : {t : List ℕ} → AfterFigure t → (u rest : List ℕ) → stops ((t ++ u) ++ rest) ≡ true
 begins-then {t} a u rest = ap stops (append-assoc t u rest) ∙ a .begins (u ++ rest)
 
 -- what holds of all texts of a list, and of the words of a number without a meaning, holds of the one at any index
@@ -64,7 +64,7 @@ judged-plain : (number said : ℕ) → plain (judgedMeaning number said) ≡ tru
 judged-plain number said = judged-all plain number said refl refl refl (meaning-plain number)
 
 -- ---- figures with their nouns, and lists
-counted-tells : (v : ℕ) (noun : List ℕ) → v ≤ 4294967295 → After noun → Tells (counted v noun) (v ∷ [])
+counted-tells : (v : ℕ) (noun : List ℕ) → v ≤ 4294967295 → AfterFigure noun → Tells (counted v noun) (v ∷ [])
 unfolding counted
 counted-tells v noun h a =
     tells-figure v h (begins-then a _) (tells-then (tells-plain noun (a .words)) (tells-last (tells-plain (cond (eqb v 1) [] (bytes "s")) suffix)))
@@ -77,11 +77,11 @@ abbrev pub Held : List ℕ → Type 0
 Held xs = all (λ x. leb x 4294967295) xs ≡ true
 
 -- the numbers of a list after its first, with words behind them
-items-stop : (xs : List ℕ) {t : List ℕ} → After t → (u rest : List ℕ) → stops ((joined item xs ++ (t ++ u)) ++ rest) ≡ true
+items-stop : (xs : List ℕ) {t : List ℕ} → AfterFigure t → (u rest : List ℕ) → stops ((joined item xs ++ (t ++ u)) ++ rest) ≡ true
 items-stop [] a u rest = begins-then a u rest
 items-stop (x ∷ xs) a u rest = refl
 
-items-tell : (xs : List ℕ) {t figures : List ℕ} (u : List ℕ) → Held xs → After t → Tells (t ++ u) figures → Tells (joined item xs ++ (t ++ u)) (xs ++ figures)
+items-tell : (xs : List ℕ) {t figures : List ℕ} (u : List ℕ) → Held xs → AfterFigure t → Tells (t ++ u) figures → Tells (joined item xs ++ (t ++ u)) (xs ++ figures)
 items-tell [] u h a f = f
 items-tell (x ∷ xs) {t} u h a f =
     tells-text (sym (append-assoc (item x) (joined item xs) (t ++ u)))
@@ -95,10 +95,10 @@ listed-tells opening (x ∷ xs) e h =
     (tells-figure x (leb-true x 4294967295 (and-left (leb x 4294967295) _ h)) (items-stop xs bracket [])
     (tells-figures (append-nil xs) (items-tell xs [] (and-right (leb x 4294967295) _ h) bracket (tells-plain _ refl))))
   where
-    bracket : After (bytes ")")
+    bracket : AfterFigure (bytes ")")
     bracket = record { words = refl; begins = λ rest. refl }
 
-enumerated-tells : (noun tail opening xs : List ℕ) → After noun → plain tail ≡ true → plain opening ≡ true → length xs ≤ 4294967295 → Held xs
+enumerated-tells : (noun tail opening xs : List ℕ) → AfterFigure noun → plain tail ≡ true → plain opening ≡ true → length xs ≤ 4294967295 → Held xs
     → Tells (enumerated noun tail opening xs) (length xs ∷ xs)
 unfolding enumerated
 enumerated-tells noun tail opening xs a e f l h =
@@ -126,10 +126,10 @@ plan-tells a n t l h k g =
     (tells-then (tells-plain (bytes ", ") refl)
     (tells-figures (append-nil _) (tells-then (enumerated-tells (bytes " row") (bytes " left") (bytes " (") (rowsIn (a .left)) noun' refl refl k g) (tells-plain _ refl)))))))
   where
-    noun : After (bytes " trial")
+    noun : AfterFigure (bytes " trial")
     noun = record { words = refl; begins = λ rest. refl }
 
-    noun' : After (bytes " row")
+    noun' : AfterFigure (bytes " row")
     noun' = record { words = refl; begins = λ rest. refl }
 
 -- ---- the judge's sentence
@@ -168,7 +168,7 @@ slack-tells z h = tells-then (tells-plain (minusOf z) (minus-plain z)) (tells-la
     minus-plain (pos v) = refl
     minus-plain (negsuc m) = refl
 
-    noun : After (bytes " slot")
+    noun : AfterFigure (bytes " slot")
     noun = record { words = refl; begins = λ rest. refl }
 
 -- the figures are those of the yes or no, the number, the row and the size of the slack

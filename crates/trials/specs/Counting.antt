@@ -69,7 +69,7 @@ module _ (p q : ℕ → Bool) where
       later again (suc k) h e = again k (omega arith) e
 
 -- What the searches of a place come to where `most` trials are allowed: v has the allowed entries of those that are tried, and e is the entry found, from 1, or 0.
-pub record Searched (t : Table) (left unplaced tries most v e : ℕ) : Type 0 where
+pub record FirstAllowed (t : Table) (left unplaced tries most v e : ℕ) : Type 0 where
   -- the entry found has the row that takes the place, and up to it are the trials made
   pub taken : (e ≡ 0 → ⊥) → Taken t left unplaced e
   pub made : (e ≡ 0 → ⊥) → trialsAt t (leftOf t left) ≡ below v e
@@ -213,7 +213,7 @@ module _ (t : Table) (accepted : Accepted t) (left : ℕ) (holds : Holds left (l
 
       -- the two ways through a place: a LO row is found
       pub searched-low : (e : ℕ) → LowSearch e
-          → (e ≡ 0 → ⊥) → Searched t left unplaced tries most v e
+          → (e ≡ 0 → ⊥) → FirstAllowed t left unplaced tries most v e
       searched-low e k n =
           let taken = allowed-low t accepted left holds closed unplaced w tries o most v a e k n in
           let r = k .found n in
@@ -227,7 +227,7 @@ module _ (t : Table) (accepted : Accepted t) (left : ℕ) (holds : Holds left (l
       -- none is, and a HI row is looked for
       pub searched-high : (d e : ℕ) → LowSearch d
           → d ≡ 0 → HighSearch e
-          → Searched t left unplaced tries most v e
+          → FirstAllowed t left unplaced tries most v e
       searched-high d e k z l =
           record {
             taken = λ n. allowed-high t accepted left holds closed unplaced w tries o most v a d e k z l n;

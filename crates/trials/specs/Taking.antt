@@ -568,17 +568,17 @@ module _ (t : Table) (accepted : Accepted t) where
       abbrev pub highTest : ℕ → Bool
       highTest = inTime (padded (byRelease t)) (t .n) (t .release) (t .deadline) (capsAt t (t .degraded)) left
 
-      abbrev Searched : ℕ → (ℕ → Bool) → ℕ → Type 0
-      Searched level tested e = FirstIn tested (padded (byRelease t)) entryOf (t .n) left (bitAnd tries (atLevel t level)) e
+      abbrev FirstFound : ℕ → (ℕ → Bool) → ℕ → Type 0
+      FirstFound level tested e = FirstIn tested (padded (byRelease t)) entryOf (t .n) left (bitAnd tries (atLevel t level)) e
 
-      low-tested : (e : ℕ) → Searched 0 lowTest e → Tested 0 e
+      low-tested : (e : ℕ) → FirstFound 0 lowTest e → Tested 0 e
       low-tested e k = test-of 0 lowTest (λ i z m u. low-passes i m u z) e k
 
-      high-tested : (e : ℕ) → Searched 1 highTest e → Tested 1 e
+      high-tested : (e : ℕ) → FirstFound 1 highTest e → Tested 1 e
       high-tested e k = test-of 1 highTest (λ i z m u. high-passes i m u (ne-eqb (at (t .level) i) 0 (λ y. omega (arith, eqb-true (at (t .level) i) 1 z)))) e k
 
       -- the first LO row that passes takes the place
-      pub taken-low : (e : ℕ) → Searched 0 lowTest e → (e ≡ 0 → ⊥) → Taken t left unplaced e
+      pub taken-low : (e : ℕ) → FirstFound 0 lowTest e → (e ≡ 0 → ⊥) → Taken t left unplaced e
       taken-low e k n =
           let r = low-tested e k .found n in
           record {
@@ -594,7 +594,7 @@ module _ (t : Table) (accepted : Accepted t) where
           }
 
       -- where none does, the first HI row that passes does
-      pub taken-high : (d e : ℕ) → Searched 0 lowTest d → d ≡ 0 → Searched 1 highTest e → Taken t left unplaced e
+      pub taken-high : (d e : ℕ) → FirstFound 0 lowTest d → d ≡ 0 → FirstFound 1 highTest e → Taken t left unplaced e
       taken-high d e k z l =
           let x : taker t (leftOf t left) ≡ first (passes t (leftOf t left)) highs = taker-parts
           ∙ ap (λ (j : ℕ). cond (eqb j 0) (first (passes t (leftOf t left)) highs) (first (passes t (leftOf t left)) lows)) (low-tested d k .none z) in
@@ -632,7 +632,7 @@ module _ (t : Table) (accepted : Accepted t) where
         of-allowed m x b = (omega (arith, bit-and v m x, bit-lt v x), omega (arith, bit-and v m x, bit-lt m x))
 
         -- an entry found is the first of all that are tried
-        widened : (level : ℕ) (tested : ℕ → Bool) (e : ℕ) → Allowed level tested e → (e ≡ 0 → ⊥) → Searched level tested e
+        widened : (level : ℕ) (tested : ℕ → Bool) (e : ℕ) → Allowed level tested e → (e ≡ 0 → ⊥) → FirstFound level tested e
         widened level tested e k n =
             let r = k .found n in
             let m = atLevel t level in
@@ -652,7 +652,7 @@ module _ (t : Table) (accepted : Accepted t) where
             }
 
         -- no LO row passes, where none has an allowed entry that does and a HI row's entry is allowed
-        widened-none : (e y : ℕ) → Allowed 0 lowTest e → e ≡ 0 → bit (bitAnd v (atLevel t 1)) y ≡ 1 → Searched 0 lowTest e
+        widened-none : (e y : ℕ) → Allowed 0 lowTest e → e ≡ 0 → bit (bitAnd v (atLevel t 1)) y ≡ 1 → FirstFound 0 lowTest e
         widened-none e y k z b =
             let q = of-allowed (atLevel t 1) y b in
             let l = first-within tries most v a y (q .0) in

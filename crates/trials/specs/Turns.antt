@@ -26,7 +26,7 @@ use Rattle.trials.specs.Prepared.{leftOf, trialsOf}
 use Rattle.trials.specs.Opening.{openTo, open-most}
 use Rattle.trials.specs.Allowed.{FirstOf}
 use Rattle.trials.specs.Taking.{Unplaced, Opened, Taken, speed-of, opened, opening, unplaced-turn, taken-row, known-first, known-turn, period-place, parts-of}
-use Rattle.trials.specs.Counting.{Searched, searched-low, searched-high}
+use Rattle.trials.specs.Counting.{FirstAllowed, searched-low, searched-high}
 
 -- what is known of the same busy periods
 pub known-same : (queue : List ℕ) (n : ℕ) (release deadline cap entry : List ℕ) (left : ℕ) (p p' : List ℕ) (c c' k k' : ℕ) → p ≡ p' → c ≡ c' → k ≡ k'
@@ -110,11 +110,11 @@ module _ (t : Table) (accepted : Accepted t) (w : Trials) (prepared : w ≡ tria
     abbrev highTest : ℕ → Bool
     highTest = inTime (w .queue) (t .n) (t .release) (t .deadline) (w .degraded) left
 
-    pub low-found : (e : ℕ) → Search lowTest (w .low) e → (e ≡ 0 → ⊥) → Searched t left unplaced tries most v e
+    pub low-found : (e : ℕ) → Search lowTest (w .low) e → (e ≡ 0 → ⊥) → FirstAllowed t left unplaced tries most v e
     unfolding trialsOf
     low-found e k n = searched-low t accepted left holds closed unplaced q tries o small most v a e (rw prepared at k) n
 
-    pub high-found : (d e : ℕ) → Search lowTest (w .low) d → d ≡ 0 → Search highTest (w .high) e → Searched t left unplaced tries most v e
+    pub high-found : (d e : ℕ) → Search lowTest (w .low) d → d ≡ 0 → Search highTest (w .high) e → FirstAllowed t left unplaced tries most v e
     unfolding trialsOf
     high-found d e k z l = searched-high t accepted left holds closed unplaced q tries o small most v a d e (rw prepared at k) z (rw prepared at l)
 

@@ -16,20 +16,19 @@ use Rattle.composer.proofs.judge_sentence.Statement.{statement}
 use Rattle.composer.proofs.judge_sentence.Tie as tie
 
 -- the fields fit their types, so the sentence fits
-sentence-fits : (c : tie.After-made) → length (judgeSentence (c .before .before .args .answer)) ≤ 739
+sentence-fits : (c : tie.After-made) → length (judgeSentence (c .before .before .args .answer)) ≤ 177
 sentence-fits c =
     let a = c .before .before .args .answer in
     let n : Fits w32 (a .number) = search needs in
     let y : Fits w32 (a .yes) = search needs in
     let r : Fits w32 (a .row) = search needs in
     let z : SFits w32 (a .slack) = search needs in
-    let h = judge-longest a (record {
+    judge-longest a (record {
       number = omega (arith, n .fits);
       yes = omega (arith, y .fits);
       row = omega (arith, r .fits);
       slack = slack-fits (a .slack) z;
-    }) in
-    omega (arith, h)
+    })
 
 slice-aggregate-put-judge : tie.Need-slice-aggregate-put-judge
 slice-aggregate-put-judge c = search needs

@@ -14,7 +14,7 @@ use Rattle.texts.specs.Quoted.{bytes}
 use Rattle.sentences.specs.declared.JudgeAnswer.{JudgeAnswer}
 use Rattle.sentences.specs.Sentences.{judgeOpening, slackWords, judgeSentence}
 use Rattle.fields.specs.Wrote.{wrote-as, wrote-then}
-use Rattle.composer.specs.Together.{together-long}
+use Rattle.phrases.specs.Together.{together-long}
 use Rattle.composer.proofs.put_judge.Statement.{statement}
 use Rattle.composer.proofs.put_judge.Tie as tie
 

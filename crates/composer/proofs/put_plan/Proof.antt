@@ -9,7 +9,7 @@ use Rattle.texts.specs.Quoted.{bytes}
 use Rattle.sentences.specs.declared.PlanAnswer.{PlanAnswer}
 use Rattle.sentences.specs.Sentences.{counted, enumerated, upToLast, rowsIn, planOpening, planSentence}
 use Rattle.fields.specs.Wrote.{wrote-as, wrote-then}
-use Rattle.composer.specs.Together.{together-long}
+use Rattle.phrases.specs.Together.{together-long}
 use Rattle.composer.proofs.put_plan.Statement.{statement}
 use Rattle.composer.proofs.put_plan.Tie as tie
 

@@ -9,7 +9,7 @@ use Rattle.texts.specs.Decimals.{decimal}
 use Rattle.texts.specs.Quoted.{bytes}
 use Rattle.sentences.specs.Sentences.{meaning, planOpening}
 use Rattle.fields.specs.Wrote.{wrote-then}
-use Rattle.composer.specs.Together.{together-long, wrote-last}
+use Rattle.phrases.specs.Together.{together-long, wrote-last}
 use Rattle.composer.proofs.put_plan_opening.Statement.{statement}
 use Rattle.composer.proofs.put_plan_opening.Tie as tie
 

@@ -15,7 +15,7 @@ use mir.Facts.{toZ-ofZ}
 use Rattle.texts.specs.Quoted.{bytes, together}
 use Rattle.sentences.specs.Sentences.{counted, slackWords}
 use Rattle.fields.specs.Wrote.{wrote-as, wrote-then}
-use Rattle.composer.specs.Together.{together-long, wrote-last}
+use Rattle.phrases.specs.Together.{together-long, wrote-last}
 use Rattle.composer.proofs.put_slack.Statement.{statement}
 use Rattle.composer.proofs.put_slack.Tie as tie
 

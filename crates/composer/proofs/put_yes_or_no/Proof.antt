@@ -10,7 +10,7 @@ use Rattle.texts.specs.Quoted.{bytes, together}
 use Rattle.sentences.specs.Sentences.{yesOrNo}
 use Rattle.fields.specs.Wrote.{wrote-as, wrote-then}
 use Rattle.composer.specs.Choices.{for-one, for-none, for-other}
-use Rattle.composer.specs.Together.{together-long, wrote-last}
+use Rattle.phrases.specs.Together.{together-long, wrote-last}
 use Rattle.composer.proofs.put_yes_or_no.Statement.{statement}
 use Rattle.composer.proofs.put_yes_or_no.Tie as tie
 

@@ -15,8 +15,8 @@ use Rattle.parser.proofs.is_judge.Tie as tie
 abbrev start : tie.After-judge-sentence → tie.Start
 start c = c .before .before .before
 
-enough : (c : tie.After-judge-sentence) → length (judgeSentence (start c .args .answer)) ≤ 739
-enough c = omega (arith, judge-longest (start c .args .answer) (start c .pre))
+enough : (c : tie.After-judge-sentence) → length (judgeSentence (start c .args .answer)) ≤ 177
+enough c = judge-longest (start c .args .answer) (start c .pre)
 
 slice-aggregate-judge-sentence : tie.Need-slice-aggregate-judge-sentence
 slice-aggregate-judge-sentence c = search needs

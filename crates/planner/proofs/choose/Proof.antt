@@ -17,7 +17,7 @@ use Rattle.periods.specs.Trying.{KnownAt}
 use Rattle.trials.specs.Prepared.{leftOf}
 use Rattle.trials.specs.Taking.{Unplaced, Opened, Taken, unplaced-start}
 use Rattle.trials.specs.Allowed.{below, below-most}
-use Rattle.trials.specs.Counting.{Searched}
+use Rattle.trials.specs.Counting.{FirstAllowed}
 use Rattle.trials.specs.Turns.{KnownIn, known-same, entries-small, followed-few, opened-now, tries-small, normal-speed, degraded-speed, degraded-parts, open-entries, normal-first, degraded-first, low-found, high-found, taken-range}
 use Rattle.trials.specs.Turns.{row-is, row-some, normal-within, degraded-within, unplaced-next, normal-next, degraded-next}
 use Rattle.planner.specs.Placing.{Placing, Tally, placing-start, tally-start, counted-done, counted-stuck, counted-over, placing-turn, tally-turn, taker-range, taker-bit}
@@ -165,7 +165,7 @@ module _ (c : tie.Joined1 Inv-loop μ-loop) where
   rest = begun .args .ceiling - head .loop .made
 
   abbrev Result : ℕ → Type 0
-  Result = Searched (begun .args .t1) (head .loop .left) (head .loop .unplaced) (opening .open-entries .result) rest (allowing .first-entries .result)
+  Result = FirstAllowed (begun .args .t1) (head .loop .left) (head .loop .unplaced) (opening .open-entries .result) rest (allowing .first-entries .result)
 
   searched : Result (c .if1 .entry)
   searched =
