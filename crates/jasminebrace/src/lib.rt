@@ -10,6 +10,7 @@ ghost use Prim.Native.Nat.{_+_, _-_};
 ghost use lib.ListN.{length, replicate};
 ghost use Rattle.rules.specs.Choice.{planOf};
 ghost use Rattle.ceiling.specs.Ceiling.{planWithin};
+ghost use Rattle.choices.specs.Choices.{countOf};
 ghost use Rattle.rules.specs.Judge.{judgeOf, tableOf};
 ghost use Rattle.rules.specs.Numbers.{checkNumber, plannedNumber, rowsLeft, verdictNumber, verdictYes, verdictRow, verdictSlack};
 ghost use Rattle.rules.specs.Orders.{checkBoth};
@@ -188,6 +189,31 @@ pub extern "C" fn jb_plan_within(
     *left = numbers.left;
     *trials = counted.trials;
     numbers.number
+}
+
+// Counts the correct orders of a table of up to 12 rows (rules 25.4 to 25.6), and tells for each row in how many of them it stands lowest. Afterwards entry m of
+// the scratch has the choices of the rows of word m alone. Gives 0, or a refusal's number with counts of 0 and the scratch as it was: a check of the table, 20 for
+// more rows, or 10 for fewer than 4,096 numbers (rule 11.13).
+#[no_mangle]
+pub extern "C" fn jb_count(
+    table: &[u32; 388],
+    scratch: &mut [u32],
+    count: &mut u32,
+    lowest: &mut [u32; 64],
+) -> u32
+    ensures { λ r. ⌜ (let back = countOf (tableIn (now (table .entry))) (now (scratch .entry)) in
+        (r ≡ checkNumber (back .said .check))
+        × (now (count .exit) ≡ back .said .count)
+        × (now (lowest .exit) ≡ back .said .lowest)
+        × (now (scratch .exit) ≡ back .scratch)) ⌝ }
+{
+    let t = words::table_in(table);
+    let choices = counter::count(t, scratch);
+    let check = choices.check;
+    let each = choices.lowest;
+    *count = choices.count;
+    *lowest = each;
+    numbers::check_number(check)
 }
 
 // Asks for a proposal (rule 22.2): the table of a sheet and an order for it, both all zero where none is made. Gives the reader's number, or 0, or 7 with
