@@ -7,6 +7,7 @@ use mathlib.Core.Bool.{true, false, cond}
 use mathlib.Core.Logic.{_⊎_, _↔_}
 use mathlib.Core.Path.{_≡_}
 use mathlib.Core.List.{List, [], _∷_, _++_}
+use lib.Dec.{eqb}
 use lib.IntN.{ℤ, pos, _-ℤ_}
 use lib.ListN.{length, getD, set, take, drop, replicate}
 use lib.Signed.{ltZ}
@@ -14,7 +15,8 @@ use Rattle.rules.specs.declared.Table.{Table}
 use Rattle.rules.specs.Calls.{Call, one, forward, Said, tellAll, supplyFrom}
 use Rattle.rules.specs.Choice.{choice, padded, word, planOf}
 use Rattle.ceiling.specs.Ceiling.{trialCount, planWithin}
-use Rattle.rules.specs.Lists.{count, rowsTo, sum}
+use Rattle.choices.specs.Choices.{howMany, rowsIn, alone}
+use Rattle.rules.specs.Lists.{count, rowsTo, sum, same}
 use Rattle.rules.specs.Meaning.{Serves}
 use Rattle.rules.specs.Need.{need}
 use Rattle.rules.specs.Numbers.{checkNumber, plannedNumber, rowsLeft}
@@ -270,6 +272,47 @@ pub record PlannerWithin (t : Table) (ceiling number : ℕ) (order : List ℕ) (
   pub again : (number ≡ 19 → ⊥) → (higher : ℕ) → ceiling ≤ higher
       → (plannedNumber (planWithin higher t .planning .answer) ≡ number) × (planWithin higher t .planning .order ≡ order)
       × (rowsLeft (planWithin higher t .planning .answer) ≡ left) × (planWithin higher t .trials ≡ trials)
+
+-- ---- The maintainer: how much choice a sheet leaves (section 25 of the rules).
+
+-- A list of orders, each sixty-four numbers: every order that passes check 6 and serves stands in it once, and nothing else stands in it.
+pub record AllOrders (t : Table) (orders : List (List ℕ)) : Type 0 where
+  pub once : (o : List ℕ) → length o ≡ 64 → isOrder t o ≡ true → Serves t o → howMany (same o) orders ≡ 1
+  pub only : (o : List ℕ) → 1 ≤ howMany (same o) orders → (length o ≡ 64) × (isOrder t o ≡ true) × Serves t o
+
+-- The orders of a table are just so many.
+pub record SoMany (t : Table) (count : ℕ) : Type 0 where
+  pub orders : List (List ℕ)
+  pub every : AllOrders t orders
+  pub long : length orders ≡ count
+
+-- The orders of a table are counted: the number, the count, the count of each row as lowest, and the scratch before and after.
+pub record Maintainer (t : Table) (lent : List ℕ) (number count : ℕ) (lowest scratch : List ℕ) : Type 0 where
+  -- the number is 0, 20 or 10 just in these cases, and a table that is refused has its own number (rules 11.13, 25.4)
+  pub zero : (number ≡ 0) ↔ (Accepted t × (t .n ≤ 12) × (4096 ≤ length lent))
+  pub twenty : (number ≡ 20) ↔ (Accepted t × (12 < t .n))
+  pub ten : (number ≡ 10) ↔ (Accepted t × (t .n ≤ 12) × (length lent < 4096))
+  pub own : (Accepted t → ⊥) → number ≡ checkNumber (checkTable t)
+  -- a refusal counts nothing and leaves the scratch as it was (rule 25.6)
+  pub refused : (number ≡ 0 → ⊥) → (count ≡ 0) × (lowest ≡ replicate 64 0) × (scratch ≡ lent)
+  -- the correct orders are just so many, and row i stands lowest in just so many of them (rules 25.2, 25.5)
+  pub exact : number ≡ 0 → SoMany t count
+  pub row : (z : number ≡ 0) (i : ℕ) → 1 ≤ i → i ≤ t .n → at lowest i ≡ howMany (λ o. eqb (at o (t .n)) i) (exact z .orders)
+  pub after : number ≡ 0 → (i : ℕ) → t .n < i → at lowest i ≡ 0
+  -- these counts add up to the count (rule 25.10)
+  pub sums : number ≡ 0 → sum (at lowest) (rowsTo (t .n)) ≡ count
+  -- the count is 0 exactly if the planner, with an ample ceiling, answers 7 (rule 25.8)
+  pub none : number ≡ 0 → (ceiling : ℕ) → trialCount t ≤ ceiling → (count ≡ 0) ↔ (plannedNumber (planWithin ceiling t .planning .answer) ≡ 7)
+  -- it is never above 12! (rule 25.9)
+  pub most : count ≤ 479001600
+  -- entry m, for every word m that names rows of the table, tells of the table of these rows alone; entry 0 is 1, and the last of them is the count
+  -- (rules 25.3, 25.5, 25.10)
+  pub words : number ≡ 0 → (m : ℕ) → 1 ≤ m → m < 2 ^ t .n → SoMany (alone t (rowsIn t m)) (getD scratch m 0)
+  pub nothing : number ≡ 0 → getD scratch 0 0 ≡ 1
+  pub whole : number ≡ 0 → getD scratch (2 ^ t .n - 1) 0 ≡ count
+  -- every later entry is as it was (rule 25.5)
+  pub rest : number ≡ 0 → drop (2 ^ t .n) scratch ≡ drop (2 ^ t .n) lent
+  pub long : length scratch ≡ length lent
 
 -- ---- The maker who buys a cooler: the least workable speed is the least at which some order serves (section 18 of the rules).
 

@@ -27,3 +27,4 @@ pub mod Previews
 pub mod Soundness
 pub mod Renewals
 pub mod Pasting
+pub mod Maintained

@@ -3,7 +3,7 @@
 ghost use mathlib.Core.Path.{_≡_};
 ghost use lib.ListN.{getD};
 ghost use Rattle.words.specs.Words.{tableIn};
-ghost use Rattle.conclusions.specs.Conclusions.{TableAuthor, SheetBack, SheetAgain, NumberField, Text, Planner, PlannerWithin, LeastFound, LeastRead, FreshRecord, Proposing, Committing, FirmwareWriter, Forwarding, Drawn, SalesDesk, Listing, LineRead, PlanPasted, VerdictPasted};
+ghost use Rattle.conclusions.specs.Conclusions.{TableAuthor, SheetBack, SheetAgain, NumberField, Text, Planner, PlannerWithin, Maintainer, LeastFound, LeastRead, FreshRecord, Proposing, Committing, FirmwareWriter, Forwarding, Drawn, SalesDesk, Listing, LineRead, PlanPasted, VerdictPasted};
 
 // What reading a sheet and writing its table back said: both numbers, and the length in bytes.
 pub struct Again {
@@ -144,6 +144,13 @@ pub fn planner_within(
     ensures { λ r. ⌜ PlannerWithin (tableIn (now (table .entry))) ceiling r (now (order .exit)) (now (left .exit)) (now (trials .exit)) ⌝ }
 {
     jasminebrace::jb_plan_within(table, ceiling, order, left, trials)
+}
+
+// A maintainer asks how many orders of a sheet are correct, with scratch of 4,096 numbers.
+pub fn maintainer(table: &[u32; 388], scratch: &mut [u32], count: &mut u32, lowest: &mut [u32; 64]) -> u32
+    ensures { λ r. ⌜ Maintainer (tableIn (now (table .entry))) (now (scratch .entry)) r (now (count .exit)) (now (lowest .exit)) (now (scratch .exit)) ⌝ }
+{
+    jasminebrace::jb_count(table, scratch, count, lowest)
 }
 
 // A maker who buys a cooler asks for the least degraded speed that is enough, in work units per slot.

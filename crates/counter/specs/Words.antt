@@ -60,7 +60,7 @@ abbrev pub standingRows : Table → ℕ → ℕ
 standingRows t m = standingTo (λ i. isLeft m i && mayStand t (rowsIn t m) i) (t .n)
 
 module _ (t : Table) (f : TableFacts t) where
-  done-length : (m : ℕ) → length (map (choicesOf t) (wordsTo m)) ≡ m
+  pub done-length : (m : ℕ) → length (map (choicesOf t) (wordsTo m)) ≡ m
   done-length m = length-map (wordsTo m) (choicesOf t) ∙ words-length m
 
   pub filled-length : (old : List ℕ) (m : ℕ) → m ≤ length old → length (filled t old m) ≡ length old
@@ -120,7 +120,7 @@ module _ (t : Table) (f : TableFacts t) where
       (λ _ h. absurd (omega (arith, left-bit (standingRows t m) i e, standing-above p (t .n) (i - 1) h)))
 
   -- a word that has a row
-  some-row : (m : ℕ) → 1 ≤ m → m < 2 ^ t .n → 1 ≤ length (rowsIn t m)
+  pub some-row : (m : ℕ) → 1 ≤ m → m < 2 ^ t .n → 1 ≤ length (rowsIn t m)
   some-row m h l =
       let small : m < 2 ^ 64 = omega (arith, l, pow-mono {i = t .n} {j = 64} (f .few)) in
       let r : Row t (lowestOf m) = record { from = lowest-from m h small; upTo = lowest-within m h small (t .n) l } in

@@ -8,7 +8,7 @@ use mathlib.Core.Path.{_≡_, refl, sym, ap, ap₂, subst, _∙_}
 use native.Mathlib.Omega.{arith}
 use native.Mathlib.Nat.{mul-comm, mul-le-mul-left}
 use lib.Dec.{eqb, ltb, lit<}
-use lib.ListN.{length, take, drop, length-append, take-append-drop, getD}
+use lib.ListN.{length, take, drop, length-append, length-map, take-append-drop, getD}
 use lib.Pow.{pow-pos}
 use lib.Seq.{getD-append-seam}
 use borrow.Author.Tests.{eq-eqb, ne-eqb, eqb-true, le-ltb}
@@ -33,11 +33,11 @@ use Rattle.ceiling.specs.Ceiling.{trialCount, planWithin}
 use Rattle.sweep.specs.Finds.{sorted-keep, zero-entry}
 use Rattle.sweep.specs.Holds.{count-keep-le, keep-without}
 use Rattle.sweep.specs.Masks.{bit, isLeft, left-bit, bit-left, bit-not-left, full-bit, zero-bit}
-use Rattle.sweep.specs.Padded.{zeros, padded-zeros, padded-length, padded-entry}
+use Rattle.sweep.specs.Padded.{zeros, padded-zeros, padded-length, padded-take, padded-entry}
 use Rattle.choices.specs.Choices.{spread, arranged, arrangements, howMany, isCorrect, isLowest, choices, choicesBelow, rowsIn, renumbered, alone, choicesOf}
-use Rattle.lowest.specs.Many.{Every, many-some, many-counts, many-spread, many-map, many-agree, many-none, every-weaker}
+use Rattle.lowest.specs.Many.{Every, many-some, many-counts, many-spread, many-map, many-agree, many-none, every-weaker, same-equal, equal-same, those, those-length, those-many}
 use Rattle.lowest.specs.Listed.{factorial, below, below-same, erased-length, listed-same, listed-only, listed-once, listed-length}
-use Rattle.lowest.specs.Standing.{mayStand, byLowest, standsFrom, may-fewer, many-below, many-standing, correct-is, choices-lowest}
+use Rattle.lowest.specs.Standing.{mayStand, both-ways, byLowest, standsFrom, may-fewer, many-below, many-standing, correct-is, choices-lowest}
 use Rattle.lowest.specs.Alone.{Chosen, in-number, length-within, choices-alone, may-alone}
 
 -- the rows of a word, from the lowest number up
@@ -256,10 +256,7 @@ module _ (t : Table) (f : TableFacts t) where
       ∙ sym choices-all
 
 -- An arrangement counted, as sixty-four numbers, is an order that passes check 6 and is correct over all courses of speed, and no other is counted (rule 25.2).
-module _ (t : Table) (accepted : Accepted t) where
-  f : TableFacts t
-  f = facts t accepted
-
+module _ (t : Table) (f : TableFacts t) where
   pub counted-correct : (o : List ℕ) → (isCorrect t o ≡ true) ↔ ((isOrder t o ≡ true) × Correct t o)
   unfolding isCorrect
   counted-correct o = (
@@ -312,6 +309,61 @@ module _ (t : Table) (accepted : Accepted t) where
           ∙ ap (λ (z : List ℕ). take (t .n) o ++ z) (sym (all-zeros (64 - t .n) (drop (t .n) o) rest ends))
           ∙ take-append-drop (t .n) o
 
+  -- ALL CORRECT ORDERS. As sixty-four numbers they make a list that is as long as the choices are many. It holds each order that passes check 6 and is correct
+  -- once, and nothing else; and in as many of them as are told row i stands lowest (rules 25.2, 25.5).
+  pub correctOrders : List (List ℕ)
+  correctOrders = map padded (those (λ o. isCorrect t (padded o)) (arrangements t))
+
+  pub orders-long : length correctOrders ≡ choices t
+  unfolding correctOrders choices
+  orders-long = length-map (those (λ o. isCorrect t (padded o)) (arrangements t)) padded ∙ those-length (λ o. isCorrect t (padded o)) (arrangements t)
+
+  orders-many : (q : List ℕ → Bool) → howMany q correctOrders ≡ howMany (λ a. isCorrect t (padded a) && q (padded a)) (arrangements t)
+  unfolding correctOrders
+  orders-many q =
+      many-map q padded (those (λ o. isCorrect t (padded o)) (arrangements t))
+      ∙ those-many (λ o. isCorrect t (padded o)) (λ a. q (padded a)) (arrangements t)
+
+  pub orders-lowest : (i : ℕ) → howMany (isLowest t i) correctOrders ≡ choicesBelow t i
+  unfolding choicesBelow
+  orders-lowest i = orders-many (isLowest t i)
+
+  listed : Every (λ o. Same o (rowsOf t)) (arrangements t)
+  unfolding arrangements
+  listed = listed-same (t .n) (rowsOf t) (length-rows (t .n))
+
+  long-of : (a : List ℕ) → Same a (rowsOf t) → length a ≡ t .n
+  long-of a s = same-size a (rowsOf t) s ∙ length-rows (t .n)
+
+  pub orders-once : (o : List ℕ) → length o ≡ 64 → isOrder t o ≡ true → Correct t o → howMany (same o) correctOrders ≡ 1
+  orders-once o l e c =
+      let top = take (t .n) o in
+      let back = order-listed o l e in
+      orders-many (same o)
+      ∙ many-agree (λ a. isCorrect t (padded a) && same o (padded a)) (same top) (arrangements t)
+      (every-weaker (λ a. Same a (rowsOf t)) (λ a. isCorrect t (padded a) && same o (padded a) ≡ same top a)
+      (λ a s. both-ways (isCorrect t (padded a) && same o (padded a)) (same top a)
+      (λ y. let q : o ≡ padded a = same-equal o (padded a) (and-right (isCorrect t (padded a)) (same o (padded a)) y) in
+      let z : top ≡ a = ap (take (t .n)) q ∙ ap (λ (k : ℕ). take k (padded a)) (sym (long-of a s)) ∙ padded-take a (omega (arith, long-of a s, f .few)) in
+      subst (λ (x : List ℕ). same top x ≡ true) z (equal-same top))
+      (λ y. let q : padded a ≡ o = ap padded (sym (same-equal top a y)) ∙ back .0 in
+      and-both (isCorrect t (padded a)) (same o (padded a)) (ap (isCorrect t) q ∙ counted-correct o .1 (e, c)) (subst (λ (x : List ℕ). same o x ≡ true) (sym q) (equal-same o))))
+      (arrangements t) listed)
+      ∙ back .1
+
+  pub orders-only : (o : List ℕ) → 1 ≤ howMany (same o) correctOrders → (length o ≡ 64) × (isOrder t o ≡ true) × Correct t o
+  orders-only o h =
+      let test : List ℕ → Bool = λ a. isCorrect t (padded a) && same o (padded a) in
+      let r = many-some test (λ a. Same a (rowsOf t)) (arrangements t) listed (omega (arith, h, orders-many (same o))) in
+      let a = r .list in
+      let q : o ≡ padded a = same-equal o (padded a) (and-right (isCorrect t (padded a)) (same o (padded a)) (r .passes)) in
+      let g = counted-correct o .0 (ap (isCorrect t) q ∙ and-left (isCorrect t (padded a)) (same o (padded a)) (r .passes)) in
+      (ap length q ∙ padded-length a (omega (arith, long-of a (r .has), f .few)), g .0, g .1)
+
+module _ (t : Table) (accepted : Accepted t) where
+  f : TableFacts t
+  f = facts t accepted
+
   -- NONE. The choices are 0 exactly if the planner, at a ceiling that is not below the count of trials, answers 7 (rule 25.8).
   pub none-seven : (ceiling : ℕ) → trialCount t ≤ ceiling → (choices t ≡ 0) ↔ (plannedNumber (planWithin ceiling t .planning .answer) ≡ 7)
   unfolding planWithin plannedNumber choices arrangements
@@ -330,14 +382,14 @@ module _ (t : Table) (accepted : Accepted t) where
       some none =
           let o = choice t .placed in
           many-counts (λ o. isCorrect t (padded o)) o (arrangements t)
-          (counted-correct (padded o) .1 (choice-order t accepted none, choice-correct t accepted none))
-          (omega (arith, each-once o (subst (λ (l : List ℕ). Same (l ++ o) (rowsOf t)) none (choice-filled t f .filling .every))))
+          (counted-correct t f (padded o) .1 (choice-order t accepted none, choice-correct t accepted none))
+          (omega (arith, each-once t f o (subst (λ (l : List ℕ). Same (l ++ o) (rowsOf t)) none (choice-filled t f .filling .every))))
 
       -- a row is left: nothing is counted
       stuck : (length (choice t .left) ≡ 0 → ⊥) → 1 ≤ choices t → ⊥
       stuck n c =
           let r = many-some (λ o. isCorrect t (padded o)) (λ o. Same o (rowsOf t)) (arrangements t) listed c in
-          let h = counted-correct (padded (r .list)) .0 (r .passes) in
+          let h = counted-correct t f (padded (r .list)) .0 (r .passes) in
           row (choice t .left) n (λ x i. choice-none t accepted x i (padded (r .list)) (h .0) (h .1))
         where
           listed : Every (λ o. Same o (rowsOf t)) (arrangements t)

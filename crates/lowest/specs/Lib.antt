@@ -4,3 +4,4 @@ pub mod Standing
 pub mod Images
 pub mod Alone
 pub mod Counted
+pub mod TwelveCases

@@ -16,7 +16,23 @@ abbrev pub Every : (List ℕ → Type 0) → List (List ℕ) → Type 0
 Every P [] = Unit {0}
 Every P (o ∷ os) = P o × Every P os
 
+-- the lists that pass the test
+abbrev pub those : (List ℕ → Bool) → List (List ℕ) → List (List ℕ)
+those p [] = []
+those p (o ∷ os) = cond (p o) (o ∷ those p os) (those p os)
+
 module _ (p : List ℕ → Bool) where
+  pub those-length : (os : List (List ℕ)) → length (those p os) ≡ howMany p os
+  those-length [] = refl
+  those-length (o ∷ os) = by-bool (p o) (λ e. rw (e, those-length os)) (λ e. rw (e, those-length os))
+
+  pub those-many : (q : List ℕ → Bool) (os : List (List ℕ)) → howMany q (those p os) ≡ howMany (λ o. p o && q o) os
+  those-many q [] = refl
+  those-many q (o ∷ os) =
+      by-bool (p o)
+      (λ e. by-bool (q o) (λ g. rw (e, g, those-many q os)) (λ g. rw (e, g, those-many q os)))
+      (λ e. rw (e, those-many q os))
+
   pub many-append : (a b : List (List ℕ)) → howMany p (a ++ b) ≡ howMany p a + howMany p b
   many-append [] b = omega arith
   many-append (o ∷ a) b = by-bool (p o) (λ e. rw e (omega (arith, many-append a b))) (λ e. rw e (many-append a b))
