@@ -147,7 +147,12 @@ pub fn planner_within(
 }
 
 // A maintainer asks how many orders of a sheet are correct, with scratch of 4,096 numbers.
-pub fn maintainer(table: &[u32; 388], scratch: &mut [u32], count: &mut u32, lowest: &mut [u32; 64]) -> u32
+pub fn maintainer(
+    table: &[u32; 388],
+    scratch: &mut [u32],
+    count: &mut u32,
+    lowest: &mut [u32; 64],
+) -> u32
     ensures { λ r. ⌜ Maintainer (tableIn (now (table .entry))) (now (scratch .entry)) r (now (count .exit)) (now (lowest .exit)) (now (scratch .exit)) ⌝ }
 {
     jasminebrace::jb_count(table, scratch, count, lowest)

@@ -50,7 +50,17 @@ fn all_in_time<'a>(
     ensures { λ r. ⌜ AllIn (now (queue .entry)) n (now (release .entry)) (now (deadline .entry)) (now (cap .entry)) (now (entry .entry)) left r ⌝ }
 {
     let mut period: [u8; 64] = [0; 64];
-    periods::renew(queue, n, release, deadline, cap, entry, left, 0, &mut period)
+    periods::renew(
+        queue,
+        n,
+        release,
+        deadline,
+        cap,
+        entry,
+        left,
+        0,
+        &mut period,
+    )
 }
 
 // Whether a row is in the word of rows left, its entry in the word of entries that finish in time, and its promised part in time too. Caps and needs at the
@@ -75,7 +85,17 @@ fn stands<'a>(
     if sweep::has(left, row) {
         let seat = entry[(row - 1) as usize] + 1;
         if sweep::has(word, seat) {
-            return periods::part_in_time(queue, n, release, deadline, cap, promised, part, left, row);
+            return periods::part_in_time(
+                queue,
+                n,
+                release,
+                deadline,
+                cap,
+                promised,
+                part,
+                left,
+                row,
+            );
         }
     }
     false
@@ -102,7 +122,19 @@ fn standing<'a>(
     let mut k: u32 = 0;
     while k < n {
         let row = (k + 1) as u8;
-        if stands(queue, n, release, deadline, cap, promised, part, entry, left, word, row) {
+        if stands(
+            queue,
+            n,
+            release,
+            deadline,
+            cap,
+            promised,
+            part,
+            entry,
+            left,
+            word,
+            row,
+        ) {
             rows = sweep::with(rows, row);
         }
         k += 1;
@@ -166,8 +198,24 @@ fn count_words(t: Table, scratch: &mut [u32]) -> Choices
     let mut rows: u64 = 0;
     while word <= all {
         let tries = trials::open_entries(free, &t.follows, &w.entry, n, word, all);
-        let normal = all_in_time(&w.queue, n, &t.release, &t.deadline, &w.normal, &w.entry, word);
-        let slow = all_in_time(&w.queue, n, &t.release, &t.deadline, &w.degraded, &w.entry, word);
+        let normal = all_in_time(
+            &w.queue,
+            n,
+            &t.release,
+            &t.deadline,
+            &w.normal,
+            &w.entry,
+            word,
+        );
+        let slow = all_in_time(
+            &w.queue,
+            n,
+            &t.release,
+            &t.deadline,
+            &w.degraded,
+            &w.entry,
+            word,
+        );
         let timely = tries & (normal & w.low | slow & w.high);
         rows = standing(
             &w.queue,
