@@ -1,13 +1,14 @@
 /*
  * The command tools/jasminebrace: plans, judges, lists, runs, explains and writes
- * sheets, plays a day of several, says their least workable speeds, and reads verdicts
- * back from their sentences.
+ * sheets, counts their correct orders, plays a day of several, says their least workable
+ * speeds, and reads verdicts back from their sentences.
  *
  * It has no check, no limit, no planner, no search and no writer of its own: what it
  * says of a sheet, an order or a run is what the archive answered, and a sheet, a
  * report, a sentence, and each field of 8 bytes of a plain form, is written by the
- * archive, which also reads the sentences. It knows how a sheet is laid out, in such fields, to cut it into parts and to ask the
- * archive's reader about each part inside a sheet that is right everywhere else.
+ * archive, which also reads the sentences. It knows how a sheet is laid out, in such
+ * fields, to cut it into parts and to ask the archive's reader about each part inside a
+ * sheet that is right everywhere else.
  * Rows files and rows as words are in table.h.
  *
  * Exit status: see enum status.
@@ -25,7 +26,7 @@
 
 enum status {
     FINE = 0,      /* an order, or yes, or done */
-    NO = 1,        /* no correct order exists, or none at any speed of a range, or the order is not correct */
+    NO = 1,        /* no correct order exists, or none at any speed of a range, or 0 are counted, or the order is not correct */
     REFUSED = 2,   /* the sheet, the order or the run is refused by a number other than 7 */
     NOT_USABLE = 3 /* arguments, a file or standard output cannot be used; nothing is said of a sheet */
 };
@@ -576,8 +577,9 @@ static void put_waits_matter(FILE *to, const jb_table *table) {
 }
 
 /*
- * Says that no correct order exists, which rows are left, whether waits are the reason, and what was not looked for. Waits are planned without for
- * that; where no table is handed over, as after planning at a ceiling, nothing is said of them.
+ * Says that no correct order exists, which rows are left, whether waits are the reason, and
+ * what was not looked for. Waits are planned without for that; where no table is handed over,
+ * as after planning at a ceiling, nothing is said of them.
  */
 static void explain_no_order(FILE *to, const jb_table *table, uint64_t left) {
     put_words(to, JB_NO_ORDER);
@@ -1205,6 +1207,98 @@ static int report(const request *asked) {
     }
     fwrite(text, 1, length, stdout);
     return FINE;
+}
+
+/* What counting the correct orders of a sheet has answered. */
+typedef struct {
+    uint32_t number;
+    uint32_t n;               /* rows */
+    uint32_t count;           /* correct orders */
+    uint32_t lowest[JB_ROWS]; /* in how many of them each row stands lowest */
+} counted_orders;
+
+/* Figures in 10 columns each, as a report has them: a field of 8 bytes does not hold every count. */
+static void put_columns(const uint32_t *figures, size_t count) {
+    for (size_t index = 0; index < count; index++) {
+        printf("%*" PRIu32, JB_FIGURE, figures[index]);
+    }
+    putchar('\n');
+}
+
+static void put_plain_count(const counted_orders *made) {
+    const uint32_t first[] = {made->number, made->n, made->count, made->number == JB_OK ? jb_arrangements(made->n) : 0};
+    put_columns(first, sizeof first / sizeof first[0]);
+    for (uint32_t row = 1; row <= made->n; row++) {
+        const uint32_t line[] = {row, made->lowest[row - 1]};
+        put_columns(line, sizeof line / sizeof line[0]);
+    }
+}
+
+/* Says of how many arrangements how many are correct orders, and in how many of these each row stands lowest. */
+static void put_count(const jb_table *table, const counted_orders *made) {
+    const uint32_t all = jb_arrangements(made->n);
+    printf("%" PRIu32 " of %" PRIu32 " %s of %" PRIu32 " %s %s\n", made->count, all, all == 1 ? "arrangement" : "arrangements", made->n,
+           rows_word(made->n), made->count == 1 ? "is a correct order" : "are correct orders");
+    if (made->count == 0) {
+        puts("no order is correct: 'jasminebrace plan SHEET' says which rows are left, and what to do");
+        return;
+    }
+    for (uint32_t row = 1; row <= made->n; row++) {
+        const uint32_t lowest = made->lowest[row - 1];
+        put_row(table, row);
+        printf(": lowest in %" PRIu32 " correct %s\n", lowest, lowest == 1 ? "order" : "orders");
+    }
+}
+
+/* Says that a sheet has more rows than are counted, how many it has, and that nothing else is wrong with it. */
+static void explain_too_many_rows(FILE *to, const sheet_file *sheet) {
+    fault found;
+    memset(&found, 0, sizeof found);
+    note_field(sheet->bytes, 0, 1, &found);
+    put_words(to, JB_TOO_MANY_ROWS);
+    put_place(to, sheet->bytes, &found);
+    fprintf(to, "allowed: 1 to %d rows, to be counted; the sheet is accepted otherwise\n", JB_MOST_COUNTED);
+    put_remedy(to, JB_TOO_MANY_ROWS);
+}
+
+/* Says why orders were not counted. */
+static int refuse_count(const request *asked, const sheet_file *sheet, uint32_t number) {
+    const counted_orders none = {number, 0, 0, {0}};
+    if (asked->plain) {
+        put_plain_count(&none);
+    }
+    if (number == JB_TOO_MANY_ROWS) {
+        explain_too_many_rows(stderr, sheet);
+    } else {
+        explain_number(stderr, number, sheet, 0);
+    }
+    return status_of(number);
+}
+
+/* Counts the correct orders of a sheet. */
+static int count_orders(const request *asked) {
+    static uint32_t scratch[JB_SCRATCH];
+    sheet_file sheet;
+    jb_table table;
+    counted_orders made;
+    const int status = read_sheet(asked->words[0], &sheet);
+    if (status != FINE) {
+        return status;
+    }
+    made.number = jb_read_table(sheet.bytes, sheet.length, &table);
+    if (made.number == JB_OK) {
+        made.number = jb_count_orders(&table, scratch, JB_SCRATCH, &made.count, made.lowest);
+    }
+    if (made.number != JB_OK) {
+        return refuse_count(asked, &sheet, made.number);
+    }
+    made.n = table.n;
+    if (asked->plain) {
+        put_plain_count(&made);
+    } else {
+        put_count(&table, &made);
+    }
+    return made.count == 0 ? NO : FINE;
 }
 
 /* A speed that is sought while the other one is kept as it is. */
@@ -2434,6 +2528,25 @@ static const char REPORT_HELP[] =
     "line of its number and the count of rows left, which is 0 but for 7, each in a\n"
     "field of 8 bytes.\n";
 
+_Static_assert(JB_MOST_COUNTED == 12 && JB_SCRATCH == 4096, "as the help of count says");
+static const char COUNT_HELP[] =
+    "says how many orders of a sheet are correct, and which rows stand lowest in them\n"
+    "\n"
+    "The n rows of a sheet can be arranged in n * (n - 1) * ... * 1 ways, 24 for 4 rows and\n"
+    "479001600 for 12. The first line says how many of these arrangements are correct orders,\n"
+    "in which every row stands below the one that it follows: those to which judge says yes.\n"
+    "The order that plan makes is one of them. Then a line for each row: in how many of the\n"
+    "correct orders it stands lowest; together these are all of them. Few correct orders tell\n"
+    "of a tight sheet; with 1 there is nothing to choose. With 0 the status is 1, as where\n"
+    "plan answers 7, and plan says which rows are left. Orders that would serve only because\n"
+    "runs drop LO rows at their deadlines are not counted.\n"
+    "A sheet of more than 12 rows is refused with 20, which says nothing of its orders; it may\n"
+    "be planned and judged all the same.\n"
+    "\n"
+    "--plain: each figure in 10 columns. First line: 0, the row count, the count of correct\n"
+    "orders, that of arrangements; or a refusal's number and three times 0. After 0 a line\n"
+    "for each row: row, in how many correct orders it stands lowest.\n";
+
 static const char SPEEDS_HELP[] =
     "says the least degraded and the least normal speed at which a correct order exists\n"
     "\n"
@@ -2602,6 +2715,7 @@ static const command COMMANDS[] = {
     {"judge", judge, 2, 0, "judge SHEET ROW..", NULL, JUDGE_HELP},
     {"finishes", finishes, 1, 0, "finishes SHEET [ROW..]", NULL, FINISHES_HELP},
     {"report", report, 1, 0, "report SHEET [ROW..]", NULL, REPORT_HELP},
+    {"count", count_orders, 1, 1, "count SHEET", NULL, COUNT_HELP},
     {"speeds", speeds, 1, 0, "speeds {SHEET | --slacks SHEET [ROW..]}", NULL, SPEEDS_HELP},
     {"run", run, 2, 0, "run SHEET [--order ROW,ROW..] [--stretches] SUPPLY..", NULL, RUN_HELP},
     {"day", day, 2, 0, "day [--stretches] SHEET SUPPLY.. [then SHEET SUPPLY..]..", NULL, DAY_HELP},
@@ -2652,15 +2766,15 @@ static int put_help(const command *of) {
     }
     put_usage(stdout);
     fputs("\nSHEET, ROWS.csv and FILE are files, or - for standard input. --plain writes\n"
-          "figures alone, each in a field of 8 bytes (those of a report in 10 columns, those\n"
-          "of a sentence with a space between), for scripts. What was asked for goes to\n"
-          "standard output, the explanation of a refusal to standard error (that of explain to\n"
-          "standard output). plan and judge tell a refusal as a sentence besides, on standard\n"
-          "output.\n"
+          "figures alone, each in a field of 8 bytes (those of a report and of count in 10\n"
+          "columns, those of a sentence with a space between), for scripts. What was asked for\n"
+          "goes to standard output, the explanation of a refusal to standard error (that of\n"
+          "explain to standard output). plan and judge tell a refusal as a sentence besides, on\n"
+          "standard output.\n"
           "\n"
           "Exit status: 0 an order, or yes, or done; 1 no correct order exists (number 7; for\n"
-          "speeds: at no speed of a range), or no; 2 refused by another number; 3 cannot be\n"
-          "used (arguments, a file, standard output, a missing tool).\n",
+          "speeds: at no speed of a range; for count: a count of 0), or no; 2 refused by another\n"
+          "number; 3 cannot be used (arguments, a file, standard output, a missing tool).\n",
           stdout);
     return FINE;
 }

@@ -3,8 +3,8 @@
  * entry of its own, and a run of case P1, with row 3 to follow row 1, from its sheet to
  * its last row, with LO rows dropped on the way; then the sheet is written back, a report
  * of its rows, its least G is asked for, it is planned with few trials and with enough, both
- * answers are put into sentences and one is read back, and the next sheet takes its place on
- * the same clock. It shows what a board has to provide.
+ * answers are put into sentences and one is read back, its correct orders are counted, and the
+ * next sheet takes its place on the same clock. It shows what a board has to provide.
  * Build and run it on x86-64 Linux:
  *
  *     gcc -std=c11 -O2 -ffreestanding -nostdlib -static -fno-tree-loop-distribute-patterns \
@@ -65,6 +65,7 @@ static jb_run run;
 static uint8_t written[JB_LONGEST_SHEET];
 static uint8_t report[JB_LONGEST_REPORT];
 static uint8_t line[JB_LONGEST_SENTENCE];
+static uint32_t scratch[JB_SCRATCH]; /* 16,384 bytes, for counting alone */
 
 /* The supply of a slot in work units: between G and N, as a warming processor has it. */
 static uint32_t supply_of(uint32_t slot) {
@@ -96,6 +97,17 @@ static int next_sheet(void) {
         return 15;
     }
     return jb_work_slot(&run, 5, &row) == JB_OK && row == 1 && jb_is_done(&run, 1) && run.clock == 20 ? 0 : 16;
+}
+
+/* Of the 24 arrangements of its rows one is a correct order, the planned one, in which row 4 stands lowest; and a number of scratch too few is noticed. */
+static int is_counted(void) {
+    uint32_t count;
+    uint32_t lowest[JB_ROWS];
+    if (jb_count_orders(&table, scratch, JB_SCRATCH - 1, &count, lowest) != JB_NO_ROOM || count != 0 || scratch[0] != 0) {
+        return 0;
+    }
+    return jb_count_orders(&table, scratch, JB_SCRATCH, &count, lowest) == JB_OK && count == 1 && lowest[3] == 1 && lowest[2] == 0 &&
+           scratch[0] == 1 && scratch[15] == 1 && scratch[16] == 0 && jb_arrangements(table.n) == 24;
 }
 
 /* The planner's answer as a sentence. */
@@ -142,6 +154,9 @@ static int few_trials(void) {
     }
     if (!is_told(JB_OK, left, order, trials, PLANNED) || !is_read_back(order)) {
         return 20;
+    }
+    if (!is_counted()) {
+        return 21;
     }
     return next_sheet();
 }

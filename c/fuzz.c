@@ -1,5 +1,5 @@
 /*
- * Calls every function of the library with arbitrary sheets, tables, orders, run
+ * Calls every function of the library with arbitrary sheets, tables, orders, scratch, run
  * records, answers and lines, and looks at the memory around and behind every call.
  *
  *     fuzz [ROUNDS [SEED]]
@@ -30,6 +30,9 @@ enum {
     GUARD_SIZE = 256,  /* bytes of it that are checked */
     MOST_SUPPLIES = 40,
     SEARCHED = 4, /* rounds for one in which least speeds are sought: each search plans many times */
+    COUNTED = 2,  /* rounds for one in which orders are counted */
+    MOST_LISTED = 5, /* rows of a table whose arrangements are listed and judged one by one */
+    MOST_LENT = JB_SCRATCH + 300, /* numbers of scratch, some more than is asked for */
     LONGEST_INPUT = 3300, /* bytes, some more than a sheet has */
     MOST_ROOM = 3400,     /* bytes lent for a report, some more than one has */
     LONGEST_LINE = 800    /* bytes of a line to be read, and lent for a sentence, some more than one has */
@@ -351,6 +354,7 @@ static size_t fill_input(uint8_t *input) {
 
 static buffer input_at, sheet_at, report_at, table_at, order_at, run_at, supplies_at, text_at, left_at, word_at, row_at, slack_at, out_at, one_at;
 static buffer line_at, places_at, answer_at; /* a sentence, the order that it tells, and what is read from one */
+static buffer scratch_at, lowest_at; /* scratch for counting, and the counts of rows as lowest */
 
 /* The functions, and the numbers that each can give. */
 enum {
@@ -366,6 +370,7 @@ enum {
     JUDGE,
     FINISHES,
     REPORT,
+    COUNT,
     FRESH,
     COMING,
     SLOT,
@@ -393,6 +398,7 @@ static const struct {
     [JUDGE] = {"judge", {0, 3, 4, 11, 5, 12, 13, 14, 15, 6, END}},
     [FINISHES] = {"finishes", {0, 3, 4, 11, 5, 12, 13, 14, 15, 6, END}},
     [REPORT] = {"report", {0, 3, 4, 11, 5, 12, 13, 14, 15, 6, 10, END}},
+    [COUNT] = {"count", {0, 3, 4, 11, 5, 12, 13, 14, 15, 20, 10, END}},
     [FRESH] = {"fresh", {0, 3, 4, 11, 5, 12, 13, 14, 15, 6, END}},
     [COMING] = {"coming", {0, 8, 9, END}},
     [SLOT] = {"slot", {0, 8, 9, END}},
@@ -405,6 +411,7 @@ static const struct {
 };
 static uint64_t counts[FUNCTIONS][NUMBERS];
 static uint64_t at_count[2]; /* ceilings that are the trials that a table takes, and one less */
+static uint64_t no_orders, one_order, all_orders; /* counted tables with none, with one of several arrangements, and with all of several */
 static uint64_t range_ends[2]; /* least speeds that are the first and the last of their range */
 static uint64_t loading_slots, working_slots; /* slots worked one by one that brought no work by K, and other ones of a row */
 static uint64_t dropped_for_need, dropped_running, dropped_resting; /* LO rows: for their allowance, at their deadlines as they ran, and as they did not */
@@ -747,6 +754,153 @@ static void try_plan_within(void) {
     }
     at_count[0] += planned && ceiling == takes;
     at_count[1] += planned && ceiling + 1 == takes;
+}
+
+/* A table for counting: that lent before, or one of about as many rows as are counted at most. */
+static void fill_counted(jb_table *table) {
+    memcpy(table, table_at.start, sizeof *table);
+    if (once_in(3)) {
+        const uint32_t rows = between(1, JB_MOST_COUNTED + 2);
+        fill_accepted(table);
+        const uint32_t loading = table->loading;
+        for (uint32_t row = table->n + 1; row <= rows; row++) {
+            table->release[row - 1] = between(0, 20);
+            table->work[row - 1] = between(1, 6);
+            table->deadline[row - 1] = table->release[row - 1] + between(1, (4 + loading) * rows);
+            table->level[row - 1] = between(0, 1);
+        }
+        table->n = table->n < rows ? rows : table->n;
+    }
+}
+
+/* Counts the orders of a table with so many numbers of any values lent; gives the number. The results are in their buffers then. */
+static uint32_t count_orders(const jb_table *table, size_t numbers) {
+    uint32_t *lent = (uint32_t *)place(&scratch_at, numbers * sizeof *lent);
+    uint32_t *made = (uint32_t *)place(&word_at, sizeof *made);
+    uint32_t *lowest = (uint32_t *)place(&lowest_at, JB_ROWS * sizeof *lowest);
+    jb_table *copy = (jb_table *)place(&one_at, sizeof *copy);
+    const bool counts_up = once_in(2);
+    memcpy(copy, table, sizeof *copy);
+    lend(&one_at);
+    for (size_t index = 0; index < numbers; index++) {
+        lent[index] = counts_up ? (uint32_t)index : (uint32_t)random_word();
+    }
+    lend(&scratch_at);
+    const uint32_t number = jb_count_orders(copy, lent, numbers, made, lowest);
+    count(COUNT, number);
+    expect_unwritten(&one_at);
+    expect_guards(&scratch_at);
+    expect_guards(&word_at);
+    expect_guards(&lowest_at);
+    if (number != JB_OK) {
+        expect_unwritten(&scratch_at);
+        expect(*made == 0 && all_zero(lowest, JB_ROWS * sizeof *lowest), "nothing is counted with a refusal");
+    }
+    return number;
+}
+
+/* How many of the arrangements that begin with these places are correct, as the judge says; each row as lowest is counted too. */
+static uint32_t list_orders(const jb_table *table, uint8_t order[JB_ROWS], uint32_t places, uint32_t lowest[JB_ROWS]) {
+    uint32_t correct = 0;
+    if (places == table->n) {
+        uint32_t yes, row;
+        int32_t slack;
+        const bool is_correct = jb_judge_order(table, order, &yes, &row, &slack) == JB_OK && yes == 1;
+        lowest[order[places - 1] - 1] += is_correct;
+        return is_correct;
+    }
+    for (uint32_t row = 1; row <= table->n; row++) {
+        if (!is_placed(order, places, row)) {
+            order[places] = (uint8_t)row;
+            correct += list_orders(table, order, places + 1, lowest);
+            order[places] = 0;
+        }
+    }
+    return correct;
+}
+
+/* The rows of a word as a table of their own; a row that follows one that is left out follows none there. */
+static jb_table rows_alone(const jb_table *table, uint32_t word) {
+    jb_table alone;
+    uint32_t numbered[JB_ROWS + 1] = {0};
+    memset(&alone, 0, sizeof alone);
+    alone.normal = table->normal;
+    alone.degraded = table->degraded;
+    alone.loading = table->loading;
+    for (uint32_t index = 0; index < table->n; index++) {
+        if (word >> index & 1) {
+            const uint32_t at = alone.n++;
+            numbered[index + 1] = alone.n;
+            alone.release[at] = table->release[index];
+            alone.work[at] = table->work[index];
+            alone.deadline[at] = table->deadline[index];
+            alone.level[at] = table->level[index];
+            alone.promised[at] = table->promised[index];
+            alone.follows[at] = numbered[table->follows[index]];
+        }
+    }
+    return alone;
+}
+
+/* The entry of some set of rows is the count of these rows as a table of their own (rule 25.3). */
+static void expect_alone(const jb_table *table, const uint32_t *entries, size_t sets) {
+    static uint32_t of_alone[JB_SCRATCH];
+    const uint32_t word = between(1, (uint32_t)sets - 1);
+    const jb_table alone = rows_alone(table, word);
+    uint32_t made, lowest[JB_ROWS];
+    expect(jb_count_orders(&alone, of_alone, JB_SCRATCH, &made, lowest) == JB_OK, "the rows of a set alone are counted");
+    expect(made == entries[word], "the entry of a set is the count of its rows alone");
+}
+
+/* What is counted of a table: no order exactly where the planner answers 7, no more than all arrangements, the sums of rule 25.10, and what is listed. */
+static void expect_counted(const jb_table *table, uint32_t planned) {
+    const uint32_t *entries = (const uint32_t *)(const void *)scratch_at.start;
+    const uint32_t *before = (const uint32_t *)(const void *)scratch_at.copy;
+    const uint32_t *lowest = (const uint32_t *)(const void *)lowest_at.start;
+    const size_t sets = (size_t)1 << table->n;
+    const uint32_t all = jb_arrangements(table->n);
+    uint32_t made, sum = 0;
+    memcpy(&made, word_at.start, sizeof made);
+    expect((made == 0) == (planned == JB_NO_ORDER), "0 exactly where the planner answers 7");
+    expect(made <= all, "no more than all arrangements");
+    for (uint32_t index = 0; index < JB_ROWS; index++) {
+        sum += lowest[index];
+        expect(index < table->n ? lowest[index] == 0 || lowest[index] == entries[(sets - 1) & ~((size_t)1 << index)] : lowest[index] == 0,
+               "a row as lowest: the orders of all others, or none");
+    }
+    expect(sum == made && entries[sets - 1] == made && entries[0] == 1, "the sums, and no row at all");
+    expect(memcmp(entries + sets, before + sets, scratch_at.size - sets * sizeof *entries) == 0, "the scratch after its sets is as it was");
+    expect_alone(table, entries, sets);
+    no_orders += made == 0;
+    one_order += all > 1 && made == 1;
+    all_orders += all > 1 && made == all;
+    if (table->n <= MOST_LISTED) {
+        uint8_t order[JB_ROWS] = {0};
+        uint32_t listed[JB_ROWS] = {0};
+        expect(list_orders(table, order, 0, listed) == made, "the count is what listing all arrangements gives");
+        expect(memcmp(listed, lowest, sizeof listed) == 0, "and so are the lowest rows");
+    }
+}
+
+/* Counting refuses what the planner refuses, then more than 12 rows, then fewer than 4,096 numbers (rule 11.13). */
+static void try_count(void) {
+    jb_table table;
+    uint8_t order[JB_ROWS];
+    uint64_t left;
+    fill_counted(&table);
+    const size_t numbers = once_in(2) ? JB_SCRATCH : any_room(JB_SCRATCH, MOST_LENT);
+    const uint32_t planned = jb_plan_table(&table, order, &left);
+    const uint32_t number = count_orders(&table, numbers);
+    if (planned != JB_OK && planned != JB_NO_ORDER) {
+        expect(number == planned, "counting refuses the tables that the planner refuses");
+    } else if (table.n > JB_MOST_COUNTED) {
+        expect(number == JB_TOO_MANY_ROWS, "20 for more than 12 rows, whatever is lent");
+    } else {
+        expect(number == (numbers < JB_SCRATCH ? JB_NO_ROOM : JB_OK), "10 exactly if fewer than 4,096 numbers are lent");
+    }
+    if (number == JB_OK) {
+        expect_counted(&table, planned);
+    }
 }
 
 /* The judge over the same rows as a list, as many as the table says up to all it has, says the same of rows that it takes. */
@@ -1353,6 +1507,16 @@ static void try_far_room(void) {
     expect(jb_write_plan(JB_OK, 0, order, 1, bytes, room, &length) == JB_OK, "room above 4 GiB for a sentence");
     expect(bytes[length - 1] == '.' && bytes[length] == 0, "the sentence and no byte more");
     expect(jb_read_answer(bytes, room, &answer) == JB_MALFORMED, "a line of above 4 GiB is no sentence");
+    memset(bytes, 0, length);
+    table.n = 1;
+    memset(table.follows, 0, sizeof table.follows);
+    for (uint32_t index = 1; index < JB_ROWS; index++) {
+        table.release[index] = table.work[index] = table.deadline[index] = table.level[index] = table.promised[index] = 0;
+    }
+    uint32_t lowest[JB_ROWS];
+    uint32_t *scratch = (uint32_t *)(void *)bytes;
+    expect(jb_count_orders(&table, scratch, room / sizeof *scratch, &length, lowest) == JB_OK, "scratch above 4 GiB");
+    expect(scratch[0] == 1 && scratch[1] == length && scratch[2] == 0, "two sets of one row and no number more");
     munmap(bytes, room);
 }
 
@@ -1522,6 +1686,8 @@ static void make_buffers(void) {
     line_at = new_buffer(LONGEST_LINE);
     places_at = new_buffer(JB_ROWS);
     answer_at = new_buffer(sizeof(jb_answer));
+    scratch_at = new_buffer(MOST_LENT * sizeof(uint32_t));
+    lowest_at = new_buffer(JB_ROWS * sizeof(uint32_t));
 }
 
 /* Prints how often each function gave each number; every number that it can give has come up. */
@@ -1550,6 +1716,9 @@ int main(int argc, char **argv) {
         try_write();
         try_plan();
         try_plan_within();
+        if (once_in(COUNTED)) {
+            try_count();
+        }
         if (once_in(SEARCHED)) {
             try_least();
         }
@@ -1576,6 +1745,9 @@ int main(int argc, char **argv) {
     expect(waiting_rows > 0 && followers > 0 && broken_waits > 0, "rows wait, run and stand wrong");
     printf("ceilings: %" PRIu64 " are the trials that the table takes, %" PRIu64 " one less\n", at_count[0], at_count[1]);
     expect(at_count[0] > 0 && at_count[1] > 0, "ceilings just high enough and just too low");
+    printf("counted tables: %" PRIu64 " have no correct order, %" PRIu64 " have one of several, %" PRIu64 " have all of several\n", no_orders,
+           one_order, all_orders);
+    expect(no_orders > 0 && one_order > 0 && all_orders > 0, "tables leave no choice, and all of it");
     printf("commits: %" PRIu64 " refused for a release, %" PRIu64 " with idle slots before the first one\n", late_starts, idle_starts);
     expect(late_starts > 0 && idle_starts > 0, "sheets start too early and later than they are committed");
     printf("damaged sentences: %" PRIu64 " are another answer's, %" PRIu64 " are none\n", still_sentences, no_sentences);

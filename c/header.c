@@ -4,8 +4,8 @@
  * sheet written back, least speeds, reports, tables that are refused for K, a promised
  * part or a followed row, where a row of a run stands and how far it has loaded, LO rows
  * at their deadlines, needs, promised parts, rows that follow rows, planning at a ceiling,
- * new sheets that are asked for and committed, answers as sentences and read back from them,
- * and the packed verdict taken apart. It says how many things it looked at; exit status 1 if
+ * correct orders counted, new sheets that are asked for and committed, answers as sentences and
+ * read back from them, and the packed verdict taken apart. It says how many things it looked at; exit status 1 if
  * one is not as it should be.
  */
 #include "jasminebrace.h"
@@ -91,6 +91,36 @@ static void look_at_no_proposal(const char *sheet, size_t length, uint32_t numbe
     look(got == left && all_zero(&table, sizeof table) && all_zero(order, sizeof order), "zeros for a proposal, number", number);
 }
 
+/* Scratch for counting, some more than is asked for, and some numbers after those that are ever lent. */
+enum { MOST_LENT = JB_SCRATCH + 4 };
+static uint32_t scratch[MOST_LENT + 4];
+
+static void fill_scratch(void) {
+    for (size_t index = 0; index < sizeof scratch / sizeof scratch[0]; index++) {
+        scratch[index] = 7;
+    }
+}
+
+/* The numbers of the scratch from this one on are as they were. */
+static int is_scratch_left(size_t from) {
+    int left = 1;
+    for (size_t index = from; index < sizeof scratch / sizeof scratch[0]; index++) {
+        left = left && scratch[index] == 7;
+    }
+    return left;
+}
+
+/* Counting the orders of a table is refused by this number, with zeros and the scratch as it was. */
+static void look_at_no_count(const jb_table *table, uint32_t *lent, size_t numbers, uint32_t number) {
+    uint32_t count = 7;
+    uint32_t lowest[JB_ROWS];
+    memset(lowest, 7, sizeof lowest);
+    fill_scratch();
+    look(jb_count_orders(table, lent, numbers, &count, lowest) == number, "no count, number", number);
+    look(count == 0 && all_zero(lowest, sizeof lowest), "zeros for a count, number", number);
+    look(is_scratch_left(0), "the scratch as it was, number", number);
+}
+
 /* Null goes with a length of 0, and the answer is that of an empty list. */
 static void look_at_empty_lists(void) {
     jb_table table;
@@ -113,6 +143,7 @@ static void look_at_empty_lists(void) {
     length = 7;
     look(jb_report_order(&table, order, NULL, 0, &length) == JB_NO_ROOM && length == 0, "no room for a report", 0);
     length = 7;
+    look_at_no_count(&table, NULL, 0, JB_NO_ROOM);
     look(jb_write_plan(JB_OK, 0, order, 3, NULL, 0, &length) == JB_NO_ROOM && length == 0, "no room for a plan's sentence", 0);
     length = 7;
     look(jb_write_verdict(JB_OK, 1, 1, 0, NULL, 0, &length) == JB_NO_ROOM && length == 0, "no room for a verdict's sentence", 0);
@@ -385,6 +416,8 @@ static void look_at_refused_table(const jb_table *table, uint32_t number) {
     look_at_no_speed(table, NULL, 0, number, "no least speed");
     look(jb_write_table(table, NULL, 0, &length) == number && length == 0, "no sheet, number", number);
     look(jb_plan_table(table, planned, &left) == number && left == 0 && all_zero(planned, sizeof planned), "no plan, number", number);
+    look_at_no_count(table, scratch, JB_SCRATCH, number);
+    look_at_no_count(table, NULL, 0, number);
     look_at_ceiling(table, 0, number, zeros, 0, 0);
     look_at_ceiling(table, UINT32_MAX, number, zeros, 0, 0);
     look_at_refused_verdicts(table, no_order, number);
@@ -906,6 +939,85 @@ static void look_at_most_trials(void) {
     }
 }
 
+/* A table of up to four rows without loading, how many of its orders are correct, in how many of these each row stands lowest, and the scratch afterwards. */
+typedef struct {
+    uint32_t normal;
+    uint32_t degraded;
+    jb_row rows[4]; /* up to the first of no work */
+    uint32_t count;
+    uint32_t lowest[4];
+    uint32_t entries[16]; /* those of its sets of rows */
+} count_case;
+
+/*
+ * P1; P3; three rows of which two follow the first; a followed row that has another number where
+ * a row above it is left out; a promised part that is late below; a row alone.
+ */
+static const count_case COUNT_CASES[] = {
+    {5, 2, {{0, 20, 10, JB_HI, 0, 0}, {5, 15, 10, JB_LO, 0, 0}, {5, 11, 19, JB_HI, 0, 0}, {0, 5, 5, JB_LO, 0, 0}}, 1, {0, 0, 0, 1},
+     {1, 1, 1, 1, 1, 1, 1, 1, 1, 1, 2, 2, 2, 2, 3, 1}},
+    {2, 1, {{0, 2, 2, JB_LO, 0, 0}, {0, 4, 4, JB_HI, 0, 0}, {0, 0, 0, 0, 0, 0}, {0, 0, 0, 0, 0, 0}}, 0, {0, 0, 0, 0}, {1, 1, 1, 0}},
+    {1, 1, {{0, 1, 9, JB_LO, 0, 0}, {0, 1, 9, JB_LO, 0, 1}, {0, 1, 9, JB_LO, 0, 1}, {0, 0, 0, 0, 0, 0}}, 2, {0, 1, 1, 0},
+     {1, 1, 1, 1, 1, 1, 2, 2}},
+    {1, 1, {{0, 1, 9, JB_LO, 0, 0}, {0, 1, 9, JB_LO, 0, 0}, {0, 1, 9, JB_LO, 0, 0}, {0, 1, 9, JB_LO, 0, 2}}, 12, {3, 0, 3, 6},
+     {1, 1, 1, 2, 1, 2, 2, 6, 1, 2, 1, 3, 2, 6, 3, 12}},
+    {4, 1, {{0, 4, 9, JB_HI, 0, 0}, {0, 8, 4, JB_LO, 1, 0}, {0, 0, 0, 0, 0, 0}, {0, 0, 0, 0, 0, 0}}, 1, {1, 0, 0, 0}, {1, 1, 1, 1}},
+    {1, 1, {{0, 1, 1, JB_HI, 0, 0}, {0, 0, 0, 0, 0, 0}, {0, 0, 0, 0, 0, 0}, {0, 0, 0, 0, 0, 0}}, 1, {1, 0, 0, 0}, {1, 1}},
+};
+
+/* Counts, lowest rows and every number of the scratch, in just enough of it and in more; a number too few is refused. */
+static void look_at_counts(void) {
+    const size_t most = MOST_LENT;
+    for (unsigned index = 0; index < sizeof COUNT_CASES / sizeof COUNT_CASES[0]; index++) {
+        const count_case *expected = &COUNT_CASES[index];
+        const jb_table table = table_of_rows(expected->normal, expected->degraded, expected->rows, 4);
+        const size_t sets = (size_t)1 << table.n;
+        for (size_t numbers = JB_SCRATCH; numbers <= most; numbers += most - JB_SCRATCH) {
+            uint32_t count = 7;
+            uint32_t lowest[JB_ROWS];
+            memset(lowest, 7, sizeof lowest);
+            fill_scratch();
+            look(jb_count_orders(&table, scratch, numbers, &count, lowest) == JB_OK && count == expected->count, "count, case", index);
+            look(memcmp(lowest, expected->lowest, sizeof expected->lowest) == 0, "lowest rows, case", index);
+            look(all_zero(lowest + table.n, (JB_ROWS - table.n) * sizeof lowest[0]), "no lowest rows after the last, case", index);
+            look(memcmp(scratch, expected->entries, sets * sizeof scratch[0]) == 0, "the scratch, case", index);
+            look(is_scratch_left(sets), "the scratch after its sets, case", index);
+        }
+        look_at_no_count(&table, scratch, JB_SCRATCH - 1, JB_NO_ROOM);
+        look_at_no_count(&table, scratch, sets, JB_NO_ROOM);
+    }
+}
+
+/* All arrangements of up to twelve rows are correct orders where there is time for all; thirteen rows are refused by 20, whatever is lent. */
+static void look_at_most_counted(void) {
+    uint32_t product = 1;
+    look(jb_arrangements(0) == 1 && jb_arrangements(JB_MOST_COUNTED) == 479001600u, "arrangements of rows", JB_MOST_COUNTED);
+    for (uint32_t rows = 1; rows <= JB_ROWS; rows++) {
+        jb_table table;
+        memset(&table, 0, sizeof table);
+        table.n = rows;
+        table.normal = 1;
+        table.degraded = 1;
+        for (uint32_t index = 0; index < rows; index++) {
+            table.work[index] = 1;
+            table.deadline[index] = JB_ROWS;
+        }
+        if (rows > JB_MOST_COUNTED) {
+            look(jb_arrangements(rows) == 0, "no arrangements of rows", rows);
+            look_at_no_count(&table, scratch, JB_SCRATCH, JB_TOO_MANY_ROWS);
+            look_at_no_count(&table, NULL, 0, JB_TOO_MANY_ROWS);
+            continue;
+        }
+        uint32_t count;
+        uint32_t lowest[JB_ROWS];
+        product *= rows;
+        look(jb_arrangements(rows) == product, "arrangements of rows", rows);
+        look(jb_count_orders(&table, scratch, JB_SCRATCH, &count, lowest) == JB_OK && count == product, "all orders of rows", rows);
+        look(lowest[rows - 1] == product / rows && scratch[((size_t)1 << rows) - 1] == product, "lowest row and last set of rows", rows);
+    }
+    look(jb_arrangements(UINT32_MAX) == 0, "no arrangements of rows", UINT32_MAX);
+}
+
 /* Asking for a sheet gives its table and the planner's order; of P3, which has none, it tells the rows left. */
 static void look_at_asking(void) {
     const char sheet[] = "       2       2       1       0\n"
@@ -1117,6 +1229,8 @@ int main(void) {
     look_at_ceilings();
     look_at_refused_ceilings();
     look_at_most_trials();
+    look_at_counts();
+    look_at_most_counted();
     look_at_asking();
     look_at_commits();
     look_at_refused_commits();

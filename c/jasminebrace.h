@@ -43,8 +43,8 @@
  * for it.
  *
  * New sheets. A run need not stop for the next sheet, which takes the place of the one
- * that runs: the clock goes on. Asking (jb_ask_sheet) makes a proposal of a sheet, which is its table
- * and an order of it; no record is handed in, so that a run may go on meanwhile.
+ * that runs: the clock goes on. Asking (jb_ask_sheet) makes a proposal of a sheet, which is
+ * its table and an order of it; no record is handed in, so that a run may go on meanwhile.
  * Committing (jb_commit_sheet) puts the proposal into a run record in which every row
  * is closed: all rows of the new table are then open and empty, and the clock is the one
  * that the record had. Releases and deadlines of the new sheet are in slots of that same
@@ -72,17 +72,25 @@
  * bytes (JB_LONGEST_SENTENCE). Two different answers never have the same line, which is proved,
  * and the reader takes nothing but such lines, byte for byte.
  *
+ * Choices. How much choice a table leaves can be counted (jb_count_orders), if it has at most
+ * 12 rows (JB_MOST_COUNTED): how many of the n * (n - 1) * ... * 1 arrangements of its n rows
+ * (jb_arrangements) are correct orders, with each row below the one that it follows; in how
+ * many of them each row stands lowest; and, in the scratch that the call is lent, the same
+ * count for every set of its rows taken alone. 1 correct order leaves no choice at all; 0 is
+ * what the planner answers 7 to. At most there are 479,001,600 orders, those of 12 rows.
+ *
  * Memory. Every pointer points to memory of the size that its parameter names,
  * aligned for its type. It is not null, but for one case: the functions of the
- * last part take null for a list, or for bytes to write to, where their length is
- * 0; the archive's own do not.
+ * last part take null for a list, or for bytes or numbers to write to, where their
+ * length is 0; the archive's own do not.
  * Memory that a call writes does not overlap other memory handed to the same
  * call. What is lent as const is never written. Results are written whole with
  * every answer, so that their memory need not be cleared before; what stands in
  * them after a refusal is said at each function. The exceptions are the memory
- * for a sheet, that for a report and that for a sentence, which may have any length:
- * jb_write writes just the sheet's bytes, jb_report just the report's, jb_plan_sentence and
- * jb_judge_sentence just the sentence's, and none with a refusal.
+ * for a sheet, that for a report, that for a sentence and the scratch for counting, which
+ * may have any length: jb_write writes just the sheet's bytes, jb_report just the report's,
+ * jb_plan_sentence and jb_judge_sentence just the sentence's, jb_count just the first 2 to
+ * the n numbers of the scratch with n rows, and none with a refusal.
  *
  * Threads and interrupts. A call touches what it is handed and its own stack,
  * and nothing else. Calls on different memory may run at the same time, and so
@@ -90,30 +98,31 @@
  * call at a time; nothing here locks it.
  *
  * Stack, in bytes, without what the caller lends. It is measured, over tables of
- * 1 and 64 rows, and not proved: the most that each call took, and some bytes
- * more (512 stands for less); docs/BENCHMARKS.md says how:
+ * 1 and 64 rows, for jb_count of 12 rows too, and not proved: the most that each
+ * call took, and some bytes more (512 stands for less); docs/BENCHMARKS.md says how:
  *     jb_read                  8,192
  *     jb_write                 5,120
  *     jb_field                   512
- *     jb_plan                 11,264
- *     jb_plan_within          11,008
- *     jb_ask                  12,800
- *     jb_least_degraded       14,592
- *     jb_least_normal         14,592
- *     jb_read_least_degraded  14,592
- *     jb_read_least_normal    14,592
+ *     jb_plan                 12,032
+ *     jb_plan_within          12,032
+ *     jb_ask                  13,568
+ *     jb_least_degraded       15,360
+ *     jb_least_normal         15,360
+ *     jb_read_least_degraded  15,616
+ *     jb_read_least_normal    15,616
  *     jb_judge                10,240
  *     jb_judge_rows           12,800
  *     jb_finishes              7,680
  *     jb_report                8,960
+ *     jb_count                 9,984
  *     jb_fresh                 9,216
  *     jb_coming               14,848
  *     jb_slot                 17,920
  *     jb_forward              16,896
  *     jb_commit               28,672
- *     jb_program              15,360
+ *     jb_program              16,128
  *     jb_plan_sentence         2,048
- *     jb_judge_sentence        1,024
+ *     jb_judge_sentence          512
  *     jb_read_sentence         3,072
  *     jb_version                 512
  * The functions of the last part add the few words of their own frame. But jb_need,
@@ -130,12 +139,13 @@
  * A handler that calls these functions saves and restores whatever the
  * convention lets a call change: all xmm registers too. Each call needs a stack
  * aligned to 16 bytes and a clear direction flag, as the convention asks: a
- * handler sees to both before it calls. The calls that plan (jb_plan,
+ * handler sees to both before it calls. The calls that plan or count (jb_plan,
  * jb_plan_within, jb_ask, jb_least_degraded, jb_least_normal,
- * jb_read_least_degraded, jb_read_least_normal and jb_program) use the red zone,
- * the 128 bytes below the stack pointer: a handler that interrupts one of them
- * needs a stack of its own; else plan before interrupts are let in. All other
- * calls, those of every slot among them, keep nothing below the stack pointer.
+ * jb_read_least_degraded, jb_read_least_normal, jb_program and jb_count) use the
+ * red zone, the 128 bytes below the stack pointer: a handler that interrupts one
+ * of them needs a stack of its own; else plan and count before interrupts are let
+ * in. All other calls, those of every slot among them, keep nothing below the
+ * stack pointer.
  * The convention allows it to your memcpy and memset and to your own code too:
  * if they use it, what was said holds of them; if they do not (gcc
  * -mno-red-zone), a handler may run on their stack.
@@ -167,7 +177,8 @@
  *    and 15 are new, and 6 is given for a row that stands above the one it follows too.
  *    Its first archives have no jb_ask and no jb_commit; a commit alone gives 16, 17
  *    and 18. The next ones have no jb_plan_within, which alone gives 19. Those after them have
- *    no jb_plan_sentence, no jb_judge_sentence and no jb_read_sentence.
+ *    no jb_plan_sentence, no jb_judge_sentence and no jb_read_sentence, and then come those
+ *    without jb_count, which alone gives 20.
  */
 #define JB_VERSION 5u
 
@@ -204,7 +215,9 @@ enum jb_limit {
     JB_PROGRAM_INPUT = 3170,   /* bytes of its input that the planning program looks at */
     JB_PROGRAM_TEXT = 1617,    /* most bytes that the planning program writes */
     JB_LONGEST_SENTENCE = 739, /* most bytes in the sentence of an answer */
-    JB_LAST_NUMBER = 19        /* largest number that a call returns */
+    JB_MOST_COUNTED = 12,      /* most rows of a table whose correct orders are counted */
+    JB_SCRATCH = 4096,         /* 32-bit numbers of scratch that counting asks for, 16,384 bytes: one for each set of 12 rows */
+    JB_LAST_NUMBER = 20        /* largest number that a call returns */
 };
 
 /* Levels of a row. */
@@ -226,9 +239,11 @@ enum jb_kind {
  * 6 comes after these, 10 last. A record whose table or order is refused by one of them
  * is unsound (9). A commit is checked for 9, then for these in its proposal, then for 16,
  * 17 and 18. Planning at a ceiling answers 19, or else 0 or 7, only if none of the checks on
- * its table refuses. Writing a sentence answers 0 or 10 and reading one 0 or 2, whatever number
- * stands in the answer that it tells: that one is a figure like its others. jb_field, jb_program, jb_program_text and jb_version return no such
- * number, and jb_judge_rows returns a word in which it is packed.
+ * its table refuses. Counting orders checks its table so too, then for 20, and for 10 last.
+ * Writing a sentence answers 0 or 10 and reading one 0 or 2, whatever number stands in the
+ * answer that it tells: that one is a figure like its others. jb_field, jb_program,
+ * jb_program_text and jb_version return no such number, and jb_judge_rows returns a word in
+ * which it is packed.
  */
 enum jb_number {
     JB_OK = 0,           /* success */
@@ -247,7 +262,8 @@ enum jb_number {
     JB_CLOCK_OVER = 8,   /* the clock is at its end, and no further slot is worked */
     JB_UNSOUND = 9,      /* the run record cannot come from a run; a LO row that is open at a
                             clock that has reached its deadline is one reason */
-    JB_NO_ROOM = 10,     /* the memory lent is shorter than what has to be written */
+    JB_NO_ROOM = 10,     /* the memory lent is shorter than what has to be written, or, for counting,
+                            than 4,096 numbers */
     JB_LOADING = 11,     /* K is beyond its limit */
     JB_PROMISED = 12,    /* a promised part is above its row's work, or stands on a HI row */
     JB_NOT_LOWER = 13,   /* a row follows what is not a row above it in the table */
@@ -256,8 +272,10 @@ enum jb_number {
     JB_NOT_CORRECT = 16,    /* the order to be committed is not correct */
     JB_ROW_OPEN = 17,       /* a row of the running sheet is open: neither done nor dropped */
     JB_RELEASED_BEFORE = 18, /* a row to be committed has its release below the clock */
-    JB_OVER_CEILING = 19     /* planning the table takes more trials than the ceiling; it says
+    JB_OVER_CEILING = 19,    /* planning the table takes more trials than the ceiling; it says
                                 neither that a correct order exists nor that none does */
+    JB_TOO_MANY_ROWS = 20    /* the table has more than 12 rows, and its orders are not counted; it
+                                says neither that a correct one exists nor that none does */
 };
 
 /* What a number means, in words. The text lasts as long as the program. */
@@ -276,7 +294,8 @@ static inline const char *jb_words(uint32_t number) {
     case JB_NO_ORDER: return "no correct order exists";
     case JB_CLOCK_OVER: return "the clock is 2,000,000 slots, and no further slot is worked";
     case JB_UNSOUND: return "the run record cannot come from a run";
-    case JB_NO_ROOM: return "the memory lent has fewer bytes than have to be written";
+    case JB_NO_ROOM:
+        return "the memory lent has fewer bytes than have to be written, or the scratch for counting fewer than 4,096 numbers";
     case JB_LOADING: return "K is above 16 slots";
     case JB_PROMISED: return "a promised part is above its row's work, or above 0 work units on a HI row";
     case JB_NOT_LOWER: return "a row follows what is not a row above it in the table";
@@ -286,6 +305,7 @@ static inline const char *jb_words(uint32_t number) {
     case JB_ROW_OPEN: return "a row of the running sheet is open";
     case JB_RELEASED_BEFORE: return "a row of the new sheet has its release below the clock";
     case JB_OVER_CEILING: return "planning the table takes more trials than the ceiling";
+    case JB_TOO_MANY_ROWS: return "the table has more than 12 rows, too many to count its correct orders";
     default: return "this number is never returned";
     }
 }
@@ -311,7 +331,8 @@ static inline const char *jb_remedy(uint32_t number) {
         return "the record's memory was damaged, or it was stored by an earlier interface: bring up a record of interface 3 "
                "or 4 as docs/FIRMWARE.md says, else begin a new run with a fresh record";
     case JB_NO_ROOM:
-        return "lend more memory: 3,169 bytes hold every sheet, 3,285 bytes every report, 739 bytes every sentence";
+        return "lend more memory: 3,169 bytes hold every sheet, 3,285 bytes every report, 739 bytes every sentence; counting "
+               "takes 4,096 numbers (16,384 bytes) of scratch, however few the rows";
     case JB_LOADING: return "correct K; where a job really takes longer to load, split it or make the slots longer";
     case JB_PROMISED:
         return "promise at most the row's work, and 0 work units on a HI row, all of whose work is promised at G";
@@ -328,6 +349,8 @@ static inline const char *jb_remedy(uint32_t number) {
     case JB_OVER_CEILING:
         return "plan again with a higher ceiling: n * (n + 1) / 2 trials are always enough for n rows, 2,080 trials for every "
                "table";
+    case JB_TOO_MANY_ROWS:
+        return "count at most 12 rows, such as a part of the sheet by itself; planning and judging take up to 64 rows";
     default: return "compare the header with the archive by jb_fits()";
     }
 }
@@ -417,6 +440,7 @@ JB_STATIC_ASSERT(JB_TOTALS_LINE == 2 * JB_FIGURE + 1, "the last line of a report
 JB_STATIC_ASSERT(JB_LONGEST_REPORT == JB_ROWS * JB_PLACE_LINE + JB_TOTALS_LINE, "the longest report has 64 rows");
 JB_STATIC_ASSERT(JB_PROGRAM_INPUT == JB_LONGEST_SHEET + 1, "the program looks at one byte above the longest sheet");
 JB_STATIC_ASSERT(JB_MOST_TRIALS == JB_ROWS * (JB_ROWS + 1) / 2, "at a place at most the rows left are tried");
+JB_STATIC_ASSERT(JB_SCRATCH == 1 << JB_MOST_COUNTED, "a number of scratch for each set of the most rows that are counted");
 JB_STATIC_ASSERT(JB_PROGRAM_TEXT == 17 + 25 * JB_ROWS, "a text is a first line of 17 bytes and 25 bytes for each place");
 
 #undef JB_STATIC_ASSERT
@@ -453,6 +477,7 @@ uint64_t jb_judge_rows(const jb_row *rows, size_t count, uint32_t normal, uint32
 
 uint32_t jb_finishes(const uint32_t table[388], const uint8_t order[64], uint32_t finishes[64]);
 uint32_t jb_report(const uint32_t table[388], const uint8_t order[64], uint8_t *report, size_t room, uint32_t *length);
+uint32_t jb_count(const uint32_t table[388], uint32_t *scratch, size_t numbers, uint32_t *count, uint32_t lowest[64]);
 uint32_t jb_fresh(const uint32_t table[388], const uint8_t order[64], uint32_t run_table[388], uint8_t run_order[64],
                   uint32_t run_state[193]);
 uint32_t jb_coming(const uint32_t table[388], const uint8_t order[64], const uint32_t state[193], uint32_t *row);
@@ -731,6 +756,45 @@ static inline uint32_t jb_report_order(const jb_table *table, const uint8_t orde
                                        uint32_t *length) {
     uint8_t none = 0;
     return jb_report(jb_table_words(table), order, room == 0 ? &none : report, room, length);
+}
+
+/*
+ * How many arrangements so many rows have, rows * (rows - 1) * ... * 1: the lists in which
+ * each of them stands once. 1 for 0 rows, 479,001,600 for 12 rows. 0 above 12 rows
+ * (JB_MOST_COUNTED), whose orders are not counted.
+ */
+static inline uint32_t jb_arrangements(uint32_t rows) {
+    uint32_t product = rows <= JB_MOST_COUNTED;
+    for (uint32_t row = 2; row <= rows && row <= JB_MOST_COUNTED; row++) {
+        product *= row;
+    }
+    return product;
+}
+
+/*
+ * Counts how much choice a table leaves: how many of the arrangements of its rows are correct
+ * orders, as the judge would say of each, with every row below the one that it follows. The
+ * order that jb_plan_table makes is one of them. Nothing is listed: the time taken grows with
+ * the sets of rows, which are 2 to the n for n rows, 4,096 for 12 rows, whatever the count.
+ * In:      table, any values; scratch, memory of so many 32-bit numbers, any length
+ *          (JB_SCRATCH of them, 16,384 bytes, are enough for every table, and are asked for
+ *          however few its rows are) and any values; null is allowed with 0.
+ * Out:     0; count is how many correct orders there are, 0 to jb_arrangements(table->n): 0
+ *          exactly if jb_plan_table answers 7. lowest[i - 1] is in how many of them row i
+ *          stands in the lowest place; together they are count, and after row n they are 0.
+ *          scratch[m] is the count of the rows in word m alone, with row 1 in the lowest bit
+ *          of m, for each m below 2 to the n: orders of these rows as a table of their own,
+ *          in which a row that follows one that is left out follows none. scratch[0], for no
+ *          row, is 1, and the entry of all rows is count. The numbers after these 2 to the n
+ *          are as they were.
+ * Refused: 3, 4, 11, 5 or 12 to 15 for the table, else 20 if it has more than 12 rows, else 10
+ *          if numbers is below 4,096; count and lowest are then all zero, and no number of
+ *          scratch is written.
+ */
+static inline uint32_t jb_count_orders(const jb_table *table, uint32_t *scratch, size_t numbers, uint32_t *count,
+                                       uint32_t lowest[JB_ROWS]) {
+    uint32_t none = 0;
+    return jb_count(jb_table_words(table), numbers == 0 ? &none : scratch, numbers, count, lowest);
 }
 
 /*

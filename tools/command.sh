@@ -90,6 +90,10 @@ refused_at() {
     case_is "$status" "$(printf '%8s%8s' "$number" 0)" "$place" finishes --plain "$file"
     case_is "$status" '' "$place" report "$file"
     case_is "$status" "$(printf '%8s%8s' "$number" 0)" "$place" report --plain "$file" 1
+    case_is "$status" '' "$place" count "$file"
+    also_err "$words"
+    case_is "$status" "$(printf '%10s%10s%10s%10s' "$number" 0 0 0)" "$place" count --plain "$file"
+    [ "$(wc -l <out)" -eq 1 ] || complain "count --plain $file: not one line"
     case_is "$status" '' "$place" speeds "$file"
     also_err "$words"
     case_is "$status" "$(printf '%8s%8s%8s' "$number" 0 0)" "$place" speeds --plain "$file"
@@ -232,6 +236,108 @@ for sheet in p1.sheet p2.sheet rows64.sheet loading.sheet promise.sheet lifting.
     needs=$(awk 'NR == 1 { n = $2; k = $4 } NR > 1 { sum += k + int(($2 + n - 1) / n) } END { print sum }' "$sheet")
     [ "$(tail -n 1 report)" = "$(printf '%10s%10s' "$needs" 0)" ] || complain "report $sheet: not $needs slots and no late row"
 done
+
+# ---- how much choice there is ----
+# count_is STATUS SHEET FIGURES..: what the command says of the correct orders is the text on standard input; of a sheet from standard input
+# too; and in figures, each in 10 columns: 0, the row count, the correct orders, the arrangements, then in how many each row stands lowest.
+count_is() {
+    local status=$1 sheet=$2 row=0 lowest
+    shift 2
+    cat >expected
+    case_is "$status" '*' '' count "$sheet"
+    cmp -s out expected || complain "count $sheet: not as it should be"
+    case_in=$sheet
+    case_is "$status" '*' '' count -
+    cmp -s out expected || complain "count -, from $sheet: not as it should be"
+    case_in=/dev/null
+    printf '%10s%10s%10s%10s\n' 0 "$1" "$2" "$3" >expected
+    shift 3
+    for lowest in "$@"; do row=$((row + 1)) && printf '%10s%10s\n' "$row" "$lowest" >>expected; done
+    case_is "$status" '*' '' count --plain "$sheet"
+    cmp -s out expected || complain "count --plain $sheet: not as it should be"
+}
+count_is 0 p1.sheet 4 1 24 0 0 0 1 <<'COUNT'
+1 of 24 arrangements of 4 rows is a correct order
+row 1 (HI): lowest in 0 correct orders
+row 2 (LO): lowest in 0 correct orders
+row 3 (HI): lowest in 0 correct orders
+row 4 (LO): lowest in 1 correct order
+COUNT
+count_is 0 p2.sheet 4 2 24 0 0 0 2 <<'COUNT'
+2 of 24 arrangements of 4 rows are correct orders
+row 1 (LO): lowest in 0 correct orders
+row 2 (HI): lowest in 0 correct orders
+row 3 (HI): lowest in 0 correct orders
+row 4 (LO): lowest in 2 correct orders
+COUNT
+# No correct order: status 1 as where plan answers 7, and plan is named for the rows left.
+count_is 1 p3.sheet 2 0 2 0 0 <<'COUNT'
+0 of 2 arrangements of 2 rows are correct orders
+no order is correct: 'jasminebrace plan SHEET' says which rows are left, and what to do
+COUNT
+# Rows that follow rows are named so. Without the waits there are more correct orders.
+count_is 0 lifting.sheet 4 1 24 0 0 1 0 <<'COUNT'
+1 of 24 arrangements of 4 rows is a correct order
+row 1 (HI): lowest in 0 correct orders
+row 2 (HI, follows row 1): lowest in 0 correct orders
+row 3 (LO, follows row 2): lowest in 1 correct order
+row 4 (HI): lowest in 0 correct orders
+COUNT
+# A row alone: in time, and late.
+"$command" sheet 1 1 0 0,1,1,LO >alone.sheet
+count_is 0 alone.sheet 1 1 1 1 <<'COUNT'
+1 of 1 arrangement of 1 row is a correct order
+row 1 (LO): lowest in 1 correct order
+COUNT
+"$command" sheet 1 1 0 0,2,1,HI >late.sheet
+count_is 1 late.sheet 1 0 1 0 <<'COUNT'
+0 of 1 arrangement of 1 row are correct orders
+no order is correct: 'jasminebrace plan SHEET' says which rows are left, and what to do
+COUNT
+# With loading, promised parts and waits too, what is counted is the arrangements to which judge says yes.
+judged_orders() { # SHEET ROW..: how many arrangements of these rows the judge says yes to
+    local sheet=$1
+    shift
+    python3 -c 'import itertools, sys; print(*(",".join(order) for order in itertools.permutations(sys.argv[1:])), sep="\n")' "$@" |
+        while read -r order; do "$command" judge "$sheet" "$order" 2>err | sed -n 's/^The judge says yes .*/yes/p' || true; done | wc -l
+}
+for sheet in loading.sheet promise.sheet lifting.sheet second.sheet p2.sheet; do
+    read -r rows _ <"$sheet"
+    # shellcheck disable=SC2046 # several words
+    counted=$(judged_orders "$sheet" $(seq 1 "$rows"))
+    case_is 0 '*' '' count --plain "$sheet"
+    [ "$(awk 'NR == 1 { print $3 }' out)" -eq "$counted" ] || complain "count $sheet: judge says yes to $counted orders"
+    [ "$(awk 'NR > 1 { sum += $2 } END { print sum }' out)" -eq "$counted" ] || complain "count $sheet: lowest rows are not $counted together"
+done
+# Twelve rows with time wherever they stand: all orders, 12 * 11 * ... * 1 of them, each row lowest in a twelfth of them.
+twelve=() && for ((row = 1; row <= 12; row++)); do twelve+=('0,1,12,LO'); done
+"$command" sheet 1 1 0 "${twelve[@]}" >twelve.sheet
+{
+    echo '479001600 of 479001600 arrangements of 12 rows are correct orders'
+    for ((row = 1; row <= 12; row++)); do echo "row $row (LO): lowest in 39916800 correct orders"; done
+} >expected.twelve
+# shellcheck disable=SC2046 # several words
+count_is 0 twelve.sheet 12 479001600 479001600 $(for ((row = 1; row <= 12; row++)); do echo 39916800; done) <expected.twelve
+# Thirteen rows are refused with 20, which says how many there are and how many are counted, and that the sheet is fine otherwise.
+"$command" sheet 1 1 0 "${twelve[@]}" 0,1,13,LO >thirteen.sheet
+case_is 2 '' 'number 20: the table has more than 12 rows, too many to count its correct orders' count thirteen.sheet
+also_err 'where: first line, row count n, byte 1 (line 1, byte 1 of it): the figure is 13'
+also_err 'allowed: 1 to 12 rows, to be counted; the sheet is accepted otherwise'
+also_err 'remedy: count at most 12 rows, such as a part of the sheet by itself; planning and judging take up to 64 rows'
+[ "$(wc -l <err)" -eq 4 ] || complain "count thirteen.sheet: not four lines"
+case_is 2 '        20         0         0         0' 'where: first line, row count n, byte 1 (line 1, byte 1 of it): the figure is 13' count --plain thirteen.sheet
+[ "$(wc -l <out)" -eq 1 ] || complain "count --plain thirteen.sheet: not one line"
+case_is 0 '*' '' plan thirteen.sheet
+case_is 2 '' 'where: first line, row count n, byte 1 (line 1, byte 1 of it): the figure is 64' count rows64.sheet
+# What is wrong with a sheet of thirteen rows is said before 20.
+sed '14s/       0$/      13/' thirteen.sheet >thirteen-itself.sheet
+case_is 2 '' 'number 13: a row follows what is not a row above it in the table' count thirteen-itself.sheet
+also_err 'where: row 13, followed row, byte 662 (line 14, byte 41 of it): the figure is 13, which is the row itself'
+sed 's/$/\r/' p1.sheet >returns.sheet
+case_is 2 '' 'where: first line, line end, byte 33 (line 1, byte 33 of it): a carriage return (byte 13) where the line end (byte 10) belongs' count returns.sheet
+# A sentence tells 20 as any other number.
+echo 'The planner answers number 20 (refused: the table has more rows than can be counted): 0 trials, 0 rows in the order, 0 rows left.' >twenty.sentence
+case_is 0 'number 20: the table has more than 12 rows, too many to count its correct orders' '' read-sentence twenty.sentence
 
 # ---- least speeds ----
 # speeds_are STATUS SHEET: what the command says of the least speeds is the text on standard input; of a sheet from standard input too.
@@ -1719,6 +1825,7 @@ hinted() { # BYTE of the sheet that is at fault
     refusal_is 2 2 "$hint" judge given.csv 1
     case_is 2 '       2       0' "$hint" finishes --plain given.csv
     case_is 2 '' "$hint" report given.csv
+    case_is 2 '' "$hint" count given.csv
     case_is 2 '' "$hint" speeds given.csv
     case_is 2 '' "$hint" run given.csv 5
 }
@@ -1885,7 +1992,7 @@ case_is 3 '' 'jasminebrace: --slacks belongs to speeds' plan --slacks p1.sheet
 case_is 3 '' 'jasminebrace: the name of the rows file is empty' sheet ''
 case_is 3 '' 'jasminebrace: . cannot be read: Is a directory' sheet .
 case_is 3 '' 'jasminebrace: nowhere.csv cannot be opened: No such file or directory' sheet nowhere.csv
-for name in plan explain finishes report speeds rows; do
+for name in plan explain finishes report count speeds rows; do
     case_is 3 '' 'jasminebrace: the name of the sheet is empty' "$name" ''
     case_is 3 '' 'jasminebrace: . cannot be read: Is a directory' "$name" .
     case_is 3 '' 'jasminebrace: nowhere.sheet cannot be opened: No such file or directory' "$name" nowhere.sheet
@@ -1898,6 +2005,13 @@ also_err 'usage: jasminebrace sheet {ROWS.csv | N G K RELEASE,WORK,DEADLINE,LEVE
 case_is 3 '' 'jasminebrace: finishes takes at least 1 argument; 0 given' finishes
 case_is 3 '' 'jasminebrace: report takes at least 1 argument; 0 given' report
 also_err 'usage: jasminebrace report SHEET [ROW..]'
+case_is 3 '' 'jasminebrace: count takes 1 argument; 0 given' count
+also_err 'usage: jasminebrace count SHEET'
+case_is 3 '' 'jasminebrace: count takes 1 argument; 5 given' count p1.sheet 1 2 3 4
+case_is 3 '' 'jasminebrace: --order belongs to run' count p1.sheet --order 1,2,3,4
+case_is 3 '' 'jasminebrace: --ceiling belongs to plan' count p1.sheet --ceiling 5
+case_is 3 '' 'jasminebrace: --stretches belongs to run and day' count p1.sheet --stretches
+case_is 3 '' 'jasminebrace: --slacks belongs to speeds' count p1.sheet --slacks
 case_is 3 '' 'jasminebrace: --stretches belongs to run and day' plan p1.sheet --stretches
 case_is 3 '' 'jasminebrace: --order belongs to run' judge p1.sheet --order 1,2,3,4 1
 case_is 3 '' 'jasminebrace: --order belongs to run' report p1.sheet --order 1,2,3,4
@@ -1944,7 +2058,7 @@ if [ "$(id -u)" -ne 0 ]; then
 fi
 for words in 'plan p1.sheet' 'plan --plain p1.sheet' 'judge p1.sheet 1 2 3 4' 'finishes p1.sheet' 'report p1.sheet' \
     'report --plain rows64.sheet' 'speeds p1.sheet' 'speeds --slacks --plain p1.sheet' 'run p1.sheet 5' 'run p1.sheet 2000000x5' 'day p1.sheet 11x5 then second.sheet 9x5' 'day p1.sheet 5 then second.sheet 5' 'explain p1.sheet' 'explain p3.sheet' \
-    'sheet 5 2 0 0,20,10,1' 'sheet p1.csv' 'rows p1.sheet' 'plan p3.sheet' 'judge p1.sheet 1 1' 'read-sentence p1.sentence' 'read-sentence --plain p1.sheet' '--help' '--version'; do
+    'sheet 5 2 0 0,20,10,1' 'sheet p1.csv' 'rows p1.sheet' 'plan p3.sheet' 'judge p1.sheet 1 1' 'read-sentence p1.sentence' 'read-sentence --plain p1.sheet' 'count p1.sheet' 'count --plain p3.sheet' '--help' '--version'; do
     cases=$((cases + 1))
     for full in /dev/full closed; do
         status=0
@@ -1960,7 +2074,7 @@ done
 # ---- help and version ----
 case_is 0 'usage: jasminebrace COMMAND [--plain] ARGUMENTS' '' --help
 case_is 0 "jasminebrace, interface $(sed -n 's/^#define JB_VERSION \([0-9]*\)u$/\1/p' "$root/c/jasminebrace.h")" '' --version
-for name in plan judge finishes report speeds run day explain sheet rows read-sentence; do
+for name in plan judge finishes report count speeds run day explain sheet rows read-sentence; do
     case_is 0 '*' '' "$name" --help
     grep -q "^usage: jasminebrace $name " out || complain "$name --help: no usage"
     grep -q -- '--plain' out || complain "$name --help: nothing on --plain"

@@ -1303,6 +1303,119 @@ static void ceilings(void) {
     puts("planning beside other work: ceilings of 64 trials and twice as many each time, and the answer is the planner's, as when a sheet is asked for");
 }
 
+/* ---- how much choice there is ---- */
+
+/* How many of the arrangements with these places are correct, as the judge says of each. */
+static uint32_t listed(const jb_table *table, uint8_t order[JB_ROWS], uint32_t places) {
+    uint32_t yes, row, found = 0;
+    int32_t slack;
+    if (places == table->n) {
+        return jb_judge_order(table, order, &yes, &row, &slack) == JB_OK && yes;
+    }
+    for (row = 1; row <= table->n; row++) {
+        if (memchr(order, (int)row, places) == NULL) {
+            order[places] = (uint8_t)row;
+            found += listed(table, order, places + 1);
+            order[places] = 0;
+        }
+    }
+    return found;
+}
+
+/* The rows of a word as a table of their own, in which a row that follows one that is left out follows none. */
+static jb_table rows_alone(const jb_table *table, uint32_t word) {
+    jb_table alone = empty_table(table->normal, table->degraded, table->loading);
+    uint32_t number[JB_ROWS + 1] = {0};
+    for (uint32_t index = 0; index < table->n; index++) {
+        if (word >> index & 1) {
+            add_row(&alone, table->release[index], table->work[index], table->deadline[index], table->level[index]);
+            number[index + 1] = alone.n;
+            alone.promised[alone.n - 1] = table->promised[index];
+            alone.follows[alone.n - 1] = number[table->follows[index]];
+        }
+    }
+    return alone;
+}
+
+/* What was lent for counting, and what it held before: numbers that no count is. */
+static uint32_t scratch[JB_SCRATCH + 1];
+static const uint32_t HELD = 0xF0000000;
+
+static uint32_t count_in(const jb_table *table, size_t numbers, uint32_t *made, uint32_t lowest[JB_ROWS]) {
+    for (size_t index = 0; index <= JB_SCRATCH; index++) {
+        scratch[index] = HELD + (uint32_t)index;
+    }
+    *made = 1;
+    memset(lowest, 1, JB_ROWS * sizeof *lowest);
+    return jb_count_orders(table, scratch, numbers, made, lowest);
+}
+
+static int is_held(size_t from) {
+    int held = 1;
+    for (size_t index = from; index <= JB_SCRATCH; index++) {
+        held = held && scratch[index] == HELD + (uint32_t)index;
+    }
+    return held;
+}
+
+/* Counting is refused with this number: counts of 0, and the scratch as it was. */
+static void not_counted(const jb_table *table, size_t numbers, uint32_t number) {
+    uint32_t made, lowest[JB_ROWS], sum = 0;
+    must(count_in(table, numbers, &made, lowest) == number, "%u rows with %zu numbers of scratch are not %u", table->n, numbers, number);
+    for (uint32_t index = 0; index < JB_ROWS; index++) {
+        sum |= lowest[index];
+    }
+    must(made == 0 && sum == 0 && is_held(0), "a refused count leaves figures");
+}
+
+/* Every set of a table's rows is counted as a table of its own, and no number of scratch after the sets is written. */
+static void counted(const jb_table *table, uint32_t answers[2]) {
+    uint32_t made, lowest[JB_ROWS], sum = 0;
+    uint8_t order[JB_ROWS] = {0};
+    uint64_t left;
+    must(count_in(table, JB_SCRATCH, &made, lowest) == JB_OK, "%u rows are not counted", table->n);
+    for (uint32_t index = 0; index < JB_ROWS; index++) {
+        must(index < table->n || lowest[index] == 0, "a row after the last stands lowest");
+        sum += lowest[index];
+    }
+    must(sum == made && made <= jb_arrangements(table->n), "the lowest rows are not the count together, or it is above all arrangements");
+    must(scratch[0] == 1 && is_held((size_t)1 << table->n), "no row is not counted as 1, or more numbers than the sets are written");
+    for (uint32_t word = 1; word >> table->n == 0; word++) {
+        const jb_table alone = rows_alone(table, word);
+        must(scratch[word] == listed(&alone, order, 0), "word %u is not the count of its rows alone", word);
+    }
+    must(scratch[(1u << table->n) - 1] == made, "the last word is not the count");
+    must((jb_plan_table(table, order, &left) == JB_NO_ORDER) == (made == 0), "a count of 0 is not a 7");
+    answers[made == 0]++;
+}
+
+/* Counts: those of the judge over all arrangements, 20 above 12 rows, 10 below 4,096 numbers. */
+static void choices(void) {
+    uint32_t answers[2] = {0, 0};
+    for (int trial = 0; trial < TABLES; trial++) {
+        jb_table table = any_table();
+        if (table.n <= 5) {
+            counted(&table, answers);
+        }
+        not_counted(&table, JB_SCRATCH - 1, table.n > JB_MOST_COUNTED ? JB_TOO_MANY_ROWS : JB_NO_ROOM);
+    }
+    must(answers[0] > 0 && answers[1] > 0, "not both a count of 0 and another one come up");
+    for (uint32_t rows = 4; rows <= JB_ROWS; rows += 4) {
+        jb_table table = hard_table(rows);
+        uint32_t made, lowest[JB_ROWS];
+        if (rows <= JB_MOST_COUNTED) {
+            must(count_in(&table, JB_SCRATCH, &made, lowest) == JB_OK && made > 0, "%u hard rows have no order", rows);
+            continue;
+        }
+        not_counted(&table, JB_SCRATCH, JB_TOO_MANY_ROWS);
+        not_counted(&table, 0, JB_TOO_MANY_ROWS);
+        table.loading = JB_MOST_LOADING + 1;
+        not_counted(&table, 0, JB_LOADING);
+    }
+    must(sizeof(uint32_t) * JB_SCRATCH == 16384 && jb_arrangements(JB_MOST_COUNTED) == 479001600, "scratch or orders of 12 rows are others");
+    puts("counts of orders: what the judge says of all arrangements, of each set of rows too; 0 exactly with 7; 20 above 12 rows, 10 below 4,096 numbers");
+}
+
 /* ---- new sheets ---- */
 
 /* A table that has a correct order, and what asking for its sheet answers: this table and that order. */
@@ -1665,6 +1778,7 @@ int main(void) {
     verdicts_as_sentences();
     least_speeds();
     ceilings();
+    choices();
     new_sheets();
     wrong_proposals();
     last_sheet();

@@ -112,7 +112,7 @@ objdump -h "$archive" | awk '$2 ~ /^\.(data|bss|tdata|tbss)/ && $3 !~ /^0+$/ { p
 objdump -f "$archive" | grep -q 'file format elf64-x86-64' || fail "the archive is not x86-64 code"
 
 # What the header says under "Bare boards": xmm registers and nothing beyond SSE2 but tzcnt, which is bsf to older processors; and nothing kept
-# below the stack pointer but by the calls that plan.
+# below the stack pointer but by the calls that plan or count.
 code() { objdump -d --no-show-raw-insn "$1" | sed -nE 's/^ *[0-9a-f]+:[[:space:]]+//p'; }
 code "$archive" >"$built/code"
 [ "$(wc -l <"$built/code")" -gt 1000 ] || fail "the archive's code is not found"
@@ -129,5 +129,5 @@ fi
 echo 'int leaf(int x); int leaf(int x) { volatile int a[4]; a[x & 3] = x; return a[0]; }' >"$built/leaf.c"
 gcc -std=c11 -O2 -mred-zone -fomit-frame-pointer -c -o "$built/leaf.o" "$built/leaf.c"
 python3 tools/red_zone.py "$archive" "$built/leaf.o" || fail "the archive keeps other values below the stack pointer than the header says"
-echo "the archive's code uses xmm registers, nothing beyond SSE2 but tzcnt, and keeps nothing below the stack pointer but where it plans"
+echo "the archive's code uses xmm registers, nothing beyond SSE2 but tzcnt, and keeps nothing below the stack pointer but where it plans or counts"
 echo "firmware page: every claim holds, $spoilt spoilt listings noticed"

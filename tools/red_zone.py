@@ -1,6 +1,6 @@
 #!/usr/bin/env python3
 """What the archive's code keeps below the stack pointer (the red zone): nothing, but in the function of the planner that the header's "Bare boards"
-speaks of, and no call but those that plan comes to it.
+speaks of, and no call but those that plan or count comes to it.
 
   red_zone.py [ARCHIVE [OBJECT]]   default: target/staticlib/libjasminebrace.a
 
@@ -15,9 +15,9 @@ sys.dont_write_bytecode = True  # of the module beside this file
 
 from machine_code import functions_of, reached, with_call, with_instruction
 
-KEEPS = "periods::first_in_time"
+KEEPS = "periods::renew"
 PLAN = {"jb_plan", "jb_plan_within", "jb_ask", "jb_least_degraded", "jb_least_normal", "jb_read_least_degraded", "jb_read_least_normal",
-        "jb_program"}
+        "jb_program", "jb_count"}
 BELOW = re.compile(r"-0x([0-9a-f]+)\(%rsp|^mov +%rsp,%rbp")
 
 

@@ -1,26 +1,29 @@
 #!/usr/bin/env python3
-"""A trial divides nothing, a planning works out each need once, before its trials, and stops at its ceiling: looks through the source, from the loops that try
-the rows of a place, from the loop that fills the places and from the whole planning down through every crate that they call.
+"""No trial and no counting of a word divides, a planning works out each need once, before its trials, and a counting once, before its words, and a
+planning stops at its ceiling: looks through the source, from the loops that try the rows of a place, from the loop that fills the places, from the loop
+that counts the words of a table, and from the whole planning and the whole counting down through every crate that they call.
 
-    trials.py              looks through crates/*/src, and lists the ways of calls from planning to needs
+    trials.py              looks through crates/*/src, and lists the ways of calls from planning and from counting to needs
     trials.py --self-test  checks that faults put into copies of the sources are found, and that what is no code is not taken for one
 
 Contracts, comments and texts are no code. A name leads to every function and constant that it may be: to all of that name in the crate and
-in what `use` brings, and that of a method to all in every crate. So more is looked through than is called, never less. It is a fault if
+in what `use` brings, and that of a method to all in every crate. One that is not called leads nowhere if it is a field before its value, or a
+variable that a `let` of the block around it has made. So more is looked through than is called, never less. It is a fault if
 
-  - what a trial or the filling of a place comes to divides, takes a remainder or names NEED;
-  - a name that is called, or a path, there or in what PLAN comes to, leads to nothing in these sources and is not among the operations
+  - what a trial, the filling of a place or the loop of WORDS comes to divides, takes a remainder or names NEED;
+  - a name that is called, or a path, there or in what PLAN or COUNT comes to, leads to nothing in these sources and is not among the operations
     built into the language, or leads to a function without a body;
-  - TRIAL, LOW, PART, PLACES, PLAN, SWEEP, MOMENT or NEED is not one function, or TRIAL, LOW or PLACES has no loop;
+  - one of NAMED is not one function, or TRIAL, LOW, PLACES, WORDS or STANDING has no loop;
   - the loop of TRIAL calls nothing; LOW is called outside of the loops of PLACES, TRIAL outside of those of PLACES and LOW, PART outside of
-    those of LOW, or SWEEP outside of TRIAL; or one of these is not called in each of the places named; or PART does not call MOMENT;
-  - PLAN does not come to PLACES;
+    those of LOW and outside of STANDS, SWEEP outside of TRIAL and ALL, ALL or STANDING outside of the loops of WORDS, or STANDS outside of those of
+    STANDING; or one of these is not called in each of the places named; or PART does not call MOMENT;
+  - PLAN does not come to PLACES, or COUNT not to WORDS;
   - in PLACES the entries that are searched are not cut once for each place to the trials that the ceiling has left, a search there is handed
     others; WITHIN hands PLACES, or EXPORTED WITHIN, another ceiling than its own, or PLAN hands WITHIN another one than the most trials of the
     table's rows; or not just one way of calls leads from each of the three to PLACES, so that more is planned than is answered;
-  - PLAN comes to NEED in a function that is not among ASKING, or in one of these for another column than it is for; or for one of these
+  - PLAN or COUNT comes to NEED in a function that is not among ASKING, or in one of these for another column than it is for; or for one of these
     columns by no way of calls or by more than one; or around the calls of such a way there is no loop, or another besides the one over the
-    rows; or what PLAN comes to calls itself: then ways have no end;
+    rows, as that over the words would be; or what PLAN or COUNT comes to calls itself: then ways have no end;
   - a function's end or a contract is not understood.
 
 That one loop takes each row once is not looked at here: contracts say what it leaves of each row.
@@ -47,6 +50,13 @@ LOW = "periods::first_low"
 PART = "periods::part_in_time"
 PLACES = "planner::choose"
 PLAN = "planner::plan"
+# The first is the whole counting of choices; the loop of the second counts the words of a table; there all rows of a word share the sweep of the third,
+# and the loop of the fourth asks each of them whether it may stand lowest, by the fifth.
+COUNT = "counter::count"
+WORDS = "counter::count_words"
+ALL = "counter::all_in_time"
+STANDING = "counter::standing"
+STANDS = "counter::stands"
 # Planning at a ceiling, and how its places are cut to the trials left: what is searched there is a part of this word.
 WITHIN = "planner::plan_within"
 EXPORTED = "jb_plan_within"
@@ -57,7 +67,8 @@ SET = re.compile(r"\b(?:let\s+(?:mut\s+)?)?(?:allowed|ceiling)\s*(?:[-+*/%&|^]|<
 SWEEP = "periods::renew"
 MOMENT = "sweep::part_finish"
 NEED = "checks::need"
-# Where a planning works out needs, and what is handed over there to have its need worked out: each row's work (at N), each row's promised part
+NAMED = (TRIAL, LOW, PART, PLACES, PLAN, COUNT, WORDS, ALL, STANDING, STANDS, WITHIN, EXPORTED, SWEEP, MOMENT, NEED)
+# Where a planning and a counting work out needs, and what is handed over there to have its need worked out: each row's work (at N), each row's promised part
 # (at G), and a HI row's work (at G).
 ASKING = (("sweep::needs", "&t.work"), ("sweep::needs", "&t.promised"), ("sweep::degraded_cap", "work[i]"))
 
@@ -70,6 +81,9 @@ DIVIDING_NAME = re.compile(r"(?<![a-z])(?:div|rem)(?![a-z])|multiple_of")
 PATH = re.compile(r"(?<![\w'])[A-Za-z_]\w*(?:\s*::\s*[A-Za-z_]\w*)*")
 OF_A_VALUE = re.compile(r"(?<!\.)\.\s*$")
 CALLED = re.compile(r"\s*!?\s*\(|\s*!\s*[\[{]")
+# A field before its value or a variable before its type, and a variable that a statement makes.
+TYPED = re.compile(r"\s*:(?!:)")
+LET = re.compile(r"[{};]\s*let\s+(?:mut\s+)?([a-z_]\w*)\s*[:=](?![:=])")
 # A call of something that has no name, or whose name goes on in a way that the language does not have.
 NAMELESS = re.compile(r"[)\]]\s*\(|::\s*<")
 LOOP = re.compile(r"\b(?:while|loop|for)\b")
@@ -82,6 +96,13 @@ MODULE = re.compile(r"\bmod\s+(\w+)")
 TYPE = re.compile(r"\b(?:struct|enum|type)\s+(\w+)")
 ENUM = re.compile(r"\benum\s+\w+\s*(?=\{)")
 CONSTANT = re.compile(r"\bconst\s+(\w+)\s*:[^=]*=")
+
+
+def before(code, at, mark):
+    """The place of the first such mark from here on that is in no group."""
+    while at < len(code) and code[at] != mark:
+        at = after_group(code, at) if code[at] in "([{" else at + 1
+    return at
 
 
 class Part:
@@ -112,6 +133,14 @@ class Part:
                 at = after_group(self.code, more.end())
             loops.append(Part(self.name, self.path, self.code, head.start(), at))
         return loops
+
+    def variables(self):
+        """The variables that statements make here, each with where it is made, where it is known from and where its block ends."""
+        made = []
+        for let in self.found(LET):
+            known = before(self.code, let.end(), ";")
+            made.append((let.group(1), let.start(1), known, before(self.code, known, "}")))
+        return made
 
 
 def imported(tree, before=()):
@@ -145,9 +174,7 @@ class Crate:
         for plain in known:
             self.add(plain, Part(f"{name}::{plain}", path, code, 0, 0))
         for constant in CONSTANT.finditer(code):
-            end = constant.end()
-            while end < len(code) and code[end] != ";":
-                end = after_group(code, end) if code[end] in "([{" else end + 1
+            end = before(code, constant.end(), ";")
             self.add(constant.group(1), Part(f"{name}::{constant.group(1)}", path, code, constant.end(), end))
 
 
@@ -177,12 +204,17 @@ def arguments(part, at):
     return [value.strip() for value in part.code[start + 1 : after_group(part.code, start) - 1].split(",")]
 
 
+def is_variable(name, at, variables):
+    """Whether a name at this place, if it is not called, is that of a variable: where it is made, or from the end of that statement to that of its block."""
+    return any(name == made and (at == start or known <= at < end) for made, start, known, end in variables)
+
+
 class Trials:
-    """The sources, the parts that trials come to, the ways from planning to the need, and the faults found so far."""
+    """The sources, the parts that trials and counted words come to, the ways from planning and counting to the need, and the faults found so far."""
 
     def __init__(self, root):
         self.crates, self.functions, self.known, self.faults = {}, [], {}, []
-        self.reached, self.needs = {}, []
+        self.reached, self.whole, self.needs = {}, {}, {}
         for path in sorted(root.glob("crates/*/src/**/*.rt")):
             name, code = path.relative_to(root).parts[1], blanked(path.read_text(encoding="utf-8"))
             self.crates.setdefault(name, Crate()).read(name, path.relative_to(root), code)
@@ -206,67 +238,83 @@ class Trials:
         return found[0] if len(found) == 1 else None
 
     def check(self):
-        named = {name: self.named(name) for name in (TRIAL, LOW, PART, PLACES, WITHIN, EXPORTED, PLAN, SWEEP, MOMENT, NEED)}
+        named = {name: self.named(name) for name in NAMED}
         if None not in named.values():
             self.check_starts(named)
-            self.check_trials([named[TRIAL], named[LOW], named[PART], *named[PLACES].loops()])
-            self.check_planning(named[PLAN], named[PLACES])
+            self.check_dividing("a trial", [named[TRIAL], named[LOW], named[PART], *named[PLACES].loops()])
+            self.check_dividing("counting a word", named[WORDS].loops())
+            self.check_whole("planning", named[PLAN], named[PLACES])
+            self.check_whole("counting", named[COUNT], named[WORDS])
             self.check_stopping(named)
-            self.check_needs(named[PLAN])
+            self.check_needs("planning", named[PLAN])
+            self.check_needs("counting", named[COUNT])
         return self.faults
 
     def check_starts(self, named):
-        """The trials are where this search starts, and nowhere else."""
+        """The trials and the counting of words are where this search starts, and nowhere else."""
         trial, low, part, places = named[TRIAL], named[LOW], named[PART], named[PLACES]
-        for looping in (trial, low, places):
+        words, standing = named[WORDS], named[STANDING]
+        for looping in (trial, low, places, words, standing):
             if not looping.loops():
                 self.fault(looping.where(looping.start), f"{looping.name} has no loop")
         if trial.loops() and not any(self.next(loop) for loop in trial.loops()):
             self.fault(trial.where(trial.start), f"the loop of {TRIAL} calls nothing")
-        self.check_callers(low, places.loops(), f"the loops of {PLACES}")
-        self.check_callers(trial, [*places.loops(), *low.loops()], f"the loops of {PLACES} and {LOW}")
-        for looping in (places, low):
-            if looping.loops() and not any(self.calls(loop, trial) for loop in looping.loops()):
-                self.fault(looping.where(looping.start), f"{TRIAL} is not called in the loops of {looping.name}")
-        self.check_callers(part, low.loops(), f"the loops of {LOW}")
-        self.check_callers(named[SWEEP], [trial], TRIAL)
+        self.check_callers(low, looping=[places])
+        self.check_callers(trial, looping=[places, low])
+        self.check_callers(part, looping=[low], anywhere=[named[STANDS]])
+        self.check_callers(named[SWEEP], anywhere=[trial, named[ALL]])
+        self.check_callers(named[ALL], looping=[words])
+        self.check_callers(standing, looping=[words])
+        self.check_callers(named[STANDS], looping=[standing])
         if not self.calls(part, named[MOMENT]):
             self.fault(part.where(part.start), f"{MOMENT} is not called in {PART}")
 
-    def check_callers(self, called, callers, said):
-        """A function is called in these parts, and nowhere else."""
-        inside = {(part.path, at) for part in callers for at in self.calls(part, called)}
-        if not inside:
-            self.fault("crates", f"{called.name} is not called in {said}")
+    def check_callers(self, called, looping=(), anywhere=()):
+        """A function is called in the loops of each of some functions, anywhere in each of others, and nowhere else."""
+        places = [(caller, caller.loops(), f"the loops of {caller.name}") for caller in looping]
+        places += [(caller, [caller], caller.name) for caller in anywhere]
+        inside = set()
+        for caller, parts, said in places:
+            calls = {(part.path, at) for part in parts for at in self.calls(part, called)}
+            if not calls:
+                self.fault(caller.where(caller.start), f"{called.name} is not called in {said}")
+            inside |= calls
         for part in self.functions:
             for at in self.calls(part, called):
                 if (part.path, at) not in inside:
-                    self.fault(part.where(at), f"{part.name} calls {called.name} outside of {said}")
+                    allowed = " and ".join(said for _, _, said in places)
+                    self.fault(part.where(at), f"{part.name} calls {called.name} outside of {allowed}")
 
-    def check_trials(self, starts):
-        self.reached = self.followed(starts)
-        for part, chain in self.reached.items():
+    def check_dividing(self, what, starts):
+        """What these come to divides nothing and asks for no need; what is looked through already is not looked through again."""
+        for part, chain in self.followed(starts).items():
+            if part in self.reached:
+                continue
+            self.reached[part] = chain
             for mark in part.found(DIVIDES):
-                self.fault(part.where(mark.start()), f"a trial divides ({mark.group()}): {chain}")
+                self.fault(part.where(mark.start()), f"{what} divides ({mark.group()}): {chain}")
             for at, name, targets in self.names(part):
                 if any(target.name == NEED for target in targets):
-                    self.fault(part.where(at), f"a trial works out a need ({name}): {chain}")
+                    self.fault(part.where(at), f"{what} works out a need ({name}): {chain}")
                 elif DIVIDING_NAME.search(name):
-                    self.fault(part.where(at), f"a trial divides ({name}): {chain}")
+                    self.fault(part.where(at), f"{what} divides ({name}): {chain}")
                 elif not targets:
-                    self.fault(part.where(at), f"a trial uses {name}, which cannot be followed: {chain}")
+                    self.fault(part.where(at), f"{what} uses {name}, which cannot be followed: {chain}")
 
-    def check_planning(self, plan, places):
-        """Planning comes to the trials, and all that it comes to can be followed."""
-        followed = self.followed([plan])
+    def check_whole(self, what, whole, inner):
+        """Planning comes to the places and counting to the words, and all that they come to can be followed."""
+        followed = self.followed([whole])
         for part, chain in followed.items():
+            if part in self.whole:
+                continue
+            self.whole[part] = chain
             if part in self.functions and part.code[part.start] != "{":
                 self.fault(part.where(part.start), f"{part.name} has no body: {chain}")
             for at, name, targets in self.names(part):
                 if not targets and part not in self.reached:
-                    self.fault(part.where(at), f"planning uses {name}, which cannot be followed: {chain}")
-        if places not in followed:
-            self.fault(plan.where(plan.start), f"{PLAN} does not come to {PLACES}")
+                    self.fault(part.where(at), f"{what} uses {name}, which cannot be followed: {chain}")
+        if inner not in followed:
+            self.fault(whole.where(whole.start), f"{whole.name} does not come to {inner.name}")
 
     def check_stopping(self, named):
         """No search of a place goes over more entries than the ceiling has trials left (rule 23.6)."""
@@ -289,21 +337,21 @@ class Trials:
             if len(ways) != 1:
                 self.fault(caller.where(caller.start), f"{len(ways)} ways, not one, lead from {caller.name} to {PLACES}: {'; '.join(ways)}")
 
-    def check_needs(self, plan):
-        """One way of calls leads to each place where planning works out needs, and one loop is on it."""
-        self.needs = list(self.ways(plan, (plan,), ()))
-        for way in self.needs:
+    def check_needs(self, what, whole):
+        """One way of calls leads to each place where planning, or counting, works out needs, and one loop is on it."""
+        needs = self.needs[whole.name] = list(self.ways(whole, (whole,), ()))
+        for way in needs:
             part, at = way[-1]
             if not asking(way):
                 known = ", ".join(said(each) for each in ASKING)
-                self.fault(part.where(at), f"{part.name} works out needs of a planning besides {known}: {shown(way)}")
+                self.fault(part.where(at), f"{part.name} works out needs of a {what} besides {known}: {shown(way)}")
             loops = sum(loop.start <= at < loop.end for part, at in way for loop in part.loops())
             if loops != 1:
                 self.fault(part.where(at), f"{loops} loops, not one, are around a need: {shown(way)}")
         for each in ASKING:
-            ways = [shown(way) for way in self.needs if each in asking(way)]
+            ways = [shown(way) for way in needs if each in asking(way)]
             if len(ways) != 1:
-                self.fault("crates", f"{len(ways)} ways, not one, lead from {PLAN} to {NEED} in {said(each)}: {'; '.join(ways) or 'none'}")
+                self.fault("crates", f"{len(ways)} ways, not one, lead from {whole.name} to {NEED} in {said(each)}: {'; '.join(ways) or 'none'}")
 
     def followed(self, starts):
         """Every part that these may come to, they among them, each with the names on the way there."""
@@ -324,7 +372,7 @@ class Trials:
                 if target.name == goal:
                     yield way
                 elif target in entered:
-                    self.fault(part.where(at), f"planning comes back to {target.name}: {shown(way)}")
+                    self.fault(part.where(at), f"{entered[0].name} comes back to {target.name}: {shown(way)}")
                 else:
                     yield from self.ways(target, (*entered, target), way, goal)
 
@@ -340,12 +388,15 @@ class Trials:
         """The names in a part that lead to others, and those that should and lead to none: place, name, and where it leads."""
         if part not in self.known:
             self.known[part] = [(mark.start(), mark.group(), []) for mark in part.found(NAMELESS)]
-            self.known[part] += filter(None, (self.name(part, found) for found in part.found(PATH)))
+            variables = part.variables()
+            self.known[part] += filter(None, (self.name(part, found, variables) for found in part.found(PATH)))
         return self.known[part]
 
-    def name(self, part, found):
+    def name(self, part, found, variables):
         path = tuple(re.findall(r"\w+", found.group()))
         called = CALLED.match(part.code, found.end()) is not None and path[0] not in KEYWORDS
+        if len(path) == 1 and not called and (TYPED.match(part.code, found.end()) or is_variable(path[0], found.start(), variables)):
+            return None
         if not OF_A_VALUE.search(part.code, part.start, found.start()):
             written, targets = "::".join(path), self.targets(part.crate, path)
         elif called:
@@ -373,8 +424,9 @@ class Trials:
 
 # ---- self-test
 
-# What a planning works out before its trials.
+# What a planning works out before its trials, and a counting before its words; and the sum for one word.
 PREPARE = "trials::prepare"
+TOTAL = "counter::total"
 
 
 def changed(name, change):
@@ -428,6 +480,7 @@ def edits():
     """Name of a fault, what puts it into a copy, and the pieces of what must be said of it."""
     crate, sweep = SWEEP.split("::")
     tries, trial = TRIAL.split("::")
+    counts, words = WORDS.split("::")
     (rows, _), _, (high, _) = ASKING
     works, parts, highs = map(said, ASKING)
     hidden = "fn hidden(work: u32) -> u32\n    ensures { λ r. ⌜ r ≡ r ⌝ }\n{\n    checks::need(0, work, 1)\n}"
@@ -476,17 +529,17 @@ def edits():
          f"a trial works out a need (checks::need): {LOW} > {rows}"),
         ("parts that no pass is made for", [becomes(PART, "{ true }")], f"{MOMENT} is not called in {PART}"),
         ("parts that are not asked for", [becomes(LOW, "{ while true { first_in_time(t); } }")], f"{PART} is not called in the loops of {LOW}"),
-        ("a part asked for elsewhere", [looped(PLACES, f"{PART}(t);")], f"{PLACES} calls {PART} outside of the loops of {LOW}"),
+        ("a part asked for elsewhere", [looped(PLACES, f"{PART}(t);")], f"{PLACES} calls {PART} outside of the loops of {LOW} and {STANDS}"),
         ("LO rows tried elsewhere", [first(PLAN, f"{LOW}(t);")], f"{PLAN} calls {LOW} outside of the loops of {PLACES}"),
         ("LO rows without a loop", [becomes(LOW, "{ }")], f"{LOW} has no loop"),
         ("LO rows that are not tried", [becomes(LOW, "{ while true { part_in_time(t); } }")], f"{TRIAL} is not called in the loops of {LOW}"),
         ("a trial without a loop", [becomes(TRIAL, "{ checks::and_then() }")], f"{TRIAL} has no loop"),
         ("a trial that calls nothing", [becomes(TRIAL, "{ while true { rules::Check::Passed; } }")], f"the loop of {TRIAL} calls nothing"),
         ("a trial that does not sweep", [becomes(TRIAL, "{ while true { checks::and_then(); } }")], f"{SWEEP} is not called in {TRIAL}"),
-        ("a sweep elsewhere", [looped(LOW, f"{sweep}(t);")], f"{LOW} calls {SWEEP} outside of {TRIAL}"),
-        ("a sweep from another crate", [first("judge::timed", f"{SWEEP}(t);")], f"judge::timed calls {SWEEP} outside of {TRIAL}"),
-        ("a trial elsewhere", [first(PLAN, f"{TRIAL}(t);")], f"{PLAN} calls {TRIAL} outside of the loops of {PLACES} and {LOW}"),
-        ("a trial before the places", [first(PLACES, f"{TRIAL}(t);")], f"{PLACES} calls {TRIAL} outside of the loops of {PLACES} and {LOW}"),
+        ("a sweep elsewhere", [looped(LOW, f"{sweep}(t);")], f"{LOW} calls {SWEEP} outside of {TRIAL} and {ALL}"),
+        ("a sweep from another crate", [first("judge::timed", f"{SWEEP}(t);")], f"judge::timed calls {SWEEP} outside of {TRIAL} and {ALL}"),
+        ("a trial elsewhere", [first(PLAN, f"{TRIAL}(t);")], f"{PLAN} calls {TRIAL} outside of the loops of {PLACES} and the loops of {LOW}"),
+        ("a trial before the places", [first(PLACES, f"{TRIAL}(t);")], f"{PLACES} calls {TRIAL} outside of the loops of {PLACES} and the loops of {LOW}"),
         ("places without trials", [becomes(PLACES, "{ while true {} }")], f"{TRIAL} is not called in the loops of {PLACES}"),
         ("places without a loop", [becomes(PLACES, "{ }")], f"{PLACES} has no loop"),
         ("a planning without places", [becomes(PLAN, "{ }")], f"{PLAN} does not come to {PLACES}"),
@@ -507,7 +560,7 @@ def edits():
         ("needs of works in a loop", [becomes(PREPARE, "{ while true { sweep::needs(1, 0, &t.work, 1); } sweep::degraded_caps(1) }")],
          f"2 loops, not one, are around a need: {PLAN} .. {rows}"),
         ("a need of one row", [becomes(rows, "{ checks::need(0, 1, 1) }")], f"0 loops, not one, are around a need: {PLAN} .. {rows}"),
-        ("a planning that calls itself", [first(PREPARE, f"{PLAN}(t);")], f"planning comes back to {PLAN}: {PLAN} .. {PREPARE}"),
+        ("a planning that calls itself", [first(PREPARE, f"{PLAN}(t);")], f"{PLAN} comes back to {PLAN}: {PLAN} .. {PREPARE}"),
         ("a sweep without a body", [becomes(SWEEP, ";")], f"{SWEEP} has no body: {PLAN}"),
         ("all LO entries searched", [instead(PLACES, "allowed & w.low", "tries & w.low")], f"searches by {LOW} more than the ceiling allows"),
         ("all HI entries searched", [instead(PLACES, "allowed & w.high", "tries & w.high")], f"searches by {TRIAL} more than the ceiling allows"),
@@ -520,6 +573,51 @@ def edits():
         ("another ceiling that is enough", [instead(PLAN, "most_trials(t.n)", "2080")], f"{PLAN} hands {WITHIN} another ceiling"),
         ("a ceiling raised before", [first(WITHIN, "let ceiling = ceiling | 4095;")], f"{WITHIN} hands {PLACES} another ceiling"),
         ("a preparation without a body", [becomes(PREPARE, ";")], f"{PREPARE} has no body: {PLAN}"),
+        ("the need for a variable", [first(SWEEP, "let need = need;"), added(crate, "use checks::*;")], f"a trial works out a need (need): .. > {SWEEP}"),
+        ("the need after a variable's block", [first(SWEEP, "{ let need = 7; } let a = need;"), added(crate, "use checks::*;")],
+         f"a trial works out a need (need): .. > {SWEEP}"),
+        ("the need beside a variable of its name", [first(SWEEP, "let need = 7; let a = need(0, 1, 1);"), added(crate, "use checks::*;")],
+         f"a trial works out a need (need): .. > {SWEEP}"),
+        ("a division in the loop of counting", [looped(WORDS, "let a = 7 / 2;")], f"counting a word divides (/): {WORDS}"),
+        ("a division in the head of that loop", [instead(WORDS, "word <= all", "word <= all / 1")], f"counting a word divides (/): {WORDS}"),
+        ("a division in a word's sum", [first(TOTAL, "let a = 7 / 2;")], f"counting a word divides (/): {WORDS} > {TOTAL}"),
+        ("a remainder in the question for standing", [first(STANDS, "let mut a = 7; a %= 2;")], f"counting a word divides (%=): .. > {STANDS}"),
+        ("a remainder beside the shared sweep", [first(ALL, "let a = 7 % 2;")], f"counting a word divides (%): {WORDS} > {ALL}"),
+        ("a call that divides in a word's sum", [looped(TOTAL, "let a = u32::div_euclid(7, 2);")], "counting a word divides (u32::div_euclid)"),
+        ("the need in the loop of counting", [looped(WORDS, "checks::need(0, 1, 1);")], f"counting a word works out a need (checks::need): {WORDS}"),
+        ("the need in a word's sum", [first(TOTAL, "checks::need(0, 1, 1);")], f"counting a word works out a need (checks::need): .. > {TOTAL}"),
+        ("an unknown call in a word's sum", [first(TOTAL, "unknown(1);")], "counting a word uses unknown, which cannot be followed"),
+        ("an unknown call in counting", [first(COUNT, "unknown(1);")], f"counting uses unknown, which cannot be followed: {COUNT}"),
+        ("a preparation in the loop of counting", [looped(WORDS, f"let w = {PREPARE}(t);")],
+         f"counting a word works out a need (checks::need): .. > {PREPARE}"),
+        ("the preparation moved into that loop", [instead(WORDS, f"let w = {PREPARE}(t);", ""), looped(WORDS, f"let w = {PREPARE}(t);")],
+         f"2 loops, not one, are around a need: {COUNT} .. > {WORDS} .. > {PREPARE}"),
+        ("a preparation for counting twice", [first(WORDS, f"let a = {PREPARE}(t);")], f"2 ways, not one, lead from {COUNT} to {NEED} in {works}"),
+        ("all words counted twice", [first(COUNT, f"let a = {words}(t, scratch);")], f"2 ways, not one, lead from {COUNT} to {NEED} in {parts}"),
+        ("a need before the words", [first(WORDS, "checks::need(0, 1, 1);")],
+         f"{WORDS} works out needs of a counting besides {works}, {parts}, {highs}: {COUNT}"),
+        ("words without needs", [instead(WORDS, f"{PREPARE}(t)", "t")], f"0 ways, not one, lead from {COUNT} to {NEED} in {highs}"),
+        ("a counting without words", [instead(COUNT, f"{words}(t, scratch)", "refused(why)")], f"{COUNT} does not come to {WORDS}"),
+        ("a counting that calls itself", [first(TOTAL, "count(t, scratch);")], f"{COUNT} comes back to {COUNT}: {COUNT} .. {TOTAL}"),
+        ("words without a loop", [becomes(WORDS, "{ }")], f"{WORDS} has no loop"),
+        ("words without a sweep", [becomes(WORDS, "{ while true { standing(t); } }")], f"{ALL} is not called in the loops of {WORDS}"),
+        ("a shared sweep that does not sweep", [becomes(ALL, "{ left }")], f"{SWEEP} is not called in {ALL}"),
+        ("a shared sweep before the words", [first(WORDS, "all_in_time(t);")], f"{WORDS} calls {ALL} outside of the loops of {WORDS}"),
+        ("a shared sweep for each row", [first(STANDS, "all_in_time(t);")], f"{STANDS} calls {ALL} outside of the loops of {WORDS}"),
+        ("a sweep for each row of a word", [first(STANDS, f"{SWEEP}(t);")], f"{STANDS} calls {SWEEP} outside of {TRIAL} and {ALL}"),
+        ("a sweep in the loop of counting", [looped(WORDS, f"{SWEEP}(t);")], f"{WORDS} calls {SWEEP} outside of {TRIAL} and {ALL}"),
+        ("words of which no row is asked", [becomes(WORDS, "{ while true { all_in_time(t); } }")], f"{STANDING} is not called in the loops of {WORDS}"),
+        ("rows of a word asked before it", [first(WORDS, "standing(t);")], f"{WORDS} calls {STANDING} outside of the loops of {WORDS}"),
+        ("rows of a word without a loop", [becomes(STANDING, "{ }")], f"{STANDING} has no loop"),
+        ("rows of a word that are not asked", [becomes(STANDING, "{ while true { sweep::with(1); } }")], f"{STANDS} is not called in the loops of {STANDING}"),
+        ("a row of a word asked elsewhere", [looped(TOTAL, "stands(t);")], f"{TOTAL} calls {STANDS} outside of the loops of {STANDING}"),
+        ("parts of a word that are not asked for", [becomes(STANDS, "{ true }")], f"{PART} is not called in {STANDS}"),
+        ("a part asked for in the loop of counting", [looped(WORDS, f"{PART}(t);")], f"{WORDS} calls {PART} outside of the loops of {LOW} and {STANDS}"),
+        ("a trial in the loop of counting", [looped(WORDS, f"{TRIAL}(t);")], f"{WORDS} calls {TRIAL} outside of"),
+        ("the words under another name", [changed(WORDS, lambda a, body, b: a.replace(f"fn {words}", "fn other") + body + b)],
+         f"there are 0 functions {WORDS}, not one"),
+        ("two countings of one name", [added(counts, f"mod more {{ fn {words}() {{}} }}")], f"there are 2 functions {WORDS}, not one"),
+        ("a word's sum without a body", [becomes(TOTAL, ";")], f"{TOTAL} has no body: {COUNT}"),
         ("a contract of another kind", [with_clause(SWEEP, "keeps { 0 }")], f"where {SWEEP} ends is not understood"),
         ("a comment in a contract", [with_clause(SWEEP, "ensures { 0 -- {\n }")], f"crates/{crate}/src/lib.rt .. '--' is not read here"),
     ]
@@ -536,6 +634,9 @@ def no_faults():
         ("built-in operations", [first(SWEEP, "let a = u64::trailing_zeros(left) >> u32::MIN; let b = queue.len();")]),
         ("brackets after words of the language", [first(SWEEP, "if (n > 0) & !(n > 64) { return (n); }")]),
         ("a value of an enum", [first(SWEEP, "let a = C::Refused(rules::Refusal::NoRoom);"), added(crate, "use rules::Check as C;")]),
+        ("fields and variables named as a function",
+         [first(SWEEP, "let need = 7; let mut a = S { need: need }; a.need = need;"), added(crate, "use checks::*;")]),
+        ("divisions outside of the loop of counting", [first(WORDS, "let a = 7 / 2;"), first(COUNT, "let a = 7 % 2;")]),
         ("divisions outside of trials", [first(PLAN, f"let a = {crate}::half(7) / 2;"), added(crate, "fn half(a: u32) -> u32 { a / 2 }")]),
     ]
 
@@ -565,7 +666,7 @@ def self_test(root):
 
 
 def main():
-    parser = argparse.ArgumentParser(description="Looks for divisions and needs in what a trial calls.")
+    parser = argparse.ArgumentParser(description="Looks for divisions and needs in what a trial and the counting of a word call.")
     parser.add_argument("--self-test", action="store_true", help="check that faults put into copies are found")
     arguments = parser.parse_args()
     root = Path(__file__).resolve().parent.parent
@@ -579,9 +680,10 @@ def main():
         names = sorted({part.name for part in trials.reached})
         print(f"trials: no division, no need and nothing unknown in {', '.join(names)}")
         print(f"trials: {PLACES} searches no more entries of a place than the ceiling has trials left")
-        print(f"trials: {len(trials.needs)} ways of calls lead from {PLAN} to a need, one for each figure whose need it is")
-        for way in trials.needs:
-            print(f"  {shown(way)}")
+        for whole, ways in trials.needs.items():
+            print(f"trials: {len(ways)} ways of calls lead from {whole} to a need, one for each figure whose need it is")
+            for way in ways:
+                print(f"  {shown(way)}")
     return 1 if faults else 0
 
 

@@ -5,8 +5,9 @@
 //! input is compared with what it was (rule 9.3).
 
 use crate::raw::{
-    self, Finishes, RowWords, StateWords, TableWords, STATE_WORDS, TABLE_WORDS, TEXT,
+    self, Finishes, Lowest, RowWords, StateWords, TableWords, STATE_WORDS, TABLE_WORDS, TEXT,
 };
+use model::choices::{Choices, MOST_COUNTED, SCRATCH};
 use model::judge::Verdict;
 use model::order::Order;
 use model::plan::{Counted, Plan};
@@ -232,6 +233,58 @@ pub fn report(table: &Table, order: &Order, lent: &mut [u8]) -> (u32, u32) {
     });
     inputs.assert_unwritten(table, order);
     answer
+}
+
+/// Counting: the number, the count, and in how many correct orders each row stands lowest. The
+/// lent numbers are then as the library has left them: all but the entries of the table's words
+/// as they were, and with a refusal every one (rules 25.5 and 25.6). It is asked twice, the second
+/// time with every bit of them and of the rubbish around them turned over.
+pub fn count_choices(table: &Table, scratch: &mut [u32]) -> Choices {
+    let words = raw::table_words(table);
+    let turned: Vec<u32> = scratch.iter().map(|&entry| !entry).collect();
+    let (answer, left) = count_over(RUBBISH, &words, scratch);
+    let (again, turned_left) = count_over(!RUBBISH, &words, &turned);
+    assert_eq!(answer, again, "it matters what stood there before");
+    assert_eq!(words, raw::table_words(table), "the table was written");
+    let written = entries_written(answer.number, table.n);
+    let (entries, after) = left.split_at(written);
+    let (turned_entries, turned_after) = turned_left.split_at(written);
+    assert!(entries == turned_entries, "it matters what stood there");
+    assert!(
+        *after == scratch[written..] && *turned_after == turned[written..],
+        "a number that is no word's entry was written"
+    );
+    scratch.copy_from_slice(&left);
+    answer
+}
+
+/// How many entries are written: one for each word of n rows, and none with a refusal.
+fn entries_written(number: u32, n: u32) -> usize {
+    if number != 0 {
+        return 0;
+    }
+    assert!(n <= MOST_COUNTED, "{n} rows are counted");
+    1 << n
+}
+
+fn count_over(rubbish: u32, table: &TableWords, scratch: &[u32]) -> (Choices, Vec<u32>) {
+    let guard = [rubbish; SCRATCH];
+    let mut memory = [&guard, scratch, &guard].concat();
+    let mut count = Between::new(rubbish, rubbish);
+    let mut lowest: Between<Lowest> = Between::new([rubbish; ROWS], rubbish);
+    let (lent, numbers) = (memory[SCRATCH..].as_mut_ptr(), scratch.len());
+    // SAFETY: as in `read`.
+    let number = unsafe { raw::jb_count(table, lent, numbers, &mut count.lent, &mut lowest.lent) };
+    let (below, rest) = memory.split_at(SCRATCH);
+    let (left, above) = rest.split_at(numbers);
+    assert!(*below == guard, "a number before the lent ones was written");
+    assert!(*above == guard, "a number behind the lent ones was written");
+    let answer = Choices {
+        number,
+        count: count.looked_around(),
+        lowest: lowest.looked_around(),
+    };
+    (answer, left.to_vec())
 }
 
 /// The fresh record.

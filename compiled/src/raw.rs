@@ -25,6 +25,9 @@ pub type StateWords = [u32; STATE_WORDS];
 pub type RowWords = [u32; FIGURES];
 pub type Finishes = [u32; ROWS];
 
+/// In how many correct orders each row stands lowest.
+pub type Lowest = [u32; ROWS];
+
 extern "C" {
     pub fn jb_read(sheet: *const u8, length: usize, table: *mut TableWords) -> u32;
     pub fn jb_write(table: *const TableWords, sheet: *mut u8, room: usize, length: *mut u32)
@@ -85,6 +88,13 @@ extern "C" {
         report: *mut u8,
         room: usize,
         length: *mut u32,
+    ) -> u32;
+    pub fn jb_count(
+        table: *const TableWords,
+        scratch: *mut u32,
+        numbers: usize,
+        count: *mut u32,
+        lowest: *mut Lowest,
     ) -> u32;
     pub fn jb_fresh(
         table: *const TableWords,

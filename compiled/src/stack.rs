@@ -6,7 +6,9 @@ use crate::raw::{self, StateWords, TableWords};
 use crate::sheets::{
     chain, easy, easy_loading, grouped, hard, largest, late_promises, longest_windows, promising,
 };
+use model::cases::choices::{rising, wherever};
 use model::cases::sentences::{longest, refused_sentences, P1_PLANNED, P1_ROW_TWICE};
+use model::choices::{MOST_COUNTED, SCRATCH};
 use model::order::{order_of, Order};
 use model::plain;
 use model::record::Record;
@@ -129,6 +131,8 @@ struct Inputs {
     next: (TableWords, Order),
     /// Sentences, the longest among them, and bytes that are none.
     lines: Vec<Vec<u8>>,
+    /// Tables whose orders are counted, beside this one.
+    counted: Vec<TableWords>,
 }
 
 impl Inputs {
@@ -166,6 +170,7 @@ impl Inputs {
             state: raw::state_words(reached),
             next: (raw::table_words(&released_later(table)), next),
             lines: lines_to_read(),
+            counted: counted_tables().iter().map(raw::table_words).collect(),
         }
     }
 }
@@ -176,6 +181,21 @@ fn lines_to_read() -> Vec<Vec<u8>> {
     let short = [P1_PLANNED, P1_ROW_TWICE].map(|line| line.as_bytes().to_vec());
     let refused = refused_sentences().into_iter().map(|case| case.bytes);
     long.into_iter().chain(short).chain(refused).collect()
+}
+
+/// Tables of twelve rows, the most that are counted: all orders, one order, and rows that load,
+/// promise parts or have waits.
+fn counted_tables() -> [Table; 7] {
+    let n = MOST_COUNTED;
+    [
+        wherever(n),
+        rising(n),
+        hard(n),
+        grouped(n, 0),
+        chain(n, 16),
+        late_promises(n, 0),
+        promising(&easy_loading(n, 16)),
+    ]
 }
 
 fn in_order(table: &Table) -> Order {
@@ -199,7 +219,8 @@ fn released_later(table: &Table) -> Table {
 /// Most bytes of stack that each export took, without what the caller lends:
 /// the most over easy, hard and large tables of 64 rows, some of which load, promise parts
 /// or have waits, one row, and tables and orders that are refused. Their records are fresh,
-/// after some slots, or over, where a correct order is committed.
+/// after some slots, or over, where a correct order is committed. Orders are counted of tables of
+/// twelve rows as well.
 pub fn peaks() -> Vec<(&'static str, usize)> {
     let mut refused = hard(64);
     refused.level[63] = 2;
@@ -247,7 +268,7 @@ type Call = fn(&Inputs);
 
 /// Every export with the memory that it is lent. What is written lies outside
 /// the measured stack, in `Results`.
-const CALLS: [(&str, Call); 24] = [
+const CALLS: [(&str, Call); 25] = [
     ("jb_read", |on| {
         with_results(|out| unsafe {
             raw::jb_read(on.sheet.as_ptr(), on.sheet.len(), &mut out.table);
@@ -326,6 +347,16 @@ const CALLS: [(&str, Call); 24] = [
         with_results(|out| unsafe {
             let (report, room) = (out.report.as_mut_ptr(), out.report.len());
             raw::jb_report(&on.table, &on.order, report, room, &mut out.words[0]);
+        })
+    }),
+    ("jb_count", |on| {
+        with_results(|out| unsafe {
+            for table in on.counted.iter().chain([&on.table]) {
+                for numbers in [SCRATCH, SCRATCH - 1] {
+                    let (scratch, count) = (out.scratch.as_mut_ptr(), &mut out.words[0]);
+                    raw::jb_count(table, scratch, numbers, count, &mut out.lowest);
+                }
+            }
         })
     }),
     ("jb_fresh", |on| {
@@ -453,6 +484,8 @@ struct Results {
     slack: i32,
     text: [u8; raw::TEXT],
     line: [u8; LONGEST_OF_PLANNER],
+    scratch: [u32; SCRATCH],
+    lowest: raw::Lowest,
 }
 
 /// Makes a call with memory for its results that is not on the stack.
@@ -470,6 +503,8 @@ fn with_results(call: impl FnOnce(&mut Results)) {
         slack: 0,
         text: [0; raw::TEXT],
         line: [0; LONGEST_OF_PLANNER],
+        scratch: [0; SCRATCH],
+        lowest: [0; 64],
     });
     let mut results = RESULTS.lock().expect("no call panics");
     call(&mut results);

@@ -8,12 +8,14 @@ mod common;
 
 use common::planning::{at_ceiling, by_both};
 use common::{
-    any_order, large_table, refused_sheet, small_table, spoil_table, supplies, Tally, TABLE_CHECKS,
+    any_order, large_table, refused_sheet, small_table, spoil_table, supplies, Tally, SMALL,
+    TABLE_CHECKS,
 };
-use compiled::sheets::{easy, hard};
+use compiled::sheets::{easy, hard, tight};
 use model::before::{Before, TIMES};
 use model::calls::{one_slot_on_paper, LAST_CLOCK};
 use model::cases::sentences::{longest, refused_sentences, sentences};
+use model::choices::{Choices, MOST_COUNTED, SCRATCH};
 use model::judge::Verdict;
 use model::order::{check_order, Order};
 use model::place::place_of_fault;
@@ -332,6 +334,7 @@ fn ceilings_that_cannot_be_used() {
         &["judge", "-", "1", "2"][..],
         &["finishes", "-"],
         &["report", "-"],
+        &["count", "-"],
         &["speeds", "-"],
         &["run", "-", "5"],
         &["day", "-", "5"],
@@ -344,6 +347,125 @@ fn ceilings_that_cannot_be_used() {
         let words = [words, &["--ceiling", "5"]].concat();
         refused(&words, "jasminebrace: --ceiling belongs to plan");
     }
+}
+
+/// What counting has to answer to a sheet that has this table and this number by the reader.
+fn counted_of(number: u32, table: &Table) -> Choices {
+    match number {
+        0 => plain::count_choices(table, &mut [0; SCRATCH]),
+        _ => Choices::refused(number),
+    }
+}
+
+/// All arrangements of so many rows.
+fn arrangements_of(rows: u32) -> u32 {
+    (1..=rows).product()
+}
+
+/// The plain form of it, each figure in ten columns: number, rows, correct orders and arrangements,
+/// then in how many of these orders each row stands lowest.
+fn count_lines(rows: u32, answer: &Choices) -> Vec<u8> {
+    let Choices {
+        number,
+        count,
+        lowest,
+    } = answer;
+    if *number != 0 {
+        return format!("{number:>10}{0:>10}{0:>10}{0:>10}\n", 0).into_bytes();
+    }
+    let all = arrangements_of(rows);
+    let mut text = format!("{number:>10}{rows:>10}{count:>10}{all:>10}\n");
+    for (row, lowest) in (1..=rows).zip(lowest) {
+        text += &format!("{row:>10}{lowest:>10}\n");
+    }
+    text.into_bytes()
+}
+
+/// The same in words, of a table whose orders are counted.
+fn count_words(table: &Table, answer: &Choices) -> String {
+    let number_of = |count: u32, of: &str| match count {
+        1 => format!("1 {of}"),
+        _ => format!("{count} {of}s"),
+    };
+    let (count, all) = (answer.count, arrangements_of(table.n));
+    let are = match count {
+        1 => "is a correct order",
+        _ => "are correct orders",
+    };
+    let (all, rows) = (number_of(all, "arrangement"), number_of(table.n, "row"));
+    let mut text = format!("{count} of {all} of {rows} {are}\n");
+    if count == 0 {
+        return text
+            + "no order is correct: 'jasminebrace plan SHEET' says which rows are left, and what \
+               to do\n";
+    }
+    for row in 1..=table.n as u8 {
+        let lowest = number_of(answer.lowest[row as usize - 1], "correct order");
+        text += &format!("{}: lowest in {lowest}\n", row_words(table, row));
+    }
+    text
+}
+
+/// What is said of 20: the row count where it stands in the sheet, and how many rows are counted.
+fn said_of_20(rows: u32) -> String {
+    format!(
+        "number 20: the table has more than 12 rows, too many to count its correct orders\n\
+         where: first line, row count n, byte 1 (line 1, byte 1 of it): the figure is {rows}\n\
+         allowed: 1 to 12 rows, to be counted; the sheet is accepted otherwise\n\
+         remedy: count at most 12 rows, such as a part of the sheet by itself; planning and \
+         judging take up to 64 rows\n"
+    )
+}
+
+/// Correct orders counted, in words and in figures. The status is 1 if there is none. A sheet that
+/// is refused is explained as by `finishes`.
+#[test]
+fn counts() {
+    let mut random = Random::seeded(714);
+    let mut tally = Tally::new("command count");
+    let mut none = 0;
+    let mut compare = |sheet: &[u8]| {
+        let (number, table) = read_sheet(sheet);
+        let answer = counted_of(number, &table);
+        let status = match answer {
+            Choices {
+                number: 0,
+                count: 0,
+                ..
+            } => 1,
+            Choices { number, .. } => status_of(number),
+        };
+        let figures = command(&["count", "--plain", "-"], sheet);
+        let expected = (count_lines(table.n, &answer), status);
+        assert_eq!(figures, expected, "{}", text_or_bytes(sheet));
+        let (output, errors, said) = command_with_errors(&["count", "-"], sheet);
+        let (words, explained) = match answer.number {
+            0 => (count_words(&table, &answer), String::new()),
+            20 => (String::new(), said_of_20(table.n)),
+            _ => (
+                String::new(),
+                command_with_errors(&["finishes", "-"], sheet).1,
+            ),
+        };
+        assert_eq!(text(&output), words, "{}", text_or_bytes(sheet));
+        assert_eq!((errors, said), (explained, status));
+        none += u32::from(status == 1);
+        tally.saw(answer.number);
+    };
+    for sheet in sample_sheets() {
+        compare(&sheet);
+    }
+    for _ in 0..150 {
+        for sheet in sheets(&mut random) {
+            compare(&sheet);
+        }
+        let n = random.between(1, MOST_COUNTED + 2);
+        compare(&sheet_of(&tight(&mut random, n, SMALL)));
+        compare(&sheet_of(&a_table(&mut random)));
+    }
+    tally.assert_common(&[0, 1, 2, 20], 30);
+    tally.assert_common(&TABLE_CHECKS, 8);
+    assert!(none > 30, "{none} sheets without a correct order");
 }
 
 /// What a refusal is in plain form, and the status.

@@ -136,7 +136,7 @@ fn random_answers() {
             Answer::Planner(answer) => (1, answer.number),
             Answer::Judge(answer) => (2, answer.number),
         };
-        tally.saw((kind, number < 20));
+        tally.saw((kind, number <= 20));
     }
     let kinds = [(1, true), (1, false), (2, true), (2, false)];
     tally.assert_common(&kinds, 10_000);

@@ -37,8 +37,8 @@ abbrev pub howMany : (List ℕ → Bool) → List (List ℕ) → ℕ
 howMany p [] = 0
 howMany p (o ∷ os) = cond (p o) (suc (howMany p os)) (howMany p os)
 
--- The order passes check 6, waits kept, and every row's slack under it is not below zero: such orders, and no others, are correct over all courses of speed
--- (rules 3.4, 25.2; `counted-correct` in crate `lowest`).
+-- The order passes check 6, waits kept, and every row's slack under it is not below zero: such orders of an accepted table, and no others, are correct over all
+-- courses of speed (rules 3.4, 25.2; `counted-correct` in crate `lowest`).
 unfoldable pub isCorrect : Table → List ℕ → Bool
 isCorrect t o = isOrder t o && all (meets t o) (rowsOf t)
 
@@ -51,8 +51,8 @@ unfoldable pub choices : Table → ℕ
 choices t = howMany (λ o. isCorrect t (padded o)) (arrangements t)
 
 -- in how many of them row i stands lowest (rule 25.5)
-unfoldable pub choicesBelow : Table → ℕ → ℕ
-choicesBelow t i = howMany (λ o. isCorrect t (padded o) && isLowest t i (padded o)) (arrangements t)
+unfoldable pub choicesLowest : Table → ℕ → ℕ
+choicesLowest t i = howMany (λ o. isCorrect t (padded o) && isLowest t i (padded o)) (arrangements t)
 
 -- the rows of a word, by number (rule 4.8)
 abbrev pub rowsIn : Table → ℕ → List ℕ
@@ -108,7 +108,7 @@ counted t scratch = map (choicesOf t) (wordsTo (2 ^ (t .n))) ++ drop (2 ^ (t .n)
 abbrev pub countChecked : Check → Table → List ℕ → Counting
 countChecked Checks.Passed t scratch =
     record {
-      said = record { check = Checks.Passed; count = choices t; lowest = padded (map (choicesBelow t) (rowsOf t)) };
+      said = record { check = Checks.Passed; count = choices t; lowest = padded (map (choicesLowest t) (rowsOf t)) };
       scratch = counted t scratch;
     }
 countChecked (Checks.Refused r) t scratch = record { said = record { check = Checks.Refused r; count = 0; lowest = replicate 64 0 }; scratch = scratch }

@@ -1,10 +1,10 @@
--- Choices (rule 13.19): one table of cases, computed from the definitions and checked by one theorem. Each of the faults 14.57 to 14.62 meets one here. The tables of
--- twelve rows stand in crate `lowest`, since their arrangements are too many to be listed.
+-- Choices (rule 13.19): one table of cases, computed from the definitions and checked by one theorem. Each of the faults 14.57 to 14.61 meets one here. The tables of
+-- twelve rows, one of which 14.62 meets, stand in crate `lowest`: their arrangements are too many to be listed.
 use Prim.Native.Nat.{ℕ}
 use mathlib.Core.Bool.{Bool, true, _&&_}
 use mathlib.Core.List.{List, [], _∷_, _++_}
 use lib.Dec.{T, eqb}
-use lib.ListN.{replicate, take, drop}
+use lib.ListN.{replicate, take}
 use Rattle.rules.specs.declared.Row.{Row}
 use Rattle.rules.specs.declared.Table.{Table}
 use Rattle.rules.specs.Cases.{sixFigures, job, promising, following}
@@ -18,7 +18,7 @@ use Rattle.rules.specs.Slots.{fresh, isPending, isWaiting, isReady, chosen, isO
 use Rattle.rules.specs.Tables.{rowOk, tailOk, promiseOk, checkWait, checkTable}
 use Rattle.rules.specs.Worst.{horizon, worstFinish, promisedMoment, slack, meets}
 use Rattle.sweep.specs.Masks.{bit}
-use Rattle.choices.specs.Choices.{Counting, arrangements, isCorrect, choices, choicesBelow, alone, choicesOf, countOf}
+use Rattle.choices.specs.Choices.{Counting, arrangements, isCorrect, choices, choicesLowest, alone, choicesOf, countOf}
 
 -- a table, the scratch lent, and what is answered: the number, the count, the counts of the rows as lowest, and the scratch afterwards
 pub record Case : Type 0 where
@@ -74,7 +74,7 @@ chain second third = plain (job 0 1 9 0 ∷ following 0 1 9 0 second ∷ followi
 abbrev urgent : ℕ → Table
 urgent w = plain (job 0 1 9 0 ∷ following 0 1 1 0 w ∷ []) 1 1
 
--- so many rows, each with 1 work unit and the deadline of this slot
+-- so many rows, each with 1 work unit and the deadline d, in slots
 abbrev wherever : ℕ → ℕ → Table
 wherever n d = plain (replicate n (job 0 1 d 0)) 1 1
 
@@ -143,5 +143,5 @@ cases =
     ∷ []
 
 pub choices-hold : T (allHold cases)
-unfolding padded workSlots refusalNumber checkNumber isArrangement isOrder fresh isPending isWaiting isReady chosen isOver brought serve slot rowOk tailOk promiseOk checkWait checkTable horizon worstFinish promisedMoment slack meets tableOf bit arrangements isCorrect choices choicesBelow alone choicesOf countOf
+unfolding padded workSlots refusalNumber checkNumber isArrangement isOrder fresh isPending isWaiting isReady chosen isOver brought serve slot rowOk tailOk promiseOk checkWait checkTable horizon worstFinish promisedMoment slack meets tableOf bit arrangements isCorrect choices choicesLowest alone choicesOf countOf
 choices-hold = tt

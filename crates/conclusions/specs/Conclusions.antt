@@ -15,7 +15,7 @@ use Rattle.rules.specs.declared.Table.{Table}
 use Rattle.rules.specs.Calls.{Call, one, forward, Said, tellAll, supplyFrom}
 use Rattle.rules.specs.Choice.{choice, padded, word, planOf}
 use Rattle.ceiling.specs.Ceiling.{trialCount, planWithin}
-use Rattle.choices.specs.Choices.{howMany, rowsIn, alone}
+use Rattle.choices.specs.Choices.{howMany, rowsIn, alone, countOf}
 use Rattle.rules.specs.Lists.{count, rowsTo, sum, same}
 use Rattle.rules.specs.Meaning.{Serves}
 use Rattle.rules.specs.Need.{need}
@@ -280,7 +280,7 @@ pub record AllOrders (t : Table) (orders : List (List ℕ)) : Type 0 where
   pub once : (o : List ℕ) → length o ≡ 64 → isOrder t o ≡ true → Serves t o → howMany (same o) orders ≡ 1
   pub only : (o : List ℕ) → 1 ≤ howMany (same o) orders → (length o ≡ 64) × (isOrder t o ≡ true) × Serves t o
 
--- The orders of a table are just so many.
+-- The orders of a table that pass check 6 and serve are just so many.
 pub record SoMany (t : Table) (count : ℕ) : Type 0 where
   pub orders : List (List ℕ)
   pub every : AllOrders t orders
@@ -307,9 +307,12 @@ pub record Maintainer (t : Table) (lent : List ℕ) (number count : ℕ) (lowest
   pub most : count ≤ 479001600
   -- entry m, for every word m that names rows of the table, tells of the table of these rows alone; entry 0 is 1, and the last of them is the count
   -- (rules 25.3, 25.5, 25.10)
-  pub words : number ≡ 0 → (m : ℕ) → 1 ≤ m → m < 2 ^ t .n → SoMany (alone t (rowsIn t m)) (getD scratch m 0)
+  pub words : number ≡ 0 → (m : ℕ) → 1 ≤ m → m < 2 ^ t .n → Accepted (alone t (rowsIn t m)) × SoMany (alone t (rowsIn t m)) (getD scratch m 0)
   pub nothing : number ≡ 0 → getD scratch 0 0 ≡ 1
   pub whole : number ≡ 0 → getD scratch (2 ^ t .n - 1) 0 ≡ count
+  -- counted by itself, with any other scratch, that table is answered the same (rule 25.3)
+  pub again : number ≡ 0 → (m : ℕ) → 1 ≤ m → m < 2 ^ t .n → (other : List ℕ) → 4096 ≤ length other
+      → (checkNumber (countOf (alone t (rowsIn t m)) other .said .check) ≡ 0) × (countOf (alone t (rowsIn t m)) other .said .count ≡ getD scratch m 0)
   -- every later entry is as it was (rule 25.5)
   pub rest : number ≡ 0 → drop (2 ^ t .n) scratch ≡ drop (2 ^ t .n) lent
   pub long : length scratch ≡ length lent

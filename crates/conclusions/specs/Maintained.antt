@@ -1,11 +1,9 @@
 -- What a maintainer may conclude from the counts, from the theorems on choices.
-use Prim.Native.Nat.{ℕ, _+_, _-_, _^_, _≤_, _<_}
-use mathlib.Core.Bool.{true}
-use mathlib.Core.List.{List, [], _∷_, _++_, map}
+use Prim.Native.Nat.{ℕ, _-_, _^_, _≤_, _<_}
+use mathlib.Core.List.{List, map}
 use mathlib.Core.Logic.{_⊎_, _↔_, inl, inr, ⊎-elim}
 use mathlib.Core.Path.{_≡_, refl, sym, ap, subst, _∙_}
 use native.Mathlib.Omega.{arith}
-use lib.Dec.{eqb}
 use lib.ListN.{length, getD, drop, replicate}
 use lib.Pow.{pow-mono, pow-pos}
 use lib.Seq.{drop-at}
@@ -13,8 +11,7 @@ use Rattle.rules.specs.declared.Table.{Table}
 use Rattle.rules.specs.declared.Check.{Check}
 use Rattle.rules.specs.declared.Check.the-variants.{Passed, Refused}
 use Rattle.rules.specs.Choice.{padded}
-use Rattle.rules.specs.Lists.{sum, rowsTo, same}
-use Rattle.rules.specs.Meaning.{Serves, correct-serves, serves-correct}
+use Rattle.rules.specs.Meaning.{correct-serves, serves-correct}
 use Rattle.rules.specs.Numbers.{refusalNumber, checkNumber}
 use Rattle.rules.specs.Rows.{at, rowsOf}
 use Rattle.rules.specs.Tables.{checkTable, Accepted}
@@ -23,12 +20,11 @@ use Rattle.theory.specs.Facts.{TableFacts, facts, rows-in}
 use Rattle.theory.specs.Tests.{by-leb}
 use Rattle.ceiling.specs.Bounds.{by-accepted}
 use Rattle.sweep.specs.Padded.{padded-at, padded-beyond, rows-length}
-use Rattle.choices.specs.Choices.{Counting, howMany, rowsIn, alone, choices, choicesBelow, choicesOf, wordsTo, counted, countChecked, countOf}
-use Rattle.lowest.specs.Alone.{alone-table}
-use Rattle.lowest.specs.Counted.{rows-chosen, choices-zero, choices-all, choices-small, choices-sum, none-seven, correctOrders, orders-long, orders-lowest, orders-once, orders-only}
+use Rattle.choices.specs.Choices.{Counting, rowsIn, alone, choices, choicesLowest, choicesOf, wordsTo, counted, countOf}
+use Rattle.lowest.specs.Counted.{word-few, word-accepted, choices-zero, choices-all, choices-small, choices-sum, none-seven, correctOrders, orders-long, orders-lowest, orders-once, orders-only}
 use Rattle.planner.specs.Promise.{refusal-number}
 use Rattle.counter.specs.Answers.{refused-table, refused-rows, refused-room, passed-count}
-use Rattle.counter.specs.Words.{filled-entry, filled-length, done-length, some-row}
+use Rattle.counter.specs.Words.{filled-entry, filled-length, done-length}
 use Rattle.conclusions.specs.Conclusions.{AllOrders, SoMany, Maintainer}
 use Rattle.conclusions.specs.Refusals.{table-says}
 
@@ -74,6 +70,7 @@ module _ (t : Table) (lent : List ℕ) where
           none = λ e. absurd (some e);
           most = omega arith;
           words = λ e. absurd (some e);
+          again = λ e. absurd (some e);
           nothing = λ e. absurd (some e);
           whole = λ e. absurd (some e);
           rest = λ e. absurd (some e);
@@ -117,14 +114,20 @@ module _ (t : Table) (lent : List ℕ) where
       entry : (m : ℕ) → m < 2 ^ t .n → getD (counted t lent) m 0 ≡ choicesOf t m
       entry m q = filled-entry t f lent (2 ^ t .n) m q
 
-      below-at : (i : ℕ) → 1 ≤ i → i ≤ t .n → at (padded (map (choicesBelow t) (rowsOf t))) i ≡ choicesBelow t i
-      below-at i p q = padded-at (choicesBelow t) (t .n) i p q (f .few)
+      below-at : (i : ℕ) → 1 ≤ i → i ≤ t .n → at (padded (map (choicesLowest t) (rowsOf t))) i ≡ choicesLowest t i
+      below-at i p q = padded-at (choicesLowest t) (t .n) i p q (f .few)
 
-      one-word : (m : ℕ) → 1 ≤ m → m < 2 ^ t .n → SoMany (alone t (rowsIn t m)) (getD (counted t lent) m 0)
+      one-word : (m : ℕ) → 1 ≤ m → m < 2 ^ t .n → Accepted (alone t (rowsIn t m)) × SoMany (alone t (rowsIn t m)) (getD (counted t lent) m 0)
       unfolding choicesOf
       one-word m p q =
-          subst (SoMany (alone t (rowsIn t m))) (sym (entry m q))
-          (so-many (alone t (rowsIn t m)) (alone-table t f (rowsIn t m) (rows-chosen t f m) (some-row t f m p q)))
+          let b = word-accepted t a m p q in
+          (b, subst (SoMany (alone t (rowsIn t m))) (sym (entry m q)) (so-many (alone t (rowsIn t m)) (facts (alone t (rowsIn t m)) b)))
+
+      one-again : (m : ℕ) → 1 ≤ m → m < 2 ^ t .n → (other : List ℕ) → 4096 ≤ length other
+          → (checkNumber (countOf (alone t (rowsIn t m)) other .said .check) ≡ 0) × (countOf (alone t (rowsIn t m)) other .said .count ≡ getD (counted t lent) m 0)
+      unfolding choicesOf checkNumber
+      one-again m p q other r =
+          rw (passed-count (alone t (rowsIn t m)) other (word-accepted t a m p q) (omega (arith, word-few t f m, h)) r) (refl, sym (entry m q))
 
       passed-told : Told (countOf t lent)
       unfolding checkNumber so-many
@@ -138,13 +141,14 @@ module _ (t : Table) (lent : List ℕ) where
             refused = λ n. absurd (n refl);
             exact = λ _. so-many t f;
             row = λ _ i p q. below-at i p q ∙ sym (orders-lowest t f i);
-            after = λ _ i p. let e = rows-length (choicesBelow t) (t .n) in
-                padded-beyond (map (choicesBelow t) (rowsOf t)) (i - 1) (omega (arith, e, f .few)) (omega (arith, e));
-            sums = λ _. sum-eq (at (padded (map (choicesBelow t) (rowsOf t)))) (choicesBelow t) (rowsOf t)
+            after = λ _ i p. let e = rows-length (choicesLowest t) (t .n) in
+                padded-beyond (map (choicesLowest t) (rowsOf t)) (i - 1) (omega (arith, e, f .few)) (omega (arith, e));
+            sums = λ _. sum-eq (at (padded (map (choicesLowest t) (rowsOf t)))) (choicesLowest t) (rowsOf t)
                 (λ i j. let r = rows-in t i j in below-at i (r .from) (r .upTo)) ∙ choices-sum t f;
             none = λ _ c p. none-seven t a c p;
             most = omega (arith, choices-all t f, choices-small t f (2 ^ t .n - 1) h);
             words = λ _. one-word;
+            again = λ _. one-again;
             nothing = λ _. entry 0 (omega (arith, pow-pos (t .n))) ∙ choices-zero t f;
             whole = λ _. entry (2 ^ t .n - 1) (omega (arith, pow-pos (t .n))) ∙ sym (choices-all t f);
             rest = λ _. drop-at (map (choicesOf t) (wordsTo (2 ^ t .n))) (drop (2 ^ t .n) lent) (2 ^ t .n) (done-length t f (2 ^ t .n));

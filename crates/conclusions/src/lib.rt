@@ -146,7 +146,7 @@ pub fn planner_within(
     jasminebrace::jb_plan_within(table, ceiling, order, left, trials)
 }
 
-// A maintainer asks how many orders of a sheet are correct, with scratch of 4,096 numbers.
+// A maintainer asks how many orders of a sheet are correct, with any scratch.
 pub fn maintainer(
     table: &[u32; 388],
     scratch: &mut [u32],

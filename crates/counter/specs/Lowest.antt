@@ -1,23 +1,23 @@
 -- What the sweeps over a table's columns say of the rows of a word: which of them may stand lowest (rule 25.7).
-use Prim.Native.Nat.{ℕ, zero, suc, _+_, _-_, _^_, _≤_, _<_, max, min}
+use Prim.Native.Nat.{ℕ, _+_, _-_, _^_, _≤_, _<_, max, min}
 use mathlib.Core.Bool.{Bool, true, false, cond, _&&_}
-use mathlib.Core.List.{List, [], _∷_, _++_}
-use mathlib.Core.Path.{_≡_, refl, sym, ap, ap₂, subst, _∙_}
+use mathlib.Core.List.{List, []}
+use mathlib.Core.Path.{_≡_, refl, sym, ap, subst, _∙_}
 use native.Mathlib.Omega.{arith}
 use lib.Bits.{bitAnd, bitOr}
 use lib.Dec.{eqb, ltb, leb}
-use lib.ListN.{length, getD, take}
+use lib.ListN.{getD, take}
 use borrow.Author.Tests.{eq-eqb, ne-eqb, eqb-true, eqb-false, le-ltb, lt-ltb}
 use Rattle.rules.specs.declared.Table.{Table}
 use Rattle.rules.specs.Choice.{padded, sequence, lowest, unfollowed, passes}
-use Rattle.rules.specs.Lists.{allZero, count, keep, erase}
+use Rattle.rules.specs.Lists.{allZero, erase}
 use Rattle.rules.specs.Rows.{at, put, rowsOf, releaseOf, deadlineOf, promisedOf, followsOf, promiseNeed, isLow, isPromised}
 use Rattle.rules.specs.Tables.{Accepted}
 use Rattle.rules.specs.Worst.{worstSpeed, worstFinish, promisedMoment}
 use Rattle.theory.specs.Caps.{cap}
 use Rattle.theory.specs.Cells.{at-put-same, at-put-other}
 use Rattle.theory.specs.Choosing.{none-follow, follow-none, keep-in, in-keep}
-use Rattle.theory.specs.Counts.{In, Once, Within, Same, erase-last}
+use Rattle.theory.specs.Counts.{In, Within, Same, erase-last}
 use Rattle.theory.specs.Facts.{Row, TableFacts, facts, rows-in, in-rows, followed-row}
 use Rattle.theory.specs.Finishes.{rows-of, once-of, worst-sweep}
 use Rattle.theory.specs.Promised.{part-of, moment-sweep, latest, meets-is}
@@ -34,9 +34,9 @@ use Rattle.sweep.specs.Trials.{trial}
 use Rattle.periods.specs.Busy.{row, LeftAt}
 use Rattle.periods.specs.Marks.{marks-bit, bit-and, bit-or}
 use Rattle.periods.specs.Trying.{inTime, partInTime}
-use Rattle.trials.specs.Lines.{At, place-of}
+use Rattle.trials.specs.Lines.{place-of}
 use Rattle.trials.specs.Opening.{openTo, open-clear, open-whole}
-use Rattle.trials.specs.Prepared.{capsAt, atLevel, every-length}
+use Rattle.trials.specs.Prepared.{capsAt, atLevel}
 use Rattle.trials.specs.Taking.{entryOf, entry-at, entry-place, cap-entry, queue-is, later-both, sequence-length}
 use Rattle.choices.specs.Choices.{rowsIn}
 use Rattle.lowest.specs.Standing.{mayStand, free-stand, both-ways}

@@ -18,15 +18,15 @@ abbrev pub refusedCount : Refusal → Choices
 refusedCount r = record { check = Refused r; count = 0; lowest = replicate 64 0 }
 
 -- the entry of the word without row i, if that is one of the rows; else 0
-abbrev pub below : List ℕ → ℕ → ℕ → ℕ → ℕ
-below scratch left rows i = cond (isLeft rows i) (getD scratch (left - 2 ^ (i - 1)) 0) 0
+abbrev pub withoutRow : List ℕ → ℕ → ℕ → ℕ → ℕ
+withoutRow scratch left rows i = cond (isLeft rows i) (getD scratch (left - 2 ^ (i - 1)) 0) 0
 
 -- one row more
 pub sum-next : (g : ℕ → ℕ) (k : ℕ) → sum g (rowsTo (k + 1)) ≡ sum g (rowsTo k) + g (k + 1)
 sum-next g k = ap (λ (j : ℕ). sum g (rowsTo j)) (add-one k) ∙ sum-append g (rowsTo k) (suc k ∷ []) ∙ omega (arith, ap g (add-one k))
 
 -- no more than all rows
-pub sum-upto : (g : ℕ → ℕ) (m k : ℕ) → sum g (rowsTo k) ≤ sum g (rowsTo (m + k))
+sum-upto : (g : ℕ → ℕ) (m k : ℕ) → sum g (rowsTo k) ≤ sum g (rowsTo (m + k))
 sum-upto g zero k = let e : 0 + k ≡ k = omega arith in rw e (omega arith)
 sum-upto g (suc m) k =
     let e : suc m + k ≡ suc (m + k) = omega arith in

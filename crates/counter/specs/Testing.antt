@@ -3,11 +3,11 @@ use Prim.Native.Nat.{ℕ, zero, suc, _+_, _-_, _^_, _≤_, _<_}
 use mathlib.Core.Bool.{Bool, true, false, cond, _&&_}
 use mathlib.Core.List.{List}
 use mathlib.Core.Logic.{⊎-elim}
-use mathlib.Core.Path.{_≡_, refl, sym, ap, _∙_}
+use mathlib.Core.Path.{_≡_, sym, ap, _∙_}
 use native.Mathlib.Nat.{pow-suc}
 use native.Mathlib.Numerals.{add-one}
 use native.Mathlib.Omega.{arith}
-use lib.ListN.{length, take}
+use lib.ListN.{take}
 use borrow.Author.Tests.{leb-true}
 use Rattle.rules.specs.Rows.{at}
 use Rattle.theory.specs.Tests.{by-bool, by-eqb, not-both}
@@ -21,7 +21,7 @@ use Rattle.periods.specs.Searching.{pass}
 use Rattle.periods.specs.Sweeping.{queue-length}
 use Rattle.periods.specs.Trying.{Speed, Grouped, Renewed, inTime, partInTime}
 
--- the bit of each row's entry in the word tells whether the row is in time
+-- the bit of the entry of each row left tells whether the row is in time; other bits tell nothing
 abbrev pub AllIn : List ℕ → ℕ → List ℕ → List ℕ → List ℕ → List ℕ → ℕ → ℕ → Type 0
 AllIn queue n release deadline cap entry left word =
     (k : ℕ) → LeftAt (isLeft left) (take n queue) k

@@ -1,5 +1,5 @@
 -- A turn of the counting over what a planning has prepared.
-use Prim.Native.Nat.{ℕ, _+_, _-_, _^_, _≤_, _<_}
+use Prim.Native.Nat.{ℕ, _+_, _-_, _^_, _≤_}
 use mathlib.Core.Bool.{Bool, cond}
 use mathlib.Core.List.{List}
 use mathlib.Core.Path.{_≡_, _∙_, ap}
@@ -10,7 +10,7 @@ use lib.Pow.{pow-mono, pow-pos}
 use Rattle.rules.specs.declared.Table.{Table}
 use Rattle.rules.specs.Lists.{allZero}
 use Rattle.rules.specs.Tables.{Accepted}
-use Rattle.theory.specs.Facts.{TableFacts, facts}
+use Rattle.theory.specs.Facts.{facts}
 use Rattle.rules.specs.declared.Check.the-variants.{Passed}
 use Rattle.choices.specs.declared.Choices.{Choices}
 use Rattle.trials.specs.declared.Trials.{Trials}

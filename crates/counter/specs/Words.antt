@@ -1,29 +1,27 @@
 -- The words in rising sequence: each has the choices of its rows alone, told by the words without one row (rules 25.5, 25.7).
 use Prim.Native.Nat.{ℕ, zero, suc, _+_, _-_, _^_, _≤_, _<_}
-use mathlib.Core.Bool.{Bool, true, false, cond, _&&_}
+use mathlib.Core.Bool.{Bool, true, cond, _&&_}
 use mathlib.Core.List.{List, [], _∷_, _++_, map, append-assoc}
-use mathlib.Core.Path.{_≡_, refl, sym, ap, _∙_, subst}
+use mathlib.Core.Path.{_≡_, refl, sym, ap, _∙_}
 use native.Mathlib.Numerals.{add-one}
 use native.Mathlib.Omega.{arith}
 use lib.Dec.{eqb}
 use lib.ListN.{length, getD, set, drop, length-append, length-map, length-drop, List·getD-append}
-use lib.Pow.{pow-pos, pow-mono}
+use lib.Pow.{pow-pos}
 use lib.Seq.{drop-cons, set-append-seam, getD-append-seam}
 use Rattle.rules.specs.declared.Table.{Table}
 use Rattle.rules.specs.Choice.{padded}
 use Rattle.rules.specs.Lists.{sum, keep, rowsTo}
 use Rattle.rules.specs.Rows.{rowsOf}
-use Rattle.theory.specs.Choosing.{in-keep}
-use Rattle.theory.specs.Counts.{In, sum-eq}
-use Rattle.theory.specs.Facts.{Row, TableFacts, rows-in, in-rows}
+use Rattle.theory.specs.Counts.{sum-eq}
+use Rattle.theory.specs.Facts.{Row, TableFacts, rows-in}
 use Rattle.theory.specs.Tests.{by-bool, by-eqb, by-ltb, and-left}
-use Rattle.sweep.specs.Lowest.{lowestOf, lowest-set, lowest-from, lowest-within}
 use Rattle.sweep.specs.Masks.{bit, isLeft, bit-le, left-bit, bit-left, full-bit}
 use Rattle.sweep.specs.Padded.{map-append, map-same}
-use Rattle.choices.specs.Choices.{rowsIn, choices, choicesBelow, choicesOf, wordsTo, counted}
-use Rattle.lowest.specs.Counted.{choices-zero, choices-step, choices-all, all-in-word, choices-small, choices-below}
+use Rattle.choices.specs.Choices.{rowsIn, choices, choicesLowest, choicesOf, wordsTo, counted}
+use Rattle.lowest.specs.Counted.{some-row, choices-zero, choices-step, choices-all, all-in-word, choices-small, lowest-choices}
 use Rattle.lowest.specs.Standing.{mayStand}
-use Rattle.counter.specs.Summing.{below}
+use Rattle.counter.specs.Summing.{withoutRow}
 use Rattle.counter.specs.Testing.{standingTo, standing-bit, standing-above}
 
 words-length : (k : ℕ) → length (wordsTo k) ≡ k
@@ -34,11 +32,6 @@ words-length (suc k) = omega (arith, length-append (wordsTo k) (k ∷ []), words
 sum-keep : (p : ℕ → Bool) (g : ℕ → ℕ) (l : List ℕ) → sum (λ i. cond (p i) (g i) 0) l ≡ sum g (keep p l)
 sum-keep p g [] = refl
 sum-keep p g (x ∷ l) = by-bool (p x) (λ e. rw e (omega (arith, sum-keep p g l))) (λ e. rw e (omega (arith, sum-keep p g l)))
-
--- a row that stands in a list, so that it is not empty
-in-some : (x : ℕ) (l : List ℕ) → In x l → 1 ≤ length l
-in-some x [] i = absurd (omega arith)
-in-some x (y ∷ l) i = omega arith
 
 -- two tests that agree on the first k rows make one word
 pub standing-agree : (p q : ℕ → Bool) (k : ℕ) → ((i : ℕ) → 1 ≤ i → i ≤ k → p i ≡ q i) → standingTo p k ≡ standingTo q k
@@ -119,16 +112,9 @@ module _ (t : Table) (f : TableFacts t) where
       (λ b. absurd (omega (arith, left-bit (standingRows t m) i e, standing-bit p (t .n) (i - 1) h, ap {B = ℕ} (λ (c : Bool). cond c 1 0) b))))
       (λ _ h. absurd (omega (arith, left-bit (standingRows t m) i e, standing-above p (t .n) (i - 1) h)))
 
-  -- a word that has a row
-  pub some-row : (m : ℕ) → 1 ≤ m → m < 2 ^ t .n → 1 ≤ length (rowsIn t m)
-  some-row m h l =
-      let small : m < 2 ^ 64 = omega (arith, l, pow-mono {i = t .n} {j = 64} (f .few)) in
-      let r : Row t (lowestOf m) = record { from = lowest-from m h small; upTo = lowest-within m h small (t .n) l } in
-      in-some (lowestOf m) (rowsIn t m) (in-keep (isLeft m) (rowsOf t) (lowestOf m) (in-rows t (lowestOf m) r) (bit-left m (lowestOf m) (lowest-set m h small)))
-
   -- the term of a row: its word stands before m
   term-is : (old : List ℕ) (m done i : ℕ) → Row t i → m ≤ done
-      → below (filled t old done) m (standingRows t m) i ≡ cond (isLeft m i) (cond (mayStand t (rowsIn t m) i) (choicesOf t (m - 2 ^ (i - 1))) 0) 0
+      → withoutRow (filled t old done) m (standingRows t m) i ≡ cond (isLeft m i) (cond (mayStand t (rowsIn t m) i) (choicesOf t (m - 2 ^ (i - 1))) 0) 0
   term-is old m done i r h =
       rw (standing-row m i r)
       (by-bool (isLeft m i)
@@ -137,14 +123,14 @@ module _ (t : Table) (f : TableFacts t) where
       (λ e. rw e))
 
   -- the sum over the rows of a word is its choices
-  pub total-is : (old : List ℕ) (m : ℕ) → 1 ≤ m → m < 2 ^ t .n → sum (below (filled t old m) m (standingRows t m)) (rowsTo (t .n)) ≡ choicesOf t m
+  pub total-is : (old : List ℕ) (m : ℕ) → 1 ≤ m → m < 2 ^ t .n → sum (withoutRow (filled t old m) m (standingRows t m)) (rowsTo (t .n)) ≡ choicesOf t m
   total-is old m h l =
-      sum-eq (below (filled t old m) m (standingRows t m)) (λ i. cond (isLeft m i) (cond (mayStand t (rowsIn t m) i) (choicesOf t (m - 2 ^ (i - 1))) 0) 0) (rowsOf t)
+      sum-eq (withoutRow (filled t old m) m (standingRows t m)) (λ i. cond (isLeft m i) (cond (mayStand t (rowsIn t m) i) (choicesOf t (m - 2 ^ (i - 1))) 0) 0) (rowsOf t)
       (λ i j. term-is old m m i (rows-in t i j) (omega arith))
       ∙ sum-keep (isLeft m) (λ i. cond (mayStand t (rowsIn t m) i) (choicesOf t (m - 2 ^ (i - 1))) 0) (rowsOf t)
-      ∙ sym (choices-step t f m (some-row m h l))
+      ∙ sym (choices-step t f m (some-row t f m h l))
 
-  pub total-fits : (old : List ℕ) (m : ℕ) → t .n ≤ 12 → 1 ≤ m → m < 2 ^ t .n → sum (below (filled t old m) m (standingRows t m)) (rowsTo (t .n)) < 2 ^ 32
+  pub total-fits : (old : List ℕ) (m : ℕ) → t .n ≤ 12 → 1 ≤ m → m < 2 ^ t .n → sum (withoutRow (filled t old m) m (standingRows t m)) (rowsTo (t .n)) < 2 ^ 32
   total-fits old m few h l = omega (arith, total-is old m h l, choices-small t f m few)
 
   -- the word of all rows
@@ -152,13 +138,13 @@ module _ (t : Table) (f : TableFacts t) where
     pub count-is : (old : List ℕ) (m : ℕ) → m ≡ all + 1 → getD (filled t old m) all 0 ≡ choices t
     count-is old m q = filled-entry old m all (omega arith) ∙ ap (choicesOf t) e ∙ sym (choices-all t f)
 
-    pub lowest-is : (old : List ℕ) (m : ℕ) → m ≡ all + 1 → padded (map (below (filled t old m) all (standingRows t all)) (rowsTo (t .n))) ≡ padded (map (choicesBelow t) (rowsOf t))
+    pub lowest-is : (old : List ℕ) (m : ℕ) → m ≡ all + 1 → padded (map (withoutRow (filled t old m) all (standingRows t all)) (rowsTo (t .n))) ≡ padded (map (choicesLowest t) (rowsOf t))
     lowest-is old m q =
-        ap padded (map-same (below (filled t old m) all (standingRows t all)) (choicesBelow t) (rowsOf t)
+        ap padded (map-same (withoutRow (filled t old m) all (standingRows t all)) (choicesLowest t) (rowsOf t)
         (λ i j. let r = rows-in t i j in
         let left : isLeft all i ≡ true = bit-left all i (ap (λ (b : ℕ). bit b (i - 1)) e ∙ full-bit (t .n) (i - 1) (omega (arith, r .from, r .upTo))) in
         let rows : rowsIn t all ≡ rowsOf t = ap (rowsIn t) e ∙ all-in-word t f in
         term-is old all m i r (omega arith)
         ∙ rw left (ap (λ (l : List ℕ). cond (mayStand t l i) (choicesOf t (all - 2 ^ (i - 1))) 0) rows
         ∙ ap (λ (b : ℕ). cond (mayStand t (rowsOf t) i) (choicesOf t (b - 2 ^ (i - 1))) 0) e
-        ∙ sym (choices-below t f i r))))
+        ∙ sym (lowest-choices t f i r))))

@@ -16,7 +16,7 @@ ghost use Rattle.periods.specs.Trying.{Speed, Small};
 ghost use Rattle.choices.specs.Choices.{countOf, countChecked, counted};
 ghost use Rattle.choices.specs.declared.Choices.{Choices};
 ghost use Rattle.rules.specs.declared.Check.the-variants.{Passed, Refused};
-ghost use Rattle.counter.specs.Summing.{below, refusedCount};
+ghost use Rattle.counter.specs.Summing.{withoutRow, refusedCount};
 ghost use Rattle.counter.specs.Testing.{AllIn, standsIn, standingTo};
 use choices::Choices;
 use rules::Check;
@@ -36,7 +36,7 @@ fn refused(why: Refusal) -> Choices
 }
 
 // The entries of all rows of a word that, each below all the others, finish by their deadlines where every supply is at least the speed of these caps: one
-// sweep for all of them (rule 25.7). Releases, deadlines and caps in slots.
+// sweep at this speed for all of them. What it says of entries of other rows is not told. Releases, deadlines and caps in slots.
 fn all_in_time<'a>(
     queue: &'a [u8; 64],
     n: u32,
@@ -145,7 +145,7 @@ fn standing<'a>(
 // The choices of a word without a row, if the row is one of those that may stand lowest; else 0.
 fn without_row(scratch: &[u32], left: u64, rows: u64, row: u8) -> u32
     requires { ⌜ (1 ≤ row) × (row ≤ 64) × (left < length (now scratch)) × (isLeft rows row ≡ true → bit left (row - 1) ≡ 1) ⌝ }
-    ensures { λ r. ⌜ r ≡ below (now (scratch .entry)) left rows row ⌝ }
+    ensures { λ r. ⌜ r ≡ withoutRow (now (scratch .entry)) left rows row ⌝ }
 {
     if sweep::has(rows, row) {
         let rest = sweep::without(left, row);
@@ -157,8 +157,8 @@ fn without_row(scratch: &[u32], left: u64, rows: u64, row: u8) -> u32
 // Their sum over the first n rows: the choices of the word (rule 25.7).
 fn total(scratch: &[u32], n: u32, left: u64, rows: u64) -> u32
     requires { ⌜ (n ≤ 64) × (left < length (now scratch)) × ((i : ℕ) → isLeft rows i ≡ true → bit left (i - 1) ≡ 1)
-        × (sum (below (now scratch) left rows) (rowsTo n) < 2 ^ 32) ⌝ }
-    ensures { λ r. ⌜ r ≡ sum (below (now (scratch .entry)) left rows) (rowsTo n) ⌝ }
+        × (sum (withoutRow (now scratch) left rows) (rowsTo n) < 2 ^ 32) ⌝ }
+    ensures { λ r. ⌜ r ≡ sum (withoutRow (now (scratch .entry)) left rows) (rowsTo n) ⌝ }
 {
     let mut total: u32 = 0;
     let mut k: u32 = 0;
@@ -172,7 +172,7 @@ fn total(scratch: &[u32], n: u32, left: u64, rows: u64) -> u32
 // The same for each of the first n rows, zeros after the last: in how many correct orders each stands lowest, where the word is that of all rows (rule 25.5).
 fn lowest_counts(scratch: &[u32], n: u32, left: u64, rows: u64) -> [u32; 64]
     requires { ⌜ (n ≤ 64) × (left < length (now scratch)) × ((i : ℕ) → isLeft rows i ≡ true → bit left (i - 1) ≡ 1) ⌝ }
-    ensures { λ r. ⌜ r ≡ padded (map (below (now (scratch .entry)) left rows) (rowsTo n)) ⌝ }
+    ensures { λ r. ⌜ r ≡ padded (map (withoutRow (now (scratch .entry)) left rows) (rowsTo n)) ⌝ }
 {
     let mut out: [u32; 64] = [0; 64];
     let mut k: u32 = 0;

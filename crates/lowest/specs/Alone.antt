@@ -1,22 +1,22 @@
 -- The rows of a word alone (rule 25.3): the table of them, numbered anew, is a table like any other, and its choices are counted by the lowest row of the same
 -- rows in the whole table (rule 25.7).
-use Prim.Native.Nat.{ℕ, zero, suc, _+_, _-_, _^_, _≤_, _<_}
-use mathlib.Core.Bool.{Bool, true, false, _&&_, cond, not}
-use mathlib.Core.List.{List, [], _∷_, _++_, map}
+use Prim.Native.Nat.{ℕ, zero, suc, _-_, _≤_, _<_}
+use mathlib.Core.Bool.{Bool, true, _&&_, cond, not}
+use mathlib.Core.List.{List, [], _∷_, map}
 use mathlib.Core.Path.{_≡_, refl, sym, ap, ap₂, subst, _∙_}
 use native.Mathlib.Omega.{arith}
 use lib.Dec.{eqb}
 use lib.ListN.{length, getD, length-map}
 use lib.Seq.{ext-getD}
-use borrow.Author.Tests.{eq-eqb, ne-eqb, eqb-true}
+use borrow.Author.Tests.{eq-eqb, eqb-true}
 use Rattle.rules.specs.declared.Table.{Table}
 use Rattle.rules.specs.Choice.{padded, unfollowed, passes, lowest}
-use Rattle.rules.specs.Lists.{all, count, first, sum, erase, keep, rowsTo}
+use Rattle.rules.specs.Lists.{all, count, first, erase, rowsTo}
 use Rattle.rules.specs.Orders.{isArrangement, isOrder}
 use Rattle.rules.specs.Rows.{at, rowsOf, releaseOf, workOf, deadlineOf, promisedOf, followsOf}
 use Rattle.rules.specs.Worst.{meets}
 use Rattle.theory.specs.Choosing.{lowest-stands}
-use Rattle.theory.specs.Counts.{In, Once, Within, Same, in-head, in-tail, in-entry, erase-last, sum-eq, first-in, first-passes, first-none, same-size, count-erase-same, count-erase-other}
+use Rattle.theory.specs.Counts.{In, Once, Within, in-head, in-tail, in-entry, erase-last, sum-eq, first-in, first-passes, first-none, same-size, count-erase-same, count-erase-other}
 use Rattle.theory.specs.Facts.{Row, TableFacts, rows-in, count-zero, count-rows, count-no-row}
 use Rattle.theory.specs.Finishes.{rows-of, once-of}
 use Rattle.theory.specs.Places.{length-rows, same-length}
@@ -25,8 +25,8 @@ use Rattle.theory.specs.Tests.{by-bool, by-eqb, by-leb, by-ltb, not-both}
 use Rattle.theory.specs.Waiting.{unbound, unbound-table, lowest-slack}
 use Rattle.theory.specs.Waits.{rows-closed}
 use Rattle.sweep.specs.Padded.{padded-entry, rows-entry}
-use Rattle.trials.specs.Lines.{At, place-of, apart, sorted-rising}
-use Rattle.choices.specs.Choices.{renumbered, alone, choices, howMany, arrangements, isCorrect}
+use Rattle.trials.specs.Lines.{place-of, apart, sorted-rising}
+use Rattle.choices.specs.Choices.{renumbered, alone, choices, arrangements, isCorrect}
 use Rattle.lowest.specs.Standing.{mayStand, byLowest, both-ways, free-stand, choices-lowest}
 use Rattle.lowest.specs.Images.{Single, sum-map, erase-map, Image, passes-image}
 
@@ -96,7 +96,7 @@ module _ (s : List ℕ) where
       (first-none (isAt w) (rowsTo (length s)) (λ y. omega (arith, y, count-zero (length s))) z (suc (a .place))
       (number-in (length s) (suc (a .place)) (omega arith) (omega (arith, a .within))))
 
-  pub renumbered-row : (w : ℕ) → In w s → (1 ≤ renumbered s w) × (renumbered s w ≤ length s) × (at s (renumbered s w) ≡ w)
+  renumbered-row : (w : ℕ) → In w s → (1 ≤ renumbered s w) × (renumbered s w ≤ length s) × (at s (renumbered s w) ≡ w)
   renumbered-row w i =
       let r = in-number (length s) (renumbered s w) (first-in (isAt w) (rowsTo (length s)) (not-zero w i)) in
       (r .0, r .1, eqb-true (at s (renumbered s w)) w (first-passes (isAt w) (rowsTo (length s)) (not-zero w i)))
@@ -104,7 +104,7 @@ module _ (s : List ℕ) where
   entry-in : (k : ℕ) → 1 ≤ k → k ≤ length s → In (at s k) s
   entry-in k h l = in-entry s (k - 1) (omega arith)
 
-  pub renumbered-none : (w : ℕ) → (In w s → ⊥) → renumbered s w ≡ 0
+  renumbered-none : (w : ℕ) → (In w s → ⊥) → renumbered s w ≡ 0
   renumbered-none w n =
       by-eqb (renumbered s w) 0 (λ _ z. z) (λ _ z.
       let r = in-number (length s) (renumbered s w) (first-in (isAt w) (rowsTo (length s)) z) in
@@ -133,14 +133,14 @@ module _ (t : Table) (f : TableFacts t) (s : List ℕ) (c : Chosen t s) where
   once : Once s
   once = once-of t s (c .within)
 
-  few : length s ≤ 64
+  pub few : length s ≤ 64
   few = omega (arith, length-within s (rowsOf t) (c .within), length-rows (t .n), f .few)
 
-  row-of : (x : ℕ) → In x s → Row t x
+  pub row-of : (x : ℕ) → In x s → Row t x
   row-of = rows-of t s (c .within)
 
   -- what stands under new number k
-  row-at : (k : ℕ) → 1 ≤ k → k ≤ length s → Row t (at s k)
+  pub row-at : (k : ℕ) → 1 ≤ k → k ≤ length s → Row t (at s k)
   row-at k h l = row-of (at s k) (entry-in s k h l)
 
   single : (j k : ℕ) → 1 ≤ j → j ≤ length s → 1 ≤ k → k ≤ length s → at s j ≡ at s k → j ≡ k
@@ -151,8 +151,16 @@ module _ (t : Table) (f : TableFacts t) (s : List ℕ) (c : Chosen t s) where
       let e = length-map s g in
       padded-entry (map g s) (omega (arith, few)) (k - 1) (omega arith) ∙ map-entry g s (k - 1) (omega arith)
 
+  pub level-of : (k : ℕ) → 1 ≤ k → k ≤ length s → at (alone t s .level) k ≡ at (t .level) (at s k)
+  unfolding alone
+  level-of = figure (at (t .level))
+
+  pub row-in : (k : ℕ) → Row (alone t s) k → (1 ≤ k) × (k ≤ length s)
+  unfolding alone
+  row-in k r = (r .from, r .upTo)
+
   -- the row that row k follows there
-  followed : (k : ℕ) → 1 ≤ k → k ≤ length s → followsOf (alone t s) k ≡ renumbered s (followsOf t (at s k))
+  pub followed : (k : ℕ) → 1 ≤ k → k ≤ length s → followsOf (alone t s) k ≡ renumbered s (followsOf t (at s k))
   unfolding alone
   followed k h l = figure (λ i. renumbered s (followsOf t i)) k h l
 
@@ -162,7 +170,7 @@ module _ (t : Table) (f : TableFacts t) (s : List ℕ) (c : Chosen t s) where
       single (renumbered s (at s k)) k (r .0) (r .1) h l (r .2)
 
   -- it is a row with its own number, or none
-  by-followed {ℓ} : {P : Type ℓ} (w : ℕ) → (In w s → (1 ≤ renumbered s w) × (renumbered s w ≤ length s) × (at s (renumbered s w) ≡ w) → P) → (renumbered s w ≡ 0 → P) → P
+  pub by-followed {ℓ} : {P : Type ℓ} (w : ℕ) → (In w s → (1 ≤ renumbered s w) × (renumbered s w ≤ length s) × (at s (renumbered s w) ≡ w) → P) → (renumbered s w ≡ 0 → P) → P
   by-followed w a b = by-leb 1 (count w s) (λ _ i. a i (renumbered-row s w i)) (λ _ i. b (renumbered-none s w (λ j. omega (arith, j))))
 
   -- the rows alone are a table like any other

@@ -7,37 +7,40 @@ use mathlib.Core.Logic.{_↔_}
 use mathlib.Core.Path.{_≡_, refl, sym, ap, ap₂, subst, _∙_}
 use native.Mathlib.Omega.{arith}
 use native.Mathlib.Nat.{mul-comm, mul-le-mul-left}
-use lib.Dec.{eqb, ltb, lit<}
+use lib.Dec.{eqb}
 use lib.ListN.{length, take, drop, length-append, length-map, take-append-drop, getD}
-use lib.Pow.{pow-pos}
+use lib.Pow.{pow-mono}
 use lib.Seq.{getD-append-seam}
 use borrow.Author.Tests.{eq-eqb, ne-eqb, eqb-true, le-ltb}
 use Rattle.rules.specs.declared.Table.{Table}
-use Rattle.rules.specs.Choice.{padded, choice, unfollowed, passes, planFrom}
-use Rattle.rules.specs.Correct.{Correct}
+use Rattle.rules.specs.Choice.{padded, choice, lowest, unfollowed, passes}
+use Rattle.rules.specs.Correct.{Correct, CorrectOrder}
 use Rattle.rules.specs.Lists.{all, allZero, count, sum, erase, keep, rowsTo, same}
 use Rattle.rules.specs.Numbers.{plannedNumber}
 use Rattle.rules.specs.Orders.{isArrangement, isOrder, keepsWait}
 use Rattle.rules.specs.Rows.{at, rowsOf}
 use Rattle.rules.specs.Tables.{Accepted}
-use Rattle.rules.specs.Worst.{meets}
-use Rattle.theory.specs.Choosing.{Filled, choice-filled, Filling, keep-in}
-use Rattle.theory.specs.Counts.{In, Once, Within, Same, in-head, in-tail, in-last, count-append, count-erase-same, count-erase-other, length-erase, sum-eq, sum-erase, sum-zero, sum-most, same-size}
+use Rattle.rules.specs.Worst.{slack, meets}
+use Rattle.theory.specs.Choosing.{choice-filled, keep-in, in-keep}
+use Rattle.theory.specs.Counts.{In, Within, Same, in-head, in-tail, count-erase-same, count-erase-other, sum-eq, sum-erase, sum-zero, sum-most, same-size}
 use Rattle.theory.specs.Facts.{Row, TableFacts, facts, rows-in, in-rows, all-in, in-all, count-zero}
-use Rattle.theory.specs.Places.{length-rows, rows-once, order-rows, order-long, same-length}
+use Rattle.theory.specs.Places.{length-rows, rows-once, order-rows, order-long}
 use Rattle.theory.specs.Promised.{correct, all-meet}
-use Rattle.theory.specs.Results.{choice-order, choice-correct, choice-none}
+use Rattle.theory.specs.Results.{choice-order, choice-correct, choice-none, trial-set}
 use Rattle.theory.specs.Sorting.{Sorted}
-use Rattle.theory.specs.Tests.{by-bool, by-eqb, by-leb, and-left, and-right, and-both, and-true, and-false}
+use Rattle.theory.specs.Waits.{rows-closed}
+use Rattle.theory.specs.Tests.{by-bool, by-eqb, and-left, and-right, and-both, and-true, and-false}
 use Rattle.ceiling.specs.Ceiling.{trialCount, planWithin}
-use Rattle.sweep.specs.Finds.{sorted-keep, zero-entry}
+use Rattle.sweep.specs.Finds.{sorted-keep}
 use Rattle.sweep.specs.Holds.{count-keep-le, keep-without}
-use Rattle.sweep.specs.Masks.{bit, isLeft, left-bit, bit-left, bit-not-left, full-bit, zero-bit}
+use Rattle.sweep.specs.Lowest.{lowestOf, lowest-set, lowest-from, lowest-within}
+use Rattle.sweep.specs.Masks.{isLeft, left-bit, bit-left, bit-not-left, full-bit, zero-bit}
 use Rattle.sweep.specs.Padded.{zeros, padded-zeros, padded-length, padded-take, padded-entry}
-use Rattle.choices.specs.Choices.{spread, arranged, arrangements, howMany, isCorrect, isLowest, choices, choicesBelow, rowsIn, renumbered, alone, choicesOf}
+use Rattle.choices.specs.Choices.{arranged, arrangements, howMany, isCorrect, isLowest, choices, choicesLowest, rowsIn, renumbered, alone, choicesOf}
 use Rattle.lowest.specs.Many.{Every, many-some, many-counts, many-spread, many-map, many-agree, many-none, every-weaker, same-equal, equal-same, those, those-length, those-many}
-use Rattle.lowest.specs.Listed.{factorial, below, below-same, erased-length, listed-same, listed-only, listed-once, listed-length}
+use Rattle.lowest.specs.Listed.{factorial, below, erased-length, listed-same, listed-only, listed-once, listed-length}
 use Rattle.lowest.specs.Standing.{mayStand, both-ways, byLowest, standsFrom, may-fewer, many-below, many-standing, correct-is, choices-lowest}
+use Rattle.lowest.specs.Accepting.{alone-accepted}
 use Rattle.lowest.specs.Alone.{Chosen, in-number, length-within, choices-alone, may-alone}
 
 -- the rows of a word, from the lowest number up
@@ -57,6 +60,11 @@ keep-all p (x ∷ l) h = rw (h x (in-head x l), keep-all p l (λ y i. h y (in-ta
 keep-none : (p : ℕ → Bool) (l : List ℕ) → ((x : ℕ) → p x ≡ false) → keep p l ≡ []
 keep-none p [] h = refl
 keep-none p (x ∷ l) h = rw (h x, keep-none p l h)
+
+-- a row that stands in a list, so that it is not empty
+in-some : (x : ℕ) (l : List ℕ) → In x l → 1 ≤ length l
+in-some x [] i = absurd (omega arith)
+in-some x (y ∷ l) i = omega arith
 
 -- counting by the lowest row never gives more than all arrangements, and gives as many if every row may stand lowest in every set
 lowest-most : (may : List ℕ → ℕ → Bool) (k : ℕ) (l : List ℕ) → length l ≡ k → byLowest may k l ≤ factorial k
@@ -112,6 +120,11 @@ module _ (t : Table) (f : TableFacts t) where
   pub rows-length : (m : ℕ) → length (rowsIn t m) ≤ t .n
   rows-length m = omega (arith, length-within (rowsIn t m) (rowsOf t) (rows-chosen m .within), length-rows (t .n))
 
+  -- the table of them has no more
+  pub word-few : (m : ℕ) → alone t (rowsIn t m) .n ≤ t .n
+  unfolding alone
+  word-few m = rows-length m
+
   -- the choices of a word, by the lowest row
   choices-word : (m : ℕ) → choicesOf t m ≡ byLowest (mayStand t) (length (rowsIn t m)) (rowsIn t m)
   unfolding choicesOf
@@ -161,17 +174,37 @@ module _ (t : Table) (f : TableFacts t) where
   pub choices-small : (m : ℕ) → t .n ≤ 12 → choicesOf t m ≤ 479001600
   choices-small m h = omega (arith, choices-most m, factorial-rises (length (rowsIn t m)) 12 (omega (arith, rows-length m)), factorial-twelve)
 
-  -- EVERY ORDER. If each row may stand lowest among all rows, all arrangements are correct (rule 25.9).
+  -- EVERY ORDER. If each row of a word may stand lowest among all its rows, all arrangements of them are correct (rule 25.9).
+  pub word-every : (m : ℕ) → ((i : ℕ) → In i (rowsIn t m) → mayStand t (rowsIn t m) i ≡ true) → choicesOf t m ≡ factorial (length (rowsIn t m))
+  word-every m h =
+      choices-word m
+      ∙ lowest-all (mayStand t) (length (rowsIn t m)) (rowsIn t m) refl
+      (λ r w i j. may-fewer t f (rowsIn t m) r i (rows-chosen m .within) w j (h i (omega (arith, j, w i))))
+
   pub choices-every : ((i : ℕ) → Row t i → mayStand t (rowsOf t) i ≡ true) → choices t ≡ factorial (t .n)
   choices-every h =
-      choices-lowest t f
-      ∙ lowest-all (mayStand t) (t .n) (rowsOf t) (length-rows (t .n))
-      (λ r w i j. may-fewer t f (rowsOf t) r i (λ x. omega arith) w j (h i (rows-in t i (omega (arith, j, w i)))))
+      choices-all
+      ∙ word-every (2 ^ t .n - 1) (subst (λ (l : List ℕ). (i : ℕ) → In i l → mayStand t l i ≡ true) (sym all-in-word) (λ i j. h i (rows-in t i j)))
+      ∙ ap factorial (ap length all-in-word ∙ length-rows (t .n))
+
+  -- a word other than 0 has a row
+  pub some-row : (m : ℕ) → 1 ≤ m → m < 2 ^ t .n → 1 ≤ length (rowsIn t m)
+  some-row m h l =
+      let small : m < 2 ^ 64 = omega (arith, l, pow-mono {i = t .n} {j = 64} (f .few)) in
+      let r : Row t (lowestOf m) = record { from = lowest-from m h small; upTo = lowest-within m h small (t .n) l } in
+      in-some (lowestOf m) (rowsIn t m) (in-keep (isLeft m) (rowsOf t) (lowestOf m) (in-rows t (lowestOf m) r) (bit-left m (lowestOf m) (lowest-set m h small)))
+
+  -- MAY STAND LOWEST. Row i of a word may exactly if no row of the word follows it and, in the table of its rows alone, its slack is not below zero with all the others
+  -- above it (rule 25.7).
+  pub may-stand : (m : ℕ) → 1 ≤ m → m < 2 ^ t .n → (i : ℕ) → In i (rowsIn t m)
+      → mayStand t (rowsIn t m) i
+      ≡ unfollowed t (rowsIn t m) i && passes (alone t (rowsIn t m)) (rowsOf (alone t (rowsIn t m))) (renumbered (rowsIn t m) i)
+  may-stand m h l = may-alone t f (rowsIn t m) (rows-chosen m) (some-row m h l)
 
   -- LOWEST. In as many correct orders as all other rows have choices row i stands lowest if it may, and else in none (rules 25.5, 25.7).
-  pub choices-below : (i : ℕ) → Row t i → choicesBelow t i ≡ cond (mayStand t (rowsOf t) i) (choicesOf t (2 ^ t .n - 1 - 2 ^ (i - 1))) 0
-  unfolding choicesBelow arrangements
-  choices-below i r =
+  pub lowest-choices : (i : ℕ) → Row t i → choicesLowest t i ≡ cond (mayStand t (rowsOf t) i) (choicesOf t (2 ^ t .n - 1 - 2 ^ (i - 1))) 0
+  unfolding choicesLowest arrangements
+  lowest-choices i r =
       let k = t .n - 1 in
       let n : t .n ≡ suc k = omega (arith, f .some) in
       ap (λ (m : ℕ). howMany (λ o. isCorrect t (padded o) && isLowest t i (padded o)) (arranged m (rowsOf t))) n
@@ -247,10 +280,10 @@ module _ (t : Table) (f : TableFacts t) where
           ∙ ap (λ (c : ℕ). byLowest (mayStand t) c (erase i (rowsOf t))) (erased-length k (rowsOf t) i h (length-rows (t .n) ∙ n)))
 
   -- SUMS. These counts of all rows add up to the choices of the table (rule 25.10).
-  pub choices-sum : sum (choicesBelow t) (rowsOf t) ≡ choices t
+  pub choices-sum : sum (choicesLowest t) (rowsOf t) ≡ choices t
   choices-sum =
       let m = 2 ^ t .n - 1 in
-      sum-eq (choicesBelow t) (λ i. cond (mayStand t (rowsOf t) i) (choicesOf t (m - 2 ^ (i - 1))) 0) (rowsOf t) (λ i j. choices-below i (rows-in t i j))
+      sum-eq (choicesLowest t) (λ i. cond (mayStand t (rowsOf t) i) (choicesOf t (m - 2 ^ (i - 1))) 0) (rowsOf t) (λ i j. lowest-choices i (rows-in t i j))
       ∙ ap (λ (l : List ℕ). sum (λ i. cond (mayStand t l i) (choicesOf t (m - 2 ^ (i - 1))) 0) l) (sym all-in-word)
       ∙ sym (choices-step m (omega (arith, ap length all-in-word, length-rows (t .n), f .some)))
       ∙ sym choices-all
@@ -324,8 +357,8 @@ module _ (t : Table) (f : TableFacts t) where
       many-map q padded (those (λ o. isCorrect t (padded o)) (arrangements t))
       ∙ those-many (λ o. isCorrect t (padded o)) (λ a. q (padded a)) (arrangements t)
 
-  pub orders-lowest : (i : ℕ) → howMany (isLowest t i) correctOrders ≡ choicesBelow t i
-  unfolding choicesBelow
+  pub orders-lowest : (i : ℕ) → howMany (isLowest t i) correctOrders ≡ choicesLowest t i
+  unfolding choicesLowest
   orders-lowest i = orders-many (isLowest t i)
 
   listed : Every (λ o. Same o (rowsOf t)) (arrangements t)
@@ -360,41 +393,64 @@ module _ (t : Table) (f : TableFacts t) where
       let g = counted-correct o .0 (ap (isCorrect t) q ∙ and-left (isCorrect t (padded a)) (same o (padded a)) (r .passes)) in
       (ap length q ∙ padded-length a (omega (arith, long-of a (r .has), f .few)), g .0, g .1)
 
+empty : (l : List ℕ) → length l ≡ 0 → l ≡ []
+empty [] e = refl
+empty (x ∷ l) e = absurd (omega arith)
+
+-- some row of a list
+row : (l : List ℕ) → (length l ≡ 0 → ⊥) → ((x : ℕ) → In x l → ⊥) → ⊥
+row [] n g = n refl
+row (x ∷ l) n g = g x (in-head x l)
+
+-- the order that the planner makes is counted
+made-counted : (t : Table) (accepted : Accepted t) → choice t .left ≡ [] → 1 ≤ choices t
+unfolding choices
+made-counted t accepted none =
+    let f = facts t accepted in
+    let o = choice t .placed in
+    many-counts (λ o. isCorrect t (padded o)) o (arrangements t)
+    (counted-correct t f (padded o) .1 (choice-order t accepted none, choice-correct t accepted none))
+    (omega (arith, each-once t f o (subst (λ (l : List ℕ). Same (l ++ o) (rowsOf t)) none (choice-filled t f .filling .every))))
+
 module _ (t : Table) (accepted : Accepted t) where
   f : TableFacts t
   f = facts t accepted
 
-  -- NONE. The choices are 0 exactly if the planner, at a ceiling that is not below the count of trials, answers 7 (rule 25.8).
+  -- ROWS ALONE. The table of the rows of a word other than 0 is accepted (rule 25.3).
+  pub word-accepted : (m : ℕ) → 1 ≤ m → m < 2 ^ t .n → Accepted (alone t (rowsIn t m))
+  word-accepted m h l = alone-accepted t accepted (rowsIn t m) (rows-chosen t f m) (some-row t f m h l)
+
+  -- SLACK. A row that no row of the table follows has one slack below all the others, in whatever sequence these stand (rule 25.7). With the result before, this is so
+  -- of the rows of a word alone.
+  pub lowest-slack : (i : ℕ) → Row t i → unfollowed t (rowsOf t) i ≡ true → (c : List ℕ) → Same (erase i (rowsOf t)) c
+      → slack t (lowest (rowsOf t) i) i ≡ slack t (c ++ (i ∷ [])) i
+  lowest-slack i r u c same = trial-set t accepted (rowsOf t) (λ x. omega arith) (rows-closed t f (rowsOf t) (λ x. refl)) i (in-rows t i r) u c same
+
+  -- NO ORDER. The choices are 0 exactly if no order that passes check 6 is correct (rule 25.8).
+  pub none-correct : (choices t ≡ 0) ↔ (CorrectOrder t → ⊥)
+  unfolding choices
+  none-correct = (
+    λ z c. omega (arith, z, made c),
+    λ n. by-eqb (choices t) 0 (λ _ y. y) (λ _ y. absurd (n (found (omega arith)))),
+  )
+    where
+      -- the planner makes an order wherever there is one, and that is counted
+      made : CorrectOrder t → 1 ≤ choices t
+      made c = by-eqb (length (choice t .left)) 0
+          (λ _ q. made-counted t accepted (empty (choice t .left) q))
+          (λ _ q. absurd (row (choice t .left) q (λ x i. choice-none t accepted x i (c .order) (c .passes) (c .correct))))
+
+      found : 1 ≤ choices t → CorrectOrder t
+      found h =
+          let r = many-some (λ o. isCorrect t (padded o)) (λ o. Same o (rowsOf t)) (arrangements t) (listed t f) h in
+          let g = counted-correct t f (padded (r .list)) .0 (r .passes) in
+          record { order = padded (r .list); passes = g .0; correct = g .1 }
+
+  -- SEVEN. So they are 0 exactly if the planner, at a ceiling that is not below the count of trials, answers 7 (rule 25.8).
   pub none-seven : (ceiling : ℕ) → trialCount t ≤ ceiling → (choices t ≡ 0) ↔ (plannedNumber (planWithin ceiling t .planning .answer) ≡ 7)
-  unfolding planWithin plannedNumber choices arrangements
+  unfolding planWithin plannedNumber
   none-seven ceiling h =
       rw (accepted, le-ltb ceiling (trialCount t) h)
       (by-eqb (length (choice t .left)) 0
-      (λ e q. rw e (λ z. absurd (omega (arith, z, some (empty (choice t .left) q))), λ z. absurd (omega arith)))
-      (λ e q. rw e (λ z. refl, λ z. by-eqb (choices t) 0 (λ _ y. y) (λ _ y. absurd (stuck q (omega arith))))))
-    where
-      empty : (l : List ℕ) → length l ≡ 0 → l ≡ []
-      empty [] e = refl
-      empty (x ∷ l) e = absurd (omega arith)
-
-      -- an order is made: it is counted
-      some : choice t .left ≡ [] → 1 ≤ choices t
-      some none =
-          let o = choice t .placed in
-          many-counts (λ o. isCorrect t (padded o)) o (arrangements t)
-          (counted-correct t f (padded o) .1 (choice-order t accepted none, choice-correct t accepted none))
-          (omega (arith, each-once t f o (subst (λ (l : List ℕ). Same (l ++ o) (rowsOf t)) none (choice-filled t f .filling .every))))
-
-      -- a row is left: nothing is counted
-      stuck : (length (choice t .left) ≡ 0 → ⊥) → 1 ≤ choices t → ⊥
-      stuck n c =
-          let r = many-some (λ o. isCorrect t (padded o)) (λ o. Same o (rowsOf t)) (arrangements t) listed c in
-          let h = counted-correct t f (padded (r .list)) .0 (r .passes) in
-          row (choice t .left) n (λ x i. choice-none t accepted x i (padded (r .list)) (h .0) (h .1))
-        where
-          listed : Every (λ o. Same o (rowsOf t)) (arrangements t)
-          listed = listed-same (t .n) (rowsOf t) (length-rows (t .n))
-
-          row : (l : List ℕ) → (length l ≡ 0 → ⊥) → ((x : ℕ) → In x l → ⊥) → ⊥
-          row [] n g = n refl
-          row (x ∷ l) n g = g x (in-head x l)
+      (λ e q. rw e (λ z. absurd (omega (arith, z, made-counted t accepted (empty (choice t .left) q))), λ z. absurd (omega arith)))
+      (λ e q. rw e (λ z. refl, λ _. none-correct .1 (λ c. row (choice t .left) q (λ x i. choice-none t accepted x i (c .order) (c .passes) (c .correct))))))

@@ -1,26 +1,23 @@
 -- Rows under other numbers: a table whose rows have the figures of rows of another, with no row waiting. A row meets its deadline in the one exactly if it
 -- does in the other, among the same rows.
-use Prim.Native.Nat.{ℕ, zero, suc, _+_, _≤_, max, min}
-use mathlib.Core.Bool.{Bool, true, false, _&&_, cond}
+use Prim.Native.Nat.{ℕ, _+_, _≤_, max}
+use mathlib.Core.Bool.{true, _&&_, cond}
 use mathlib.Core.List.{List, [], _∷_, _++_, map}
 use mathlib.Core.Path.{_≡_, refl, sym, ap, ap₂, subst, _∙_}
 use native.Mathlib.Omega.{arith}
 use lib.Dec.{eqb, ltb, leb}
-use lib.ListN.{length}
 use borrow.Author.Tests.{eq-eqb, ne-eqb}
 use Rattle.rules.specs.declared.Table.{Table}
 use Rattle.rules.specs.Choice.{lowest, passes}
 use Rattle.rules.specs.Lists.{count, sum, erase}
 use Rattle.rules.specs.Need.{need}
-use Rattle.rules.specs.Rows.{at, rowsOf, releaseOf, workOf, deadlineOf, promisedOf, promiseNeed, isLow, isPromised}
-use Rattle.rules.specs.Slots.{allowance}
+use Rattle.rules.specs.Rows.{at, rowsOf, releaseOf, workOf, deadlineOf, promisedOf, promiseNeed, isPromised}
 use Rattle.rules.specs.Worst.{worstSpeed, worstFinish, promisedMoment, meets}
 use Rattle.theory.specs.Caps.{cap}
-use Rattle.theory.specs.Counts.{In, Once, Within, Same, in-head, in-tail, in-last, erase-last, count-append, count-same, count-other, sum-same}
-use Rattle.theory.specs.Facts.{Row, TableFacts, rows-in, in-rows}
+use Rattle.theory.specs.Counts.{In, Once, Within, Same, in-head, in-tail, in-last, erase-last, count-same, sum-same}
+use Rattle.theory.specs.Facts.{Row, TableFacts}
 use Rattle.theory.specs.Finishes.{rows-of, once-of, worst-sweep}
-use Rattle.theory.specs.Places.{rows-once}
-use Rattle.theory.specs.Promised.{Part, part-of, moment-sweep, latest, meets-is}
+use Rattle.theory.specs.Promised.{part-of, moment-sweep, latest, meets-is}
 use Rattle.theory.specs.Sorting.{Sorted, sortBy, sorted-sort, same-sort}
 use Rattle.theory.specs.Sweep.{sweep}
 use Rattle.theory.specs.Tests.{by-bool, by-eqb}
@@ -34,7 +31,7 @@ module _ (φ : ℕ → ℕ) where
   count-map y [] = refl
   count-map y (x ∷ l) = by-bool (eqb y (φ x)) (λ e. rw e (omega (arith, count-map y l))) (λ e. rw e (omega (arith, count-map y l)))
 
-  pub same-map : (a b : List ℕ) → Same a b → Same (map φ a) (map φ b)
+  same-map : (a b : List ℕ) → Same a b → Same (map φ a) (map φ b)
   same-map a b s y = count-map y a ∙ sum-same (λ x. cond (eqb y (φ x)) 1 0) a b s ∙ sym (count-map y b)
 
   -- a number of the list is that of a row
@@ -43,19 +40,12 @@ module _ (φ : ℕ → ℕ) where
     pub inside : In row l
     pub is : φ row ≡ y
 
-  pub in-map : (l : List ℕ) (y : ℕ) → In y (map φ l) → From l y
+  in-map : (l : List ℕ) (y : ℕ) → In y (map φ l) → From l y
   in-map [] y i = absurd (omega arith)
   in-map (x ∷ l) y i =
       by-eqb y (φ x)
       (λ _ q. record { row = x; inside = in-head x l; is = sym q })
       (λ e q. let r = in-map l y (rw e at i) in record { row = r .row; inside = in-tail (r .row) x l (r .inside); is = r .is })
-
-  pub map-in : (l : List ℕ) (x : ℕ) → In x l → In (φ x) (map φ l)
-  map-in [] x i = absurd (omega arith)
-  map-in (y ∷ l) x i =
-      by-eqb x y
-      (λ _ q. rw q (in-head (φ y) (map φ l)))
-      (λ e q. in-tail (φ x) (φ y) (map φ l) (map-in l x (rw e at i)))
 
   pub sum-map : (g : ℕ → ℕ) (l : List ℕ) → sum g (map φ l) ≡ sum (λ x. g (φ x)) l
   sum-map g [] = refl
@@ -76,7 +66,7 @@ module _ (φ : ℕ → ℕ) where
       (λ e q. let n : (φ i ≡ φ x → ⊥) = λ p. q (h i x j (in-head x l) p) in
       rw (e, ne-eqb (φ i) (φ x) n, erase-map i l (single-tail x l h) (rw e at j)))
 
-  pub once-map : (l : List ℕ) → Single l → Once l → Once (map φ l)
+  once-map : (l : List ℕ) → Single l → Once l → Once (map φ l)
   once-map [] h o y = omega arith
   once-map (x ∷ l) h o y =
       by-eqb y (φ x)

@@ -1,6 +1,6 @@
 -- The arrangements of some rows: the list of them holds each once, and nothing else (rule 25.1).
 use Prim.Native.Nat.{ℕ, zero, suc, _+_, _*_, _≤_}
-use mathlib.Core.Bool.{Bool, true, false, _&&_, cond}
+use mathlib.Core.Bool.{false, _&&_}
 use mathlib.Core.List.{List, [], _∷_, _++_, map}
 use mathlib.Core.Path.{_≡_, refl, sym, ap, _∙_, subst}
 use native.Mathlib.Omega.{arith}
@@ -8,9 +8,9 @@ use native.Mathlib.Nat.{mul-comm}
 use lib.Dec.{eqb}
 use lib.ListN.{length, length-append, length-map}
 use borrow.Author.Tests.{eq-eqb, ne-eqb}
-use Rattle.rules.specs.Lists.{same, sum, count, erase}
+use Rattle.rules.specs.Lists.{same, erase}
 use Rattle.theory.specs.Tests.{by-bool, by-eqb, and-true, and-false}
-use Rattle.theory.specs.Counts.{In, Once, Within, Same, in-head, in-tail, count-append, count-same, count-other, count-erase-same, count-erase-other, length-erase, sum-erase, sum-eq, sum-zero, same-size}
+use Rattle.theory.specs.Counts.{In, Once, Same, in-head, in-tail, count-append, count-same, count-other, count-erase-same, count-erase-other, length-erase, sum-erase, sum-zero, same-size}
 use Rattle.choices.specs.Choices.{spread, arranged, howMany}
 use Rattle.lowest.specs.Many.{Every, many-spread, many-map, many-agree, many-none, every-weaker, every-append, every-map, every-has}
 
@@ -20,7 +20,7 @@ pub record Last (o : List ℕ) : Type 0 where
   pub row : ℕ
   pub whole : o ≡ above ++ (row ∷ [])
 
-pub last : (o : List ℕ) → 1 ≤ length o → Last o
+last : (o : List ℕ) → 1 ≤ length o → Last o
 last [] h = absurd (omega arith)
 last (x ∷ []) h = record { above = []; row = x; whole = refl }
 last (x ∷ y ∷ o) h = let r = last (y ∷ o) (omega arith) in record { above = x ∷ r .above; row = r .row; whole = ap (λ (l : List ℕ). x ∷ l) (r .whole) }
@@ -39,7 +39,7 @@ none-in [] h = refl
 none-in (x ∷ o) h = absurd (omega (arith, h x, count-same x o))
 
 -- with its lowest row taken out, an arrangement is one of the other rows
-pub above-same : (a s : List ℕ) (j : ℕ) → Same (a ++ (j ∷ [])) s → Same a (erase j s)
+above-same : (a s : List ℕ) (j : ℕ) → Same (a ++ (j ∷ [])) s → Same a (erase j s)
 above-same a s j h x =
     by-eqb x j
     (λ _ q. rw q (omega (arith, h j, count-append j a (j ∷ []), count-same j [], count-erase-same j s)))
@@ -51,7 +51,7 @@ below-same a s j i h x =
     (λ _ q. rw q (omega (arith, h j, count-append j a (j ∷ []), count-same j [], count-erase-same j s)))
     (λ _ q. omega (arith, h x, count-append x a (j ∷ []), count-other x j [] q, count-erase-other x j s q))
 
-pub erase-once : (s : List ℕ) (j : ℕ) → Once s → Once (erase j s)
+erase-once : (s : List ℕ) (j : ℕ) → Once s → Once (erase j s)
 erase-once s j o x = by-eqb x j (λ _ q. rw q (omega (arith, count-erase-same j s, o j))) (λ _ q. omega (arith, count-erase-other x j s q, o x))
 
 pub erased-length : (k : ℕ) (s : List ℕ) (j : ℕ) → In j s → length s ≡ suc k → length (erase j s) ≡ k

@@ -1,5 +1,5 @@
 -- Lists of lists: how many pass a test, and what every one of them has.
-use Prim.Native.Nat.{ℕ, zero, suc, _+_, _≤_}
+use Prim.Native.Nat.{ℕ, _+_, _≤_}
 use mathlib.Core.Bool.{Bool, true, false, _&&_, cond}
 use mathlib.Core.List.{List, [], _∷_, _++_, map}
 use mathlib.Core.Path.{_≡_, refl, sym, ap, ap₂, _∙_, subst}
@@ -33,7 +33,7 @@ module _ (p : List ℕ → Bool) where
       (λ e. by-bool (q o) (λ g. rw (e, g, those-many q os)) (λ g. rw (e, g, those-many q os)))
       (λ e. rw (e, those-many q os))
 
-  pub many-append : (a b : List (List ℕ)) → howMany p (a ++ b) ≡ howMany p a + howMany p b
+  many-append : (a b : List (List ℕ)) → howMany p (a ++ b) ≡ howMany p a + howMany p b
   many-append [] b = omega arith
   many-append (o ∷ a) b = by-bool (p o) (λ e. rw e (omega (arith, many-append a b))) (λ e. rw e (many-append a b))
 
@@ -52,10 +52,6 @@ module _ (p : List ℕ → Bool) where
   pub many-none : (os : List (List ℕ)) → Every (λ o. p o ≡ false) os → howMany p os ≡ 0
   many-none [] h = refl
   many-none (o ∷ os) h = rw (h .0) (many-none os (h .1))
-
-  pub many-most : (os : List (List ℕ)) → howMany p os ≤ length os
-  many-most [] = omega arith
-  many-most (o ∷ os) = by-bool (p o) (λ e. rw e (omega (arith, many-most os))) (λ e. rw e (omega (arith, many-most os)))
 
   -- one that passes is among them
   pub record Passing (os : List (List ℕ)) (P : List ℕ → Type 0) : Type 0 where

@@ -2,29 +2,26 @@
 -- the rows above it. So arrangements are counted from the lowest place up.
 use Prim.Native.Nat.{ℕ, zero, suc, _+_, _-_, _≤_}
 use mathlib.Core.Bool.{Bool, true, false, _&&_, cond, not}
-use mathlib.Core.List.{List, [], _∷_, _++_, map, append-assoc}
+use mathlib.Core.List.{List, [], _∷_, _++_, append-assoc}
 use mathlib.Core.Path.{_≡_, refl, sym, ap, subst, _∙_}
 use native.Mathlib.Omega.{arith}
-use lib.Dec.{eqb}
-use lib.ListN.{length, getD, take}
-use lib.Seq.{getD-append-seam}
-use borrow.Author.Tests.{eq-eqb, ne-eqb}
+use lib.ListN.{length, take}
 use Rattle.rules.specs.declared.Table.{Table}
 use Rattle.rules.specs.Choice.{padded, unfollowed, passes}
 use Rattle.rules.specs.Lists.{all, count, sum, erase}
 use Rattle.rules.specs.Orders.{isOrder}
-use Rattle.rules.specs.Rows.{at, rowsOf, followsOf}
+use Rattle.rules.specs.Rows.{rowsOf, followsOf}
 use Rattle.rules.specs.Worst.{meets}
 use Rattle.theory.specs.Choosing.{none-follow, follow-none, unfollowed-within, padded-order}
-use Rattle.theory.specs.Counts.{In, Once, Within, Same, part, in-head, in-tail, in-last, count-append, count-same, count-other, count-erase-other, count-erase-same, erase-last, same-size, sum-eq, sum-erase, sum-zero}
+use Rattle.theory.specs.Counts.{In, Within, Same, part, in-last, count-append, count-same, count-other, count-erase-other, count-erase-same, erase-last, same-size, sum-eq}
 use Rattle.theory.specs.Facts.{Row, TableFacts, in-rows, rows-in, followed-row, all-in, in-all}
 use Rattle.theory.specs.Places.{length-rows, rows-once, stand-at}
 use Rattle.theory.specs.Promised.{moved}
-use Rattle.theory.specs.Tests.{by-bool, by-leb, by-eqb, and-left, and-right, and-both, and-true, and-false, and-assoc, not-both}
+use Rattle.theory.specs.Tests.{by-bool, by-leb, by-eqb, and-left, and-right, and-both, and-true, and-false, and-assoc}
 use Rattle.theory.specs.Waiting.{unbound, unbound-table, same-slack}
 use Rattle.theory.specs.Waits.{Stand}
-use Rattle.sweep.specs.Padded.{zeros, zeros-entry, padded-zeros, padded-take, padded-entry}
-use Rattle.choices.specs.Choices.{spread, arranged, arrangements, howMany, isCorrect, isLowest, choices, choicesBelow}
+use Rattle.sweep.specs.Padded.{zeros, zeros-entry, padded-zeros, padded-take}
+use Rattle.choices.specs.Choices.{arranged, arrangements, howMany, isCorrect, choices}
 use Rattle.lowest.specs.Many.{Every, many-spread, many-map, many-agree, many-none, every-weaker}
 use Rattle.lowest.specs.Listed.{below, below-same, erased-length, listed-same}
 
@@ -179,7 +176,7 @@ module _ (t : Table) where
             let twice : In i x = subst (λ (w : ℕ). In w x) q (stands-in x y i e .0 z up some) in
             omega (arith, twice, counted x y i e i, count-same i y, rows-once (t .n) i)))
 
-        pub correct-stands : ((i : ℕ) → Row t i → meets t (padded l) i ≡ true) → standsFrom t [] l ≡ true
+        correct-stands : ((i : ℕ) → Row t i → meets t (padded l) i ≡ true) → standsFrom t [] l ≡ true
         unfolding mayStand passes
         correct-stands m =
             stands-all [] l (λ x y i e.
@@ -216,10 +213,10 @@ module _ (t : Table) where
               (omega (arith, h, counted x y i e w, in-rows t w (followed-row t f i r some), count-other w i y (λ q. omega (arith, q, f .lower i r some)))))),
         )
 
-        pub stands-order : isOrder t (padded l) ≡ true
+        stands-order : isOrder t (padded l) ≡ true
         stands-order = padded-order t f l every (λ a b i e. stands-rows a b i e)
 
-        pub stands-meets : (i : ℕ) → Row t i → meets t (padded l) i ≡ true
+        stands-meets : (i : ℕ) → Row t i → meets t (padded l) i ≡ true
         unfolding passes
         stands-meets i r =
             let p = part i l (omega (arith, every i, in-rows t i r)) in

@@ -1,7 +1,6 @@
 -- Two tables of twelve rows (rule 13.19), whose 479,001,600 arrangements are too many to be listed: their choices are computed through the lowest rows.
-use Prim.Native.Nat.{ℕ}
 use mathlib.Core.Bool.{true}
-use mathlib.Core.List.{List, map}
+use mathlib.Core.List.{map}
 use mathlib.Core.Path.{_≡_, refl, _∙_}
 use lib.ListN.{replicate}
 use Rattle.rules.specs.declared.Table.{Table}
@@ -16,7 +15,6 @@ use Rattle.rules.specs.Tables.{Accepted, rowOk, tailOk, promiseOk, checkWait, c
 use Rattle.rules.specs.Worst.{horizon, worstFinish, slack, meets}
 use Rattle.theory.specs.Facts.{facts, all-in, in-rows}
 use Rattle.choices.specs.Choices.{choices}
-use Rattle.lowest.specs.Listed.{factorial}
 use Rattle.lowest.specs.Standing.{mayStand, byLowest, choices-lowest}
 use Rattle.lowest.specs.Counted.{choices-every}
 

@@ -35,7 +35,7 @@ refusalNumber ReleasedBefore = 18
 refusalNumber TrialsOver = 19
 refusalNumber TooManyRows = 20
 
--- the number of the reader, of the writer, of the report, of the checks of tables and orders, of the fresh record, of a commit: 0 where no check refuses (rule 10.0)
+-- the number of the reader, of the writer, of the report, of the checks of tables and orders, of the fresh record, of a commit, of counting: 0 where no check refuses (rule 10.0)
 unfoldable pub checkNumber : Check → ℕ
 unfolding refusalNumber
 checkNumber Checks.Passed = 0

@@ -5,15 +5,18 @@
 //!     cargo run --offline --release --bin bench -- ceilings
 //!     cargo run --offline --release --bin bench -- slots
 //!     cargo run --offline --release --bin bench -- commits
+//!     cargo run --offline --release --bin bench -- choices
 //!     cargo run --offline --release --bin bench -- searches
 //!
 //! The headline is the ratio: the library's time divided by plain Rust's, both
 //! from this run, this machine and the same inputs. No time is asserted. With the
 //! word `plans` planning alone is timed, with the word `ceilings` planning at ceilings, with
-//! the word `slots` one slot and forward, with the word `commits` asking and committing.
+//! the word `slots` one slot and forward, with the word `commits` asking and committing, with the
+//! word `choices` counting correct orders.
 //! With the word `searches` nothing is timed: each search for a least speed is made
 //! once, for tools/plannings.sh, which counts its plannings.
 
+mod choices;
 mod commits;
 mod pairs;
 mod plans;
@@ -41,6 +44,7 @@ fn main() {
         Some("ceilings") => measure_ceilings(),
         Some("slots") => measure_slots(),
         Some("commits") => measure_commits(),
+        Some("choices") => measure_choices(),
         _ => measure_all(),
     }
 }
@@ -71,6 +75,12 @@ fn measure_commits() {
     commits::measure();
 }
 
+/// Counting correct orders alone.
+fn measure_choices() {
+    print_conditions();
+    choices::measure();
+}
+
 fn print_conditions() {
     println!("Ratio: time of the library divided by time of plain Rust, same run and inputs.");
     println!("Buffers for results are not cleared before a call, on either side; both sides");
@@ -97,6 +107,7 @@ fn measure_all() {
     println!("the ratio of the search to it.\n");
     searches::measure();
     println!();
+    choices::measure();
     print_stack();
 }
 

@@ -1,7 +1,6 @@
 -- A refused table answers for itself; an accepted one is refused for its rows or its scratch, or counted.
-use Prim.Native.Nat.{ℕ, _≤_, _<_}
 use native.Mathlib.Omega.{arith}
-use mathlib.Core.Path.{_≡_, sym, ap, _∙_}
+use mathlib.Core.Path.{sym, ap, _∙_}
 use Rattle.rules.specs.Tables.{Accepted}
 use Rattle.choices.specs.Choices.{Counting}
 use Rattle.counter.specs.Answers.{refused-table, refused-rows, refused-room, passed-count}

@@ -14,8 +14,8 @@ use Rattle.rules.specs.Tables.{Accepted}
 use Rattle.theory.specs.Facts.{TableFacts, facts}
 use Rattle.sweep.specs.Masks.{isLeft}
 use Rattle.trials.specs.Turns.{followed-few, entries-small, normal-speed, degraded-speed, degraded-parts}
-use Rattle.choices.specs.Choices.{choices, choicesBelow, choicesOf}
-use Rattle.counter.specs.Summing.{below}
+use Rattle.choices.specs.Choices.{choices, choicesLowest, choicesOf}
+use Rattle.counter.specs.Summing.{withoutRow}
 use Rattle.counter.specs.Words.{filled, standingRows, filled-first, filled-next, filled-last, standing-inside, total-is, total-fits, count-is, lowest-is}
 use Rattle.counter.specs.Turns.{standing-found, words-few, words-all, kept-length, pow-two, counts-are}
 use Rattle.counter.proofs.count_words.Statement.{statement}
@@ -143,8 +143,8 @@ total-requires c κs =
       f l .few,
       inside l h,
       λ i e. standing-inside (t l) (f l) w i (subst (λ (r : ℕ). isLeft r i ≡ true) (rows-are s) e),
-      subst (λ (r : ℕ). sum (below (l .loop .scratch) w r) (rowsTo (t l .n)) < 2 ^ 32) (sym (rows-are s))
-          (subst (λ (x : List ℕ). sum (below x w (standingRows (t l) w)) (rowsTo (t l .n)) < 2 ^ 32) (sym (l .loop .inv .2))
+      subst (λ (r : ℕ). sum (withoutRow (l .loop .scratch) w r) (rowsTo (t l .n)) < 2 ^ 32) (sym (rows-are s))
+          (subst (λ (x : List ℕ). sum (withoutRow x w (standingRows (t l) w)) (rowsTo (t l .n)) < 2 ^ 32) (sym (l .loop .inv .2))
           (total-fits (t l) (f l) (set (old l) 0 1) w (start l .pre .1) (l .loop .inv .0) (omega (arith, h, words-all (t l) (accepted l) (start l .pre .1) (all l) (every l))))),
     )
 
@@ -175,8 +175,8 @@ loop-again c =
     let base = set (old l) 0 1 in
     let small : w < 2 ^ t l .n = omega (arith, h, words-all (t l) (accepted l) (start l .pre .1) (all l) (every l)) in
     let is : c .total .result ≡ choicesOf (t l) w = c .total .ensures
-    ∙ ap (λ (r : ℕ). sum (below (l .loop .scratch) w r) (rowsTo (t l .n))) (rows-are s)
-    ∙ ap (λ (x : List ℕ). sum (below x w (standingRows (t l) w)) (rowsTo (t l .n))) (l .loop .inv .2)
+    ∙ ap (λ (r : ℕ). sum (withoutRow (l .loop .scratch) w r) (rowsTo (t l .n))) (rows-are s)
+    ∙ ap (λ (x : List ℕ). sum (withoutRow x w (standingRows (t l) w)) (rowsTo (t l .n))) (l .loop .inv .2)
     ∙ total-is (t l) (f l) base w (l .loop .inv .0) small in
     let z : w + 1 - 1 ≡ w = omega arith in (
       omega arith,
@@ -223,11 +223,11 @@ returns c =
     let l = c .before .before .before .before in
     let n = last-word (c .before .before .before) in
     let base = set (old l) 0 1 in (
-      counts-are (getD (l .loop .scratch) (all l) 0) (choices (t l)) (c .before .lowest-counts .result) (padded (map (choicesBelow (t l)) (rowsOf (t l))))
+      counts-are (getD (l .loop .scratch) (all l) 0) (choices (t l)) (c .before .lowest-counts .result) (padded (map (choicesLowest (t l)) (rowsOf (t l))))
           (ap (λ (x : List ℕ). getD x (all l) 0) (l .loop .inv .2) ∙ count-is (t l) (f l) (all l) (every l) base (l .loop .word) n)
           (c .before .lowest-counts .ensures
-          ∙ ap (λ (r : ℕ). padded (map (below (l .loop .scratch) (all l) r) (rowsTo (t l .n)))) (last-rows (c .before .before .before))
-          ∙ ap (λ (x : List ℕ). padded (map (below x (all l) (standingRows (t l) (all l))) (rowsTo (t l .n)))) (l .loop .inv .2)
+          ∙ ap (λ (r : ℕ). padded (map (withoutRow (l .loop .scratch) (all l) r) (rowsTo (t l .n)))) (last-rows (c .before .before .before))
+          ∙ ap (λ (x : List ℕ). padded (map (withoutRow x (all l) (standingRows (t l) (all l))) (rowsTo (t l .n)))) (l .loop .inv .2)
           ∙ lowest-is (t l) (f l) (all l) (every l) base (l .loop .word) n),
       l .loop .inv .2 ∙ filled-last (t l) (f l) (old l) (l .loop .word) (n ∙ words-all (t l) (accepted l) (start l .pre .1) (all l) (every l)),
     )

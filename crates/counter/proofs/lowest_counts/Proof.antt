@@ -1,18 +1,18 @@
 -- The loop's invariant: the column has the counts of the first k rows, and zeros after them.
-use Prim.Native.Nat.{ℕ, _≤_, _<_, _+_, _-_}
+use Prim.Native.Nat.{ℕ, _≤_, _+_, _-_}
 use native.Mathlib.Omega.{arith}
 use borrow.Author.Needs.{needs}
 use mathlib.Core.List.{map}
-use mathlib.Core.Path.{_≡_, refl, sym, ap, _∙_}
+use mathlib.Core.Path.{_≡_, refl, ap, _∙_}
 use Rattle.rules.specs.Choice.{padded}
-use Rattle.rules.specs.Lists.{rowsTo, sum}
+use Rattle.rules.specs.Lists.{rowsTo}
 use Rattle.sweep.specs.Padded.{column-next}
-use Rattle.counter.specs.Summing.{below, sum-next, sum-part}
+use Rattle.counter.specs.Summing.{withoutRow}
 use Rattle.counter.proofs.lowest_counts.Statement.{statement}
 use Rattle.counter.proofs.lowest_counts.Tie as tie
 
 abbrev Inv-loop : tie.InvT-loop
-Inv-loop scratch n left rows out₀ k₀ out k = (k ≤ n) × (out ≡ padded (map (below scratch left rows) (rowsTo k)))
+Inv-loop scratch n left rows out₀ k₀ out k = (k ≤ n) × (out ≡ padded (map (withoutRow scratch left rows) (rowsTo k)))
 
 abbrev μ-loop : tie.MeasureT-loop
 μ-loop scratch n left rows out₀ k₀ out k = n - k
@@ -54,7 +54,7 @@ loop-again c =
     let a = s .args in
     let l = t .before .loop in (
       omega (arith, t .loop-test .taken),
-      column-next (below (a .scratch .now) (a .left) (a .rows)) (l .k) (c .without-row .result) (l .out) (omega (arith, s .pre .0, t .loop-test .taken)) (l .inv .1) (c .without-row .ensures),
+      column-next (withoutRow (a .scratch .now) (a .left) (a .rows)) (l .k) (c .without-row .result) (l .out) (omega (arith, s .pre .0, t .loop-test .taken)) (l .inv .1) (c .without-row .ensures),
     )
 
 returns : tie.Need-returns Inv-loop μ-loop
@@ -62,7 +62,7 @@ returns c =
     let l = c .before .loop in
     let a = c .before .before .before .args in
     let e : l .k ≡ a .n = omega (arith, l .inv .0, c .loop-test .left) in
-    l .inv .1 ∙ ap (λ (j : ℕ). padded (map (below (a .scratch .now) (a .left) (a .rows)) (rowsTo j))) e
+    l .inv .1 ∙ ap (λ (j : ℕ). padded (map (withoutRow (a .scratch .now) (a .left) (a .rows)) (rowsTo j))) e
 
 pub lowest-counts-spec : {M : Type 1} → statement M
 lowest-counts-spec =

@@ -1,18 +1,15 @@
 -- The loop's invariant: the sum over the first k rows.
-use Prim.Native.Nat.{ℕ, _≤_, _<_, _+_, _-_}
+use Prim.Native.Nat.{ℕ, _≤_, _+_, _-_}
 use native.Mathlib.Omega.{arith}
 use borrow.Author.Needs.{needs}
-use mathlib.Core.List.{map}
-use mathlib.Core.Path.{_≡_, refl, sym, ap, _∙_}
-use Rattle.rules.specs.Choice.{padded}
+use mathlib.Core.Path.{_≡_, refl, ap, _∙_}
 use Rattle.rules.specs.Lists.{rowsTo, sum}
-use Rattle.sweep.specs.Padded.{column-next}
-use Rattle.counter.specs.Summing.{below, sum-next, sum-part}
+use Rattle.counter.specs.Summing.{withoutRow, sum-next, sum-part}
 use Rattle.counter.proofs.total.Statement.{statement}
 use Rattle.counter.proofs.total.Tie as tie
 
 abbrev Inv-loop : tie.InvT-loop
-Inv-loop scratch n left rows total₀ k₀ total k = (k ≤ n) × (total ≡ sum (below scratch left rows) (rowsTo k))
+Inv-loop scratch n left rows total₀ k₀ total k = (k ≤ n) × (total ≡ sum (withoutRow scratch left rows) (rowsTo k))
 
 abbrev μ-loop : tie.MeasureT-loop
 μ-loop scratch n left rows total₀ k₀ total k = n - k
@@ -37,7 +34,7 @@ add-total c =
     let s = t .before .before .before in
     let a = s .args in
     let l = t .before .loop in
-    let g = below (a .scratch .now) (a .left) (a .rows) in
+    let g = withoutRow (a .scratch .now) (a .left) (a .rows) in
     omega (arith, l .inv .1, c .without-row .ensures, sum-next g (l .k), sum-part g (l .k + 1) (a .n) (omega (arith, t .loop-test .taken)), s .pre .3)
 
 add-k : tie.Need-add-k Inv-loop μ-loop
@@ -52,7 +49,7 @@ loop-again c =
     let s = t .before .before .before in
     let a = s .args in
     let l = t .before .loop in
-    let g = below (a .scratch .now) (a .left) (a .rows) in
+    let g = withoutRow (a .scratch .now) (a .left) (a .rows) in
     (omega (arith, t .loop-test .taken), omega (arith, l .inv .1, c .without-row .ensures, sum-next g (l .k)))
 
 returns : tie.Need-returns Inv-loop μ-loop
@@ -60,7 +57,7 @@ returns c =
     let l = c .before .loop in
     let a = c .before .before .before .args in
     let e : l .k ≡ a .n = omega (arith, l .inv .0, c .loop-test .left) in
-    l .inv .1 ∙ ap (λ (j : ℕ). sum (below (a .scratch .now) (a .left) (a .rows)) (rowsTo j)) e
+    l .inv .1 ∙ ap (λ (j : ℕ). sum (withoutRow (a .scratch .now) (a .left) (a .rows)) (rowsTo j)) e
 
 pub total-spec : {M : Type 1} → statement M
 total-spec =
