@@ -33,8 +33,13 @@ waits-pass t (x ∷ l) h = rw (h x (in-head x l)) (waits-pass t l (λ y i. h y (
 row-passes : (t : Table) (i : ℕ) → RowFacts t i → rowOk t i ≡ true
 unfolding rowOk
 row-passes t i r =
-    rw (le-leb 1 (workOf t i) (r .works), le-leb (workOf t i) 1000000 (r .light), le-leb (deadlineOf t i) 1000000 (r .soon), lt-ltb (releaseOf t i) (deadlineOf t i) (r .before),
-    le-leb (at (t .level) i) 1 (r .level))
+    rw (
+      le-leb 1 (workOf t i) (r .works),
+      le-leb (workOf t i) 1000000 (r .light),
+      le-leb (deadlineOf t i) 1000000 (r .soon),
+      lt-ltb (releaseOf t i) (deadlineOf t i) (r .before),
+      le-leb (at (t .level) i) 1 (r .level),
+    )
 
 promise-passes : (t : Table) (i : ℕ) → PartFacts t i → promiseOk t i ≡ true
 unfolding promiseOk
@@ -70,8 +75,14 @@ module _ (t : Table) (accepted : Accepted t) (s : List ℕ) (c : Chosen t s) (so
   tail : tailOk (alone t s) ≡ true
   unfolding alone tailOk
   tail =
-      rw (column-ends (releaseOf t), column-ends (workOf t), column-ends (deadlineOf t), column-ends (at (t .level)), column-ends (promisedOf t),
-      column-ends (λ i. renumbered s (followsOf t i)))
+      rw (
+        column-ends (releaseOf t),
+        column-ends (workOf t),
+        column-ends (deadlineOf t),
+        column-ends (at (t .level)),
+        column-ends (promisedOf t),
+        column-ends (λ i. renumbered s (followsOf t i)),
+      )
 
   -- what is followed has the level that it had
   wait-level : (k : ℕ) → Row (alone t s) k → 1 ≤ followsOf (alone t s) k → isHigh (alone t s) k ≡ true → isLow (alone t s) (followsOf (alone t s) k) ≡ false
