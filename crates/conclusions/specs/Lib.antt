@@ -28,3 +28,4 @@ pub mod Soundness
 pub mod Renewals
 pub mod Pasting
 pub mod Maintained
+pub mod MaintainedExact

@@ -4,3 +4,4 @@ pub mod Lowest
 pub mod Words
 pub mod Turns
 pub mod Answers
+pub mod TwelveAnswers

@@ -16,7 +16,7 @@ use Rattle.rules.specs.Orders.{isArrangement, isOrder}
 use Rattle.rules.specs.Rows.{at, rowsOf, releaseOf, workOf, deadlineOf, promisedOf, followsOf}
 use Rattle.rules.specs.Worst.{meets}
 use Rattle.theory.specs.Choosing.{lowest-stands}
-use Rattle.theory.specs.Counts.{In, Once, Within, in-head, in-tail, in-entry, erase-last, sum-eq, first-in, first-passes, first-none, same-size, count-erase-same, count-erase-other}
+use Rattle.theory.specs.Counts.{In, Once, Within, in-head, in-tail, in-entry, erase-last, sum-eq, first-in, first-passes, first-none, same-size}
 use Rattle.theory.specs.Facts.{Row, TableFacts, rows-in, count-zero, count-rows, count-no-row}
 use Rattle.theory.specs.Finishes.{rows-of, once-of}
 use Rattle.theory.specs.Places.{length-rows, same-length}
@@ -27,6 +27,7 @@ use Rattle.theory.specs.Waits.{rows-closed}
 use Rattle.sweep.specs.Padded.{padded-entry, rows-entry}
 use Rattle.trials.specs.Lines.{place-of, apart, sorted-rising}
 use Rattle.choices.specs.Choices.{renumbered, alone, choices, arrangements, isCorrect}
+use Rattle.lowest.specs.Listed.{erase-within}
 use Rattle.lowest.specs.Standing.{mayStand, byLowest, both-ways, free-stand, choices-lowest}
 use Rattle.lowest.specs.Images.{Single, sum-map, erase-map, Image, passes-image}
 
@@ -51,14 +52,8 @@ mapped-lowest φ p q (suc k) l h a =
     sum-eq (λ i. cond (p l i) (byLowest p k (erase i l)) 0) (λ i. cond (q (map φ l) (φ i)) (byLowest q k (erase (φ i) (map φ l))) 0) l
     (λ i j. rw (a l (λ x. omega arith) i j, erase-map φ i l h j)
     (ap (λ (m : ℕ). cond (q (map φ l) (φ i)) m 0)
-    (mapped-lowest φ p q k (erase i l) (λ x y m n. h x y (fewer i l x m) (fewer i l y n)) (λ r w. a r (λ x. omega (arith, w x, erased-within i l x))))))
+    (mapped-lowest φ p q k (erase i l) (λ x y m n. h x y (omega (arith, m, erase-within i l x)) (omega (arith, n, erase-within i l y))) (λ r w. a r (λ x. omega (arith, w x, erase-within i l x))))))
     ∙ sym (sum-map φ (λ i. cond (q (map φ l) i) (byLowest q k (erase i (map φ l))) 0) l)
-  where
-    erased-within : (i : ℕ) (l : List ℕ) → Within (erase i l) l
-    erased-within i l x = by-eqb x i (λ _ z. rw z (omega (arith, count-erase-same i l))) (λ _ z. omega (arith, count-erase-other x i l z))
-
-    fewer : (i : ℕ) (l : List ℕ) (x : ℕ) → In x (erase i l) → In x l
-    fewer i l x m = omega (arith, m, erased-within i l x)
 
 -- a number from 1 to n, as a row among the first n
 number-in : (n k : ℕ) → 1 ≤ k → k ≤ n → In k (rowsTo n)

@@ -38,7 +38,7 @@ use Rattle.sweep.specs.Masks.{isLeft, left-bit, bit-left, bit-not-left, full-bi
 use Rattle.sweep.specs.Padded.{zeros, padded-zeros, padded-length, padded-take, padded-entry}
 use Rattle.choices.specs.Choices.{arranged, arrangements, howMany, isCorrect, isLowest, choices, choicesLowest, rowsIn, renumbered, alone, choicesOf}
 use Rattle.lowest.specs.Many.{Every, many-some, many-counts, many-spread, many-map, many-agree, many-none, every-weaker, same-equal, equal-same, those, those-length, those-many}
-use Rattle.lowest.specs.Listed.{factorial, below, erased-length, listed-same, listed-only, listed-once, listed-length}
+use Rattle.lowest.specs.Listed.{factorial, below, erased-length, erase-within, listed-same, listed-only, listed-once, listed-length}
 use Rattle.lowest.specs.Standing.{mayStand, both-ways, byLowest, standsFrom, may-fewer, many-below, many-standing, correct-is, choices-lowest}
 use Rattle.lowest.specs.Accepting.{alone-accepted}
 use Rattle.lowest.specs.Alone.{Chosen, in-number, length-within, choices-alone, may-alone}
@@ -88,11 +88,8 @@ lowest-all : (may : List ℕ → ℕ → Bool) (k : ℕ) (l : List ℕ) → leng
 lowest-all may zero l e h = refl
 lowest-all may (suc k) l e h =
     sum-each (λ i. cond (may l i) (byLowest may k (erase i l)) 0) (factorial k) l
-    (λ i j. rw (h l (λ x. omega arith) i j) (lowest-all may k (erase i l) (erased-length k l i j e) (λ r w. h r (λ x. omega (arith, w x, less i l x)))))
+    (λ i j. rw (h l (λ x. omega arith) i j) (lowest-all may k (erase i l) (erased-length k l i j e) (λ r w. h r (λ x. omega (arith, w x, erase-within i l x)))))
     ∙ ap (λ (n : ℕ). n * factorial k) e
-  where
-    less : (i : ℕ) (l : List ℕ) (x : ℕ) → count x (erase i l) ≤ count x l
-    less i l x = by-eqb x i (λ _ q. rw q (omega (arith, count-erase-same i l))) (λ _ q. omega (arith, count-erase-other x i l q))
 
 -- more rows, more arrangements
 factorial-from : (k m : ℕ) → factorial k ≤ factorial (m + k)
@@ -261,14 +258,11 @@ module _ (t : Table) (f : TableFacts t) where
           part-is k n i h
           ∙ many-agree (λ a. standsFrom t [] (a ++ (i ∷ [])) && eqb i i) (λ a. standsFrom t [] (a ++ (i ∷ []))) (arranged k (erase i (rowsOf t))) (all-true (arranged k (erase i (rowsOf t))))
           ∙ sym (many-map (standsFrom t []) (λ above. above ++ (i ∷ [])) (arranged k (erase i (rowsOf t))))
-          ∙ many-below t f k (rowsOf t) i e (λ x. omega arith) h (many-standing t f k (erase i (rowsOf t)) (erased-length k (rowsOf t) i h e) (λ x. fewer x))
+          ∙ many-below t f k (rowsOf t) i e (λ x. omega arith) h (many-standing t f k (erase i (rowsOf t)) (erased-length k (rowsOf t) i h e) (λ x. erase-within i (rowsOf t) x))
         where
           all-true : (os : List (List ℕ)) → Every (λ a. standsFrom t [] (a ++ (i ∷ [])) && eqb i i ≡ standsFrom t [] (a ++ (i ∷ []))) os
           all-true [] = tt
           all-true (a ∷ os) = (rw (eq-eqb i i refl) (and-true (standsFrom t [] (a ++ (i ∷ [])))), all-true os)
-
-          fewer : (x : ℕ) → count x (erase i (rowsOf t)) ≤ count x (rowsOf t)
-          fewer x = by-eqb x i (λ _ q. rw q (omega (arith, count-erase-same i (rowsOf t)))) (λ _ q. omega (arith, count-erase-other x i (rowsOf t) q))
 
       rest : (k : ℕ) → t .n ≡ suc k → byLowest (mayStand t) k (erase i (rowsOf t)) ≡ choicesOf t (2 ^ t .n - 1 - 2 ^ (i - 1))
       rest k n =

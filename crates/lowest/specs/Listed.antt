@@ -10,7 +10,7 @@ use lib.ListN.{length, length-append, length-map}
 use borrow.Author.Tests.{eq-eqb, ne-eqb}
 use Rattle.rules.specs.Lists.{same, erase}
 use Rattle.theory.specs.Tests.{by-bool, by-eqb, and-true, and-false}
-use Rattle.theory.specs.Counts.{In, Once, Same, in-head, in-tail, count-append, count-same, count-other, count-erase-same, count-erase-other, length-erase, sum-erase, sum-zero, same-size}
+use Rattle.theory.specs.Counts.{In, Once, Within, Same, in-head, in-tail, count-append, count-same, count-other, count-erase-same, count-erase-other, length-erase, sum-erase, sum-zero, same-size}
 use Rattle.choices.specs.Choices.{spread, arranged, howMany}
 use Rattle.lowest.specs.Many.{Every, many-spread, many-map, many-agree, many-none, every-weaker, every-append, every-map, every-has}
 
@@ -51,8 +51,12 @@ below-same a s j i h x =
     (λ _ q. rw q (omega (arith, h j, count-append j a (j ∷ []), count-same j [], count-erase-same j s)))
     (λ _ q. omega (arith, h x, count-append x a (j ∷ []), count-other x j [] q, count-erase-other x j s q))
 
+-- what is left is among what was there
+pub erase-within : (j : ℕ) (s : List ℕ) → Within (erase j s) s
+erase-within j s x = by-eqb x j (λ _ q. rw q (omega (arith, count-erase-same j s))) (λ _ q. omega (arith, count-erase-other x j s q))
+
 erase-once : (s : List ℕ) (j : ℕ) → Once s → Once (erase j s)
-erase-once s j o x = by-eqb x j (λ _ q. rw q (omega (arith, count-erase-same j s, o j))) (λ _ q. omega (arith, count-erase-other x j s q, o x))
+erase-once s j o x = omega (arith, erase-within j s x, o x)
 
 pub erased-length : (k : ℕ) (s : List ℕ) (j : ℕ) → In j s → length s ≡ suc k → length (erase j s) ≡ k
 erased-length k s j i e = omega (arith, length-erase j s i)

@@ -13,7 +13,7 @@ use Rattle.rules.specs.Orders.{isOrder}
 use Rattle.rules.specs.Rows.{rowsOf, followsOf}
 use Rattle.rules.specs.Worst.{meets}
 use Rattle.theory.specs.Choosing.{none-follow, follow-none, unfollowed-within, padded-order}
-use Rattle.theory.specs.Counts.{In, Within, Same, part, in-last, count-append, count-same, count-other, count-erase-other, count-erase-same, erase-last, same-size, sum-eq}
+use Rattle.theory.specs.Counts.{In, Within, Same, part, in-last, count-append, count-same, count-other, erase-last, same-size, sum-eq}
 use Rattle.theory.specs.Facts.{Row, TableFacts, in-rows, rows-in, followed-row, all-in, in-all}
 use Rattle.theory.specs.Places.{length-rows, rows-once, stand-at}
 use Rattle.theory.specs.Promised.{moved}
@@ -23,7 +23,7 @@ use Rattle.theory.specs.Waits.{Stand}
 use Rattle.sweep.specs.Padded.{zeros, zeros-entry, padded-zeros, padded-take}
 use Rattle.choices.specs.Choices.{arranged, arrangements, howMany, isCorrect, choices}
 use Rattle.lowest.specs.Many.{Every, many-spread, many-map, many-agree, many-none, every-weaker}
-use Rattle.lowest.specs.Listed.{below, below-same, erased-length, listed-same}
+use Rattle.lowest.specs.Listed.{below, below-same, erased-length, erase-within, listed-same}
 
 -- Row i may stand lowest of the rows of a list: none of them follows it, and with all the others above it, and no row waiting, its slack is not below zero.
 -- That this is so in the table of these rows alone, waits kept, is proved (Alone; rule 25.7).
@@ -120,19 +120,13 @@ module _ (t : Table) where
         all-false [] = tt
         all-false (a ∷ os) = (and-false (standsFrom t [] a), all-false os)
 
-    erased-within : (s : List ℕ) (i : ℕ) → Within s (rowsOf t) → Within (erase i s) (rowsOf t)
-    erased-within s i w x =
-        by-eqb x i
-        (λ _ q. rw q (omega (arith, count-erase-same i s, w i)))
-        (λ _ q. omega (arith, count-erase-other x i s q, w x))
-
     -- all arrangements of a set of rows
     pub many-standing : (k : ℕ) (s : List ℕ) → length s ≡ k → Within s (rowsOf t) → howMany (standsFrom t []) (arranged k s) ≡ byLowest (mayStand t) k s
     many-standing zero s e w = refl
     many-standing (suc k) s e w =
         many-spread (standsFrom t []) (below k s) s
         ∙ sum-eq (λ i. howMany (standsFrom t []) (below k s i)) (λ i. cond (mayStand t s i) (byLowest (mayStand t) k (erase i s)) 0) s
-        (λ i j. many-below k s i e w j (many-standing k (erase i s) (erased-length k s i j e) (erased-within s i w)))
+        (λ i j. many-below k s i e w j (many-standing k (erase i s) (erased-length k s i j e) (λ x. omega (arith, erase-within i s x, w x))))
 
     -- an arrangement of all rows
     module _ (l : List ℕ) (every : Same l (rowsOf t)) where

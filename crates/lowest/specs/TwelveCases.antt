@@ -19,10 +19,10 @@ use Rattle.lowest.specs.Standing.{mayStand, byLowest, choices-lowest}
 use Rattle.lowest.specs.Counted.{choices-every}
 
 -- each row has time for all of them
-abbrev wherever : Table
+abbrev pub wherever : Table
 wherever = tableOf (replicate 12 (job 0 1 12 0)) 1 1 0
 
-wherever-accepted : Accepted wherever
+pub wherever-accepted : Accepted wherever
 unfolding tableOf checkTable rowOk promiseOk checkWait tailOk
 wherever-accepted = refl
 
@@ -38,10 +38,10 @@ twelve-every =
     (λ i r. all-in (mayStand wherever (rowsOf wherever)) (rowsOf wherever) each-stands i (in-rows wherever i r))
 
 -- row i has to be done by slot i
-abbrev rising : Table
+abbrev pub rising : Table
 rising = tableOf (map (λ i. job 0 1 i 0) (rowsTo 12)) 1 1 0
 
-rising-accepted : Accepted rising
+pub rising-accepted : Accepted rising
 unfolding tableOf checkTable rowOk promiseOk checkWait tailOk
 rising-accepted = refl
 
