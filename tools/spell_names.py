@@ -32,6 +32,8 @@ QUIET = re.compile(r'"(?:[^"\\\n]|\\.)*"|(?<![^\s(){};,])Rattle(?:\.[^\s(){}.;,@
 COMMENT = re.compile(r'(?<![^\s(){}.;,@"«»`])--[^\n]*')
 CLAUSE = re.compile(r"(?:requires|ensures|ghost(?: \w+)?\s*(?:[:=]\s*)?)\s*\*?\s*(?:\w+\s*)?\{|ghost\s+use\b")
 
+USE = re.compile(r"^(?:ghost )?use ([^\s{]+?)\.\{([^}]*)\}", re.M)
+
 # Names of fields, which stand behind a dot in proofs of functions too.
 FIELDS = set()
 
@@ -142,6 +144,16 @@ def antt(text, table, function):
     return "".join(out)
 
 
+def of_others(text, own):
+    """The names that a file takes from libraries that are not ours: they stay in it."""
+    names = set()
+    for m in USE.finditer(text):
+        steps = m[1].split(".")
+        if steps[0] != "Rattle" or steps[1] not in own:
+            names.update(re.split(r"[\s,]+", m[2]))
+    return names
+
+
 def end_of(text, at):
     """The end of the braces that open at `at`."""
     depth = 0
@@ -177,10 +189,13 @@ def main(argv):
         for a, b in sorted(table.items()):
             print(f"{a} {b}")
         return 0
+    own = set(os.listdir(os.path.join(root, "crates")))
     for path in files(root):
         with open(path, encoding="utf-8") as f:
             text = f.read()
-        new = source(text, table) if path.endswith(".rt") else antt(text, table, of_a_function(path))
+        others = of_others(text, own)
+        here = {a: b for a, b in table.items() if a not in others}
+        new = source(text, here) if path.endswith(".rt") else antt(text, here, of_a_function(path))
         if new != text:
             with open(path, "w", encoding="utf-8") as f:
                 f.write(new)

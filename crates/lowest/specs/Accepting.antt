@@ -1,6 +1,6 @@
 -- The table of some rows alone passes the checks of a table, if the whole table does (rule 25.3).
 use Rattle.std.specs.Prelude.{ℕ, zero, suc, ◌-◌, ◌≤◌, ◌<◌, false, not, List, [], ◌∷◌, map, ◌≡◌, refl, eqb, leb, length, drop}
-use Rattle.std.proofs.Math.Bool.{true, or_true}
+use Rattle.std.proofs.Math.Bool.{true, or-true}
 use Rattle.std.proofs.Common.{sym, ap, ◌∙◌, arith, drop_at}
 use Rattle.std.proofs.lemmas.List.{length-map}
 use borrow.Author.Tests.{le-leb, lt-ltb, eq-eqb}
@@ -43,7 +43,7 @@ promise_passes t i r =
     rw (le-leb (promised_of t i) (work_of t i) r.within)
     (by-leb 1 (promised_of t i)
     (λ _ h. rw (r.low h))
-    (λ _ h. rw (eq-eqb (promised_of t i) 0 (omega arith)) (or_true (is_low t i))))
+    (λ _ h. rw (eq-eqb (promised_of t i) 0 (omega arith)) (or-true (is_low t i))))
 
 -- a wait: the row that is followed has a lower number, is released no later, and is HI if the follower is
 wait_passes : (t : Table) (i : ℕ) → (1 ≤ follows_of t i → follows_of t i < i) → (1 ≤ follows_of t i → release_of t (follows_of t i) ≤ release_of t i)

@@ -1,6 +1,6 @@
 -- A minus stands in the judge's sentence exactly if the slack is below 0; and byte 15 tells a yes from a no, and both from a figure.
 use Rattle.std.specs.Prelude.{ℕ, zero, suc, ◌+◌, ◌/◌, ◌%◌, ◌^◌, ◌≤◌, Bool, true, false, cond, not, List, [], ◌∷◌, ◌++◌, ◌≡◌, eqb, leb, ℤ, pos, negsuc, nat_abs, get_or}
-use Rattle.std.proofs.Math.Bool.{or_true}
+use Rattle.std.proofs.Math.Bool.{or-true}
 use Rattle.std.proofs.Math.Path.{refl, ap}
 use Rattle.std.proofs.Common.{sym, ◌∙◌, arith, eqb-true, eq-eqb, ne_eqb, leb-true}
 use Rattle.rules.specs.Lists.{count, joined}
@@ -93,7 +93,7 @@ begins_here v k e =
     }
 
 digits_begin : (v k : ℕ) → Begins (joined (digit_if v) (powers (suc k))) is_digit
-digits_begin v zero = begins_here v 0 (or_true (leb 1 v))
+digits_begin v zero = begins_here v 0 (or-true (leb 1 v))
 digits_begin v (suc j) =
     by_bool (has_digit v (10 ^ suc j))
     (begins_here v (suc j))

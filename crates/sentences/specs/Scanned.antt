@@ -1,6 +1,6 @@
 -- Which figures stand in a text: none in words, and in a number in decimal that number.
 use Rattle.std.specs.Prelude.{ℕ, zero, suc, ◌+◌, ◌*◌, ◌/◌, ◌%◌, ◌^◌, ◌≤◌, ◌<◌, Bool, true, false, cond, not, ◌&&◌, ◌||◌, List, [], ◌∷◌, ◌++◌, ◌≡◌, refl, eqb, leb}
-use Rattle.std.proofs.Math.Bool.{or_true}
+use Rattle.std.proofs.Math.Bool.{or-true}
 use Rattle.std.proofs.Common.{true≢false, append_assoc, append-nil, sym, ap, ap₂, ◌∙◌, div-one, div-le_self, pow-suc, arith, le-leb, eq-eqb, ne_eqb}
 use Rattle.std.proofs.Math.Nat.{div-eq_of_lt, div-div-eq-div-mul, min-eq_left}
 use Rattle.std.proofs.lemmas.Bool.{lt-leb}
@@ -81,7 +81,7 @@ digit_here v w e = rw e
 digits_scan : (v k : ℕ) (begun : Bool) (rest : List ℕ) → v ≤ 4294967295 → begun ≡ has_digit v (10 ^ k)
     → scan begun (v / 10 ^ k) (joined (digit_if v) (powers k) ++ rest) ≡ scan true v rest
 digits_scan v zero begun rest h e =
-    ap (λ (b : Bool). scan b (v / 1) rest) (e ∙ or_true (leb 1 v)) ∙ ap (λ (x : ℕ). scan true x rest) (div-one v)
+    ap (λ (b : Bool). scan b (v / 1) rest) (e ∙ or-true (leb 1 v)) ∙ ap (λ (x : ℕ). scan true x rest) (div-one v)
 digits_scan v (suc j) begun rest h e =
     let w = 10 ^ j in
     let lower = joined (digit_if v) (powers j) in

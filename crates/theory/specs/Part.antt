@@ -5,7 +5,7 @@ use Prim.Native.Nat.{ℕ, zero, suc, ◌+◌, ◌-◌, ◌*◌, ◌≤◌, ◌<�
 use Rattle.std.specs.Prelude.{false, cond, ◌≡◌, List, [], ◌∷◌, ◌++◌, map, ◌⊎◌, eqb, length, get_or}
 use Rattle.std.proofs.Math.Path.{refl, ap}
 use Rattle.std.proofs.Common.{sym, ◌∙◌}
-use Rattle.std.proofs.lemmas.List.{map_append, length-map}
+use Rattle.std.proofs.lemmas.List.{map-append, length-map}
 use Rattle.std.proofs.Math.Logic.{inl, inr}
 use native.Mathlib.Omega.{arith}
 use Rattle.std.proofs.Math.ListN.{get_or-append}
@@ -34,7 +34,7 @@ rows_entry : (f : ℕ → ℕ) (n k : ℕ) → k < n → get_or (map f (rows_to 
 rows_entry f zero k h = absurd (omega arith)
 rows_entry f (suc n) k h =
     let l : length (map f (rows_to n)) ≡ n = length-map (rows_to n) f ∙ length_rows n in
-    ap (λ (xs : List ℕ). get_or xs k 0) (map_append f (rows_to n) (suc n ∷ []))
+    ap (λ (xs : List ℕ). get_or xs k 0) (map-append f (rows_to n) (suc n ∷ []))
     ∙ by_eqb k n
     (λ _ q. ap (λ (j : ℕ). get_or (map f (rows_to n) ++ (f (suc n) ∷ [])) j 0) (q ∙ sym l) ∙ get_or-append_seam (map f (rows_to n)) (f (suc n)) [] 0 ∙ ap (λ (j : ℕ). f (suc j)) (sym q))
     (λ _ q. get_or-append (map f (rows_to n)) (f (suc n) ∷ []) 0 k (omega arith) ∙ rows_entry f n k (omega arith))

@@ -1,6 +1,6 @@
 -- Where the rows of an order stand: an order that passes check 6 holds each row once in its first n places, and nothing else.
 use Rattle.std.specs.Prelude.{ℕ, zero, suc, ◌+◌, ◌-◌, ◌≤◌, ◌<◌, Bool, true, ◌||◌, ◌≡◌, refl, List, [], ◌∷◌, ◌++◌, eqb, length, get_or, take, drop}
-use Rattle.std.proofs.Math.Bool.{or_true}
+use Rattle.std.proofs.Math.Bool.{or-true}
 use Rattle.std.proofs.Common.{sym, ap, ◌∙◌, append_assoc, arith, length-append, length-take, take-append-drop, get_or-take, take-suc, eqb-true, eq-eqb, lt-ltb}
 use Rattle.std.proofs.Math.ListN.{get_or-append}
 use Rattle.std.proofs.Math.Seq.{get_or-append_seam}
@@ -149,7 +149,7 @@ sum_lines t o e f =
 pub above_in : (w i : ℕ) (a b : List ℕ) → (w ≡ i → ⊥) → is_above w i (a ++ (i ∷ b)) ≡ true → In w a
 above_in w i a b n e =
     let p : ℕ → Bool = λ x. eqb x w || eqb x i in
-    let own : p i ≡ true = rw (eq-eqb i i refl) (or_true (eqb i w)) in
+    let own : p i ≡ true = rw (eq-eqb i i refl) (or-true (eqb i w)) in
     let z : first p (a ++ (i ∷ b)) ≡ w = eqb-true (first p (a ++ (i ∷ b))) w e in
     let j : In w (a ++ (i ∷ [])) = rw (append_assoc a (i ∷ []) b, z) at (first_above p (a ++ (i ∷ [])) b i (in_last a i) own) in
     omega (arith, count_append w a (i ∷ []), count_other w i [] n)
