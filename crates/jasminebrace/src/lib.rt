@@ -2,6 +2,8 @@
 // Times are in slots, work and supplies in work units, speeds in work units per slot. What is lent as & is only read, and
 // what is lent as &mut is written whole by every call, refusals included, but for the bytes that a sheet, a report or a sentence is written to: those
 // after it stay as they were, and with a refusal all of them do. A list is a pointer and its length.
+#![tactic(auto)]
+
 ghost use Rattle.std.specs.Prelude.{◌≡◌, ◌++◌, ◌+◌, ◌-◌, length, replicate};
 ghost use Rattle.std.specs.Int.{w32};
 ghost use Rattle.std.proofs.Common.{of_z};
@@ -34,7 +36,7 @@ use rules::{Check, Row, Searching, Sought, Table, Verdict};
 use sentences::{JudgeAnswer, Kind, PlanAnswer};
 
 // The judge's number, yes as 1 or 0, the tightest row and its slack in slots (rules 7.2 to 7.4).
-#[derive(Drop)]
+#[derive(Clone, Copy)]
 struct VerdictNumbers {
     number: u32,
     yes: u32,

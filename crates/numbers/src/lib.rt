@@ -1,4 +1,6 @@
 // The numbers and values of the answers, as numbers (section 10 of the rules).
+#![tactic(auto)]
+
 ghost use Rattle.std.specs.Prelude.{◌≡◌};
 ghost use Rattle.rules.specs.Numbers.{refusal_number, check_number, planned_number, rows_left, searched_number, searched_speed};
 ghost use Rattle.record.specs.Answers.{slot_said, forward_said};
@@ -7,21 +9,21 @@ use record::{ForwardAnswer, SlotAnswer};
 use rules::{Check, Planned, Refusal, Searched};
 
 // A run call's number, and its value: the row run, or the slots worked.
-#[derive(Drop)]
+#[derive(Clone, Copy)]
 pub struct CallNumbers {
     pub number: u32,
     pub value: u32,
 }
 
 // The planner's number, and the word of the rows left.
-#[derive(Drop)]
+#[derive(Clone, Copy)]
 pub struct PlanNumbers {
     pub number: u32,
     pub left: u64,
 }
 
 // The number of a search for a speed, and the speed found in work units per slot.
-#[derive(Drop)]
+#[derive(Clone, Copy)]
 pub struct SearchNumbers {
     pub number: u32,
     pub speed: u32,

@@ -1,4 +1,6 @@
 // The planning program: a sheet from standard input, the text of its plan to standard output.
+#![tactic(auto)]
+
 fn main() {
     let mut sheet = [0u8; text::KEPT];
     let kept = io::read_full(0, &mut sheet);

@@ -1,4 +1,5 @@
 // Stored cases of the planning program: for each sheet in data/ its name and what the planning program writes for it.
+#![tactic(auto)]
 
 // One sheet.
 fn show(name: &[u8]) {
