@@ -1,3 +1,4 @@
+-- A refusal answers for itself; where the checks pass, the verdict does.
 use mathlib.Core.Path.{sym, ◌∙◌}
 use Rattle.judge.specs.Promise.{judge_passed, judge_refused, promised}
 use Rattle.judge.proofs.judge_table.Goals as goal

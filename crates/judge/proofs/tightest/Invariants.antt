@@ -1,3 +1,4 @@
+-- The loop's invariant: the row at hand compared with the rows left gives what all rows give, and the slack at hand is its own.
 use Prim.Native.Nat.{◌≤◌, ◌-◌}
 use mathlib.Core.Path.{◌≡◌}
 use Rattle.rules.specs.Lists.{rows_to}

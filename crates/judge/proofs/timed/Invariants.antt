@@ -1,3 +1,5 @@
+-- The loop's invariant: the word has the rows of the first k places, and the two columns their worst finishes and the clocks that their slacks count
+-- from, zeros for the rest.
 use Prim.Native.Nat.{◌≤◌, ◌-◌}
 use mathlib.Core.Path.{◌≡◌}
 use lib.ListN.{length, take}

@@ -1,3 +1,4 @@
+-- The columns' least slack is the order's, and its sign decides.
 use mathlib.Core.Path.{◌≡◌, ap, ◌∙◌}
 use mir.Syntax.{w32}
 use mir.Val.{SFits, to_z, of_z}

@@ -1,3 +1,4 @@
+-- A row's figures go to the columns' next entries while there is room, and none go anywhere after that.
 use native.Mathlib.Omega.{arith}
 use borrow.Author.Tests.{le-ltb, lt-ltb}
 use Rattle.judge.specs.Gather.{with_row}

@@ -1,3 +1,4 @@
+-- The ceiling is not below what an accepted table takes.
 use Prim.Native.Nat.{min, ◌≤◌}
 use mathlib.Core.Path.{◌≡◌, ap, ◌∙◌}
 use native.Mathlib.Omega.{arith}

@@ -1,3 +1,4 @@
+-- A refused table answers for itself; for an accepted one the choice does.
 use mathlib.Core.Path.{sym}
 use Rattle.ceiling.specs.Ceiling.{plan_within}
 use Rattle.planner.proofs.plan_within.Goals as goal
