@@ -1,5 +1,5 @@
 use Rattle.std.proofs.Common.{rules, refl, add-one, arith, length-set}
-use lib.Seq.{paste-zero, paste-suc}
+use Rattle.std.proofs.Math.Seq.{paste-zero, paste-suc}
 use Rattle.fields.specs.Wrote.{wrote_bytes}
 use Rattle.phrases.proofs.put_words.Goals as goal
 

@@ -1,6 +1,6 @@
 -- The first i bytes of the words are copied.
 use Rattle.std.proofs.Common.{◌-◌, ◌≤◌, ◌≡◌, length}
-use lib.Seq.{paste}
+use Rattle.std.proofs.Math.Seq.{paste}
 use Rattle.phrases.proofs.put_words.Given as goal
 
 abbrev pub invariant-loop-i : goal.invariant-loop-i
