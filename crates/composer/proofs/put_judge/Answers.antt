@@ -1,5 +1,5 @@
 -- The opening, the row, the slack and the full stop, one after the other.
-use Rattle.std.proofs.Common.{◌≡◌, ◌+◌, [], ◌∷◌, ℤ, length, ap, arith, rules, SFits, w32, to_z-of_z, to_z, of_z, to_z-of_z}
+use Rattle.std.proofs.Common.{◌≡◌, ◌+◌, [], ◌∷◌, ℤ, length, ap, arith, rules, SFits, w32, to_z, of_z, to_z-of_z}
 use Rattle.texts.specs.Decimals.{decimal}
 use Rattle.texts.specs.Quoted.{bytes}
 use Rattle.sentences.specs.declared.JudgeAnswer.{JudgeAnswer}

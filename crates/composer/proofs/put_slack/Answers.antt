@@ -1,5 +1,5 @@
 -- Below 0 the minus and then the size with its noun, else the size with its noun alone.
-use Rattle.std.proofs.Common.{ℕ, ◌≡◌, ◌+◌, true, false, [], ◌∷◌, ℤ, pos, negsuc, nat_abs, length, refl, sym, ap, ◌∙◌, arith, ltb-true, SFits, w32, to_z-of_z, to_z, of_z, to_z-of_z}
+use Rattle.std.proofs.Common.{ℕ, ◌≡◌, ◌+◌, true, false, [], ◌∷◌, ℤ, pos, negsuc, nat_abs, length, refl, sym, ap, ◌∙◌, arith, ltb-true, SFits, w32, to_z, of_z, to_z-of_z}
 use Rattle.std.specs.Int.Signed.{lt_z}
 use Rattle.texts.specs.Quoted.{bytes, together}
 use Rattle.sentences.specs.Sentences.{counted, slack_words}

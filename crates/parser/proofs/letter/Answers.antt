@@ -1,6 +1,6 @@
 -- A list has 0 where it has no entry.
 use Rattle.std.proofs.Common.{sym}
-use lib.ListN.{get_or-eq_default}
+use Rattle.std.proofs.Math.ListN.{get_or-eq_default}
 use Rattle.parser.proofs.letter.Goals as goal
 
 pub returns-then-bytes-le15 : goal.returns-then-bytes-le15

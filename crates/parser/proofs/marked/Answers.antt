@@ -1,6 +1,6 @@
 -- The tests in turn settle whether the row is one of 64 and whether its bit is clear.
 use Rattle.std.proofs.Common.{◌-◌, ◌/◌, ◌%◌, ◌^◌, le-leb, eq-eqb, ne_eqb, sym, ◌∙◌, arith}
-use borrow.Author.Tests.{lt-leb}
+use Rattle.std.proofs.lemmas.Bool.{lt-leb}
 use Rattle.sweep.specs.Masks.{left_bit, not_left_bit, bit}
 use Rattle.sentences.specs.Reading.{marked}
 use Rattle.parser.proofs.marked.Goals as goal
