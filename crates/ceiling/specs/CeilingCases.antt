@@ -14,7 +14,7 @@ use Rattle.rules.specs.Numbers.{refusal_number, planned_number, rows_left}
 use Rattle.rules.specs.Slots.{fresh, is_pending, is_waiting, is_ready, chosen, is_over, brought, serve, slot}
 use Rattle.rules.specs.Tables.{row_ok, tail_ok, promise_ok, check_wait, check_table}
 use Rattle.rules.specs.Worst.{horizon, worst_finish, promised_moment, slack, meets}
-use Rattle.theory.specs.Results.{choice_order, choice_correct, choice_none}
+use Rattle.theory.proofs.Results.{choice_order, choice_correct, choice_none}
 use Rattle.ceiling.specs.declared.Counted.{Counted}
 use Rattle.ceiling.specs.Ceiling.{trials_at, trials_from, trial_count, most_trials, plan_within}
 

@@ -11,7 +11,7 @@ use Rattle.rules.specs.Numbers.{refusal_number, check_number, planned_number, ro
 use Rattle.rules.specs.Tables.{check_table, Accepted}
 use Rattle.ceiling.specs.declared.Counted.{Counted}
 use Rattle.ceiling.specs.Ceiling.{trial_count, over_ceiling, plan_within}
-use Rattle.ceiling.specs.Bounds.{by_accepted, count_most, within_count, over_count, refused_count_lem}
+use Rattle.ceiling.proofs.Bounds.{by_accepted, count_most, within_count, over_count, refused_count_lem}
 use Rattle.theory.specs.Tests.{by_eqb, by-ltb}
 use Rattle.conclusions.specs.Conclusions.{PlannerWithin}
 use Rattle.conclusions.specs.Planned.{planned}

@@ -9,13 +9,13 @@ use Rattle.rules.specs.declared.Check.TheVariants.{Passed, Refused}
 use Rattle.rules.specs.declared.Searching.{Searching}
 use Rattle.rules.specs.Choice.{choice, padded, plan_of}
 use Rattle.rules.specs.Correct.{CorrectOrder}
-use Rattle.rules.specs.Meaning.{Serves, correct_serves, serves_correct}
+use Rattle.rules.proofs.Meaning.{Serves, correct_serves, serves_correct}
 use Rattle.rules.specs.Numbers.{check_number, searched_number, searched_speed}
 use Rattle.rules.specs.Orders.{is_order}
 use Rattle.rules.specs.Tables.{check_table, Accepted, FullTable}
 use Rattle.texts.specs.Sheets.{read_of}
 use Rattle.searches.specs.Speeds.{at_speed, slowest, fastest, least_speed, search_checked, search_of, search_read, search_sheet}
-use Rattle.theory.specs.Speeds.{accepted_at, order_at_lem}
+use Rattle.theory.proofs.Faster.{accepted_at, order_at_lem}
 use Rattle.theory.specs.Tests.{by_eqb}
 use Rattle.planner.specs.Promise.{refusal_number_lem, promised}
 use Rattle.speeds.specs.Promise.{Promise, promised_search, promised_sheet}

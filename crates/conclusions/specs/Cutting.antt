@@ -12,16 +12,16 @@ use Rattle.rules.specs.Rows.{at, rows_of}
 use Rattle.rules.specs.Tables.{Accepted}
 use Rattle.theory.specs.Counts.{In, Within, empty}
 use Rattle.theory.specs.Facts.{facts}
-use Rattle.theory.specs.Finishes.{once_of}
+use Rattle.theory.proofs.Finishes.{once_of}
 use Rattle.theory.specs.Tests.{by_eqb, by-leb}
 use Rattle.choices.specs.Choices.{rows_in}
-use Rattle.lowest.specs.Counted.{rows_chosen}
+use Rattle.lowest.proofs.Counted.{rows_chosen}
 use Rattle.stuck.specs.Stuck.{is_stuck, left_rows, left_after, cut, remaining, upward}
 use Rattle.stuck.specs.Sets.{chosen_same}
-use Rattle.stuck.specs.Trouble.{left_stuck, stuck_inside, way_leaves, choice_way, left_told, left_chosen, order_left, zero_none, seven_some, order_exactly}
-use Rattle.stuck.specs.Cuts.{cut_accepted, cut_gone, cut_fewer, cut_again, cut_same}
-use Rattle.stuck.specs.Held.{held_none}
-use Rattle.stuck.specs.Slacks.{short_or_followed}
+use Rattle.stuck.proofs.Trouble.{left_stuck, stuck_inside, way_leaves, choice_way, left_told, left_chosen, order_left, zero_none, seven_some, order_exactly}
+use Rattle.stuck.proofs.Cuts.{cut_accepted, cut_gone, cut_fewer, cut_again, cut_same}
+use Rattle.stuck.proofs.Held.{held_none}
+use Rattle.stuck.proofs.Slacks.{short_or_followed}
 use Rattle.conclusions.specs.Conclusions.{answer_for, left_for, AfterCuts, Cutting}
 
 within_of : (t : Table) (a b : List ℕ) → Within a (rows_of t) → ((x : ℕ) → In x a → In x b) → Within a b

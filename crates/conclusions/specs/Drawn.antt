@@ -7,28 +7,28 @@ use Rattle.rules.specs.declared.Table.{Table}
 use Rattle.rules.specs.Calls.{last_clock, Call, one, forward, supply_from}
 use Rattle.rules.specs.Correct.{earliest}
 use Rattle.proposal.specs.Days.{just_runs}
-use Rattle.rules.specs.Meaning.{Serves}
+use Rattle.rules.proofs.Meaning.{Serves}
 use Rattle.rules.specs.Orders.{is_order}
 use Rattle.rules.specs.Rows.{at}
 use Rattle.rules.specs.Running.{run_after}
 use Rattle.rules.specs.Slots.{State, chosen}
 use Rattle.rules.specs.Tables.{Accepted}
 use Rattle.theory.specs.Facts.{Row, facts, is_row_lem, followed_row_lem}
-use Rattle.theory.specs.Results.{running_low, running_high}
+use Rattle.theory.proofs.Results.{running_low, running_high}
 use Rattle.theory.specs.Tests.{by_bool, by_eqb}
 use Rattle.rules.specs.declared.Check.TheVariants.{Passed}
 use Rattle.rules.specs.Choice.{plan_of}
 use Rattle.rules.specs.Numbers.{check_number, planned_number}
 use Rattle.record.specs.Answers.{forward_said}
 use Rattle.record.specs.declared.Run.{Run}
-use Rattle.record.specs.Fresh.{start_sized}
-use Rattle.record.specs.Kept.{Sized, sized_kept}
+use Rattle.record.proofs.Fresh.{start_sized}
+use Rattle.record.proofs.Kept.{Sized, sized_kept}
 use Rattle.record.specs.Records.{start_run, fresh_of, is_sound, next_run, one_slot, work_on, forward_over}
-use Rattle.guarantee.specs.Concluded as Concluded
-use Rattle.guarantee.specs.Concluded.{Supplied, SuppliedTo, Done, Deadlines, Closings, Waited, in_time_lem, closings_are}
-use Rattle.guarantee.specs.Listed.{run_paper, ListRight, list_right}
+use Rattle.guarantee.proofs.Concluded as Concluded
+use Rattle.guarantee.proofs.Concluded.{Supplied, SuppliedTo, Done, Deadlines, Closings, Waited, in_time_lem, closings_are}
+use Rattle.guarantee.proofs.Listed.{run_paper, ListRight, list_right}
 use Rattle.guarantee.specs.Playing.{make, make_all}
-use Rattle.guarantee.specs.Proved.{demand_3}
+use Rattle.guarantee.proofs.Proved.{demand_3}
 use Rattle.words.specs.Inverse.{words_of_table_in}
 use Rattle.words.specs.Words.{table_in, words_of, run_in, state_words}
 use Rattle.conclusions.specs.declared.Drawing.{Drawing}

@@ -14,17 +14,17 @@ use Rattle.rules.specs.Slots.{is_pending}
 use Rattle.theory.specs.Cells.{brought_none, brought_all, is_pending_lem, Ready, chosen_ready}
 use Rattle.theory.specs.Facts.{Row, TableFacts, both_accepted, both_order, is_row_lem}
 use Rattle.theory.specs.Late.{closed_at}
-use Rattle.theory.specs.Results.{first_pending}
-use Rattle.theory.specs.Runs.{none_pending}
+use Rattle.theory.proofs.Results.{first_pending}
+use Rattle.theory.proofs.Runs.{none_pending}
 use Rattle.theory.specs.Tests.{by_bool, by_eqb, by-leb, not_both}
 use Rattle.columns.specs.Entries.{put_same, put_other}
 use Rattle.columns.specs.Figures.{over, sound_facts, due_at}
 use Rattle.record.specs.declared.Run.{Run}
 use Rattle.record.specs.Answers.{slot_said}
 use Rattle.record.specs.Checked.{limits}
-use Rattle.record.specs.Kept.{Sized, next_idle, sized_worked, sized_kept}
+use Rattle.record.proofs.Kept.{Sized, next_idle, sized_worked, sized_kept}
 use Rattle.record.specs.Records.{state_of, is_sound, chosen_row, next_run, worked_run, closed_run, coming_slot, one_slot}
-use Rattle.record.specs.Sound.{sound_so}
+use Rattle.record.proofs.Sound.{sound_so}
 use Rattle.record.specs.Stepping.{got_next, closing_next, rested, served, worked_served, next_looks}
 use Rattle.forward.specs.Forwarding.{worked_clock, next_clock}
 use Rattle.rules.specs.Tables.{FullTable}

@@ -14,9 +14,9 @@ use Rattle.record.specs.declared.Run.{Run}
 use Rattle.record.specs.declared.Forwarded.{Forwarded}
 use Rattle.record.specs.declared.ForwardAnswer.TheVariants.{Worked, ClockOver}
 use Rattle.record.specs.Answers.{forward_said}
-use Rattle.record.specs.Kept.{Sized, sized_kept, sound_kept}
+use Rattle.record.proofs.Kept.{Sized, sized_kept, sound_kept}
 use Rattle.record.specs.Records.{is_sound, next_run, one_slot, work_on, forward_over}
-use Rattle.record.specs.Sound.{sound_so}
+use Rattle.record.proofs.Sound.{sound_so}
 use Rattle.forward.specs.Forwarding.{next_clock}
 use Rattle.words.specs.Words.{run_in, state_words}
 use Rattle.words.specs.Inverse.{state_words_of_run_in}

@@ -12,7 +12,7 @@ use Rattle.rules.specs.declared.Check.{Check}
 use Rattle.rules.specs.declared.Check.TheVariants.{Passed, Refused}
 use Rattle.rules.specs.Lists.{rows_to}
 use Rattle.rules.specs.Judge.{least_slack, tightest, judge_of}
-use Rattle.rules.specs.Meaning.{correct_serves, serves_correct}
+use Rattle.rules.proofs.Meaning.{correct_serves, serves_correct}
 use Rattle.rules.specs.Numbers.{check_number, verdict_number, verdict_yes, verdict_row, verdict_slack}
 use Rattle.rules.specs.Orders.{is_order, check_both}
 use Rattle.rules.specs.Rows.{at, rows_of}
@@ -20,7 +20,7 @@ use Rattle.rules.specs.Tables.{Accepted}
 use Rattle.rules.specs.Worst.{worst_speed, horizon, worst_finish, slack}
 use Rattle.theory.specs.Counts.{In}
 use Rattle.theory.specs.Facts.{Row, facts, is_row_lem, in_rows, count_rows, both_pass}
-use Rattle.theory.specs.Results.{lasting}
+use Rattle.theory.proofs.Results.{lasting}
 use Rattle.theory.specs.Tests.{by_bool, by_eqb, by-leb}
 use Rattle.judge.specs.Checked.{checked}
 use Rattle.judge.specs.Late.{tightest_row}

@@ -13,7 +13,7 @@ use Rattle.rules.specs.declared.Check.{Check}
 use Rattle.rules.specs.declared.Check.TheVariants.{Passed, Refused}
 use Rattle.rules.specs.Judge.{tightest, judge_of}
 use Rattle.rules.specs.Lists.{rows_to, joined}
-use Rattle.rules.specs.Meaning.{correct_serves, serves_correct}
+use Rattle.rules.proofs.Meaning.{correct_serves, serves_correct}
 use Rattle.rules.specs.Numbers.{refusal_number, check_number, verdict_row, verdict_slack}
 use Rattle.rules.specs.Orders.{is_order, check_order, check_both}
 use Rattle.rules.specs.Rows.{at, need_of}

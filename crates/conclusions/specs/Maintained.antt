@@ -8,17 +8,17 @@ use Rattle.rules.specs.declared.Table.{Table}
 use Rattle.rules.specs.declared.Check.{Check}
 use Rattle.rules.specs.declared.Check.TheVariants.{Passed, Refused}
 use Rattle.rules.specs.Choice.{padded}
-use Rattle.rules.specs.Meaning.{correct_serves, serves_correct}
+use Rattle.rules.proofs.Meaning.{correct_serves, serves_correct}
 use Rattle.rules.specs.Numbers.{refusal_number, check_number}
 use Rattle.rules.specs.Rows.{at, rows_of}
 use Rattle.rules.specs.Tables.{check_table, Accepted}
 use Rattle.theory.specs.Counts.{sum_eq}
 use Rattle.theory.specs.Facts.{TableFacts, facts, rows_in_lem}
 use Rattle.theory.specs.Tests.{by-leb}
-use Rattle.ceiling.specs.Bounds.{by_accepted}
+use Rattle.ceiling.proofs.Bounds.{by_accepted}
 use Rattle.sweep.specs.Padded.{padded_at, padded_beyond, rows_length}
 use Rattle.choices.specs.Choices.{Counting, rows_in, alone, choices, choices_lowest, choices_of, words_to, counted, count_of}
-use Rattle.lowest.specs.Counted.{word_few, word_accepted, choices_zero, choices_all, choices_small, choices_sum, none_seven, correct_orders, orders_long, orders_lowest, orders_once, orders_only}
+use Rattle.lowest.proofs.Counted.{word_few, word_accepted, choices_zero, choices_all, choices_small, choices_sum, none_seven, correct_orders, orders_long, orders_lowest, orders_once, orders_only}
 use Rattle.planner.specs.Promise.{refusal_number_lem}
 use Rattle.counter.specs.Answers.{refused_table, refused_rows, refused_room, passed_count}
 use Rattle.counter.specs.Words.{filled_entry, filled_length, done_length}

@@ -6,7 +6,7 @@ use Rattle.rules.specs.declared.Table.{Table}
 use Rattle.rules.specs.Lists.{same}
 use Rattle.rules.specs.Rows.{at}
 use Rattle.theory.specs.Tests.{by_bool, by-leb, by-ltb, by_eqb}
-use Rattle.ceiling.specs.Bounds.{by_accepted}
+use Rattle.ceiling.proofs.Bounds.{by_accepted}
 use Rattle.choices.specs.Choices.{how_many, rows_in, alone}
 use Rattle.lowest.specs.Many.{same_equal, equal_same}
 use Rattle.conclusions.specs.Conclusions.{AllOrders, SoMany, Maintainer}

@@ -14,12 +14,12 @@ use Rattle.rules.specs.Tables.{Accepted}
 use Rattle.rules.specs.Worst.{worst_speed, horizon, worst_finish, promised_moment, slack}
 use Rattle.theory.specs.Counts.{first_passes}
 use Rattle.theory.specs.Facts.{Row, TableFacts, facts}
-use Rattle.theory.specs.Part.{part_table, part_row}
+use Rattle.theory.proofs.Part.{part_table, part_row}
 use Rattle.theory.specs.Places.{placed}
-use Rattle.theory.specs.Promised.{latest, part_of, is_part, part_known, moment_order, moment_first}
-use Rattle.theory.specs.Promised as Promised
+use Rattle.theory.proofs.Promised.{latest, part_of, is_part, part_known, moment_order, moment_first}
+use Rattle.theory.proofs.Promised as Promised
 use Rattle.theory.specs.Tests.{by_bool, by-leb, by-ltb, not_both}
-use Rattle.theory.specs.Verdict.{finished}
+use Rattle.theory.proofs.Verdict.{finished}
 use Rattle.conclusions.specs.Conclusions.{PartRun, slack_of}
 
 -- the promised moment, in slots, and 0 of a row that is promised nothing

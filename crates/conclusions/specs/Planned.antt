@@ -8,13 +8,13 @@ use Rattle.rules.specs.declared.Table.{Table}
 use Rattle.rules.specs.declared.Check.{Check}
 use Rattle.rules.specs.declared.Check.TheVariants.{Passed, Refused}
 use Rattle.rules.specs.Choice.{choice, plan_from, plan_checked, plan_of}
-use Rattle.rules.specs.Meaning.{correct_serves, serves_correct}
+use Rattle.rules.proofs.Meaning.{correct_serves, serves_correct}
 use Rattle.rules.specs.Numbers.{planned_number, rows_left}
 use Rattle.rules.specs.Rows.{at, is_row}
 use Rattle.rules.specs.Tables.{check_table, Accepted}
 use Rattle.rules.specs.Worst.{slack}
 use Rattle.planner.specs.Promise.{refusal_number_lem, promised}
-use Rattle.theory.specs.Results.{verdict, natural_slack}
+use Rattle.theory.proofs.Results.{verdict, natural_slack}
 use Rattle.theory.specs.Tests.{by_eqb}
 use Rattle.conclusions.specs.Conclusions.{Planner}
 use Rattle.conclusions.specs.Ordered.{order_plain}

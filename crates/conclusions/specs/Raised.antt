@@ -6,13 +6,13 @@ use Rattle.std.proofs.Math.Path.{subst}
 use Rattle.std.specs.Int.Signed.{lt_z}
 use Rattle.rules.specs.declared.Table.{Table}
 use Rattle.rules.specs.declared.Sought.TheVariants.{Degraded, Normal}
-use Rattle.rules.specs.Meaning.{Serves, correct_serves, serves_correct}
+use Rattle.rules.proofs.Meaning.{Serves, correct_serves, serves_correct}
 use Rattle.rules.specs.Orders.{is_order}
 use Rattle.rules.specs.Tables.{Accepted}
 use Rattle.rules.specs.Worst.{slack}
 use Rattle.searches.specs.Speeds.{with_speeds, at_speed}
 use Rattle.theory.specs.Facts.{is_row_lem}
-use Rattle.theory.specs.Results.{larger_speeds, slack_larger}
+use Rattle.theory.proofs.Results.{larger_speeds, slack_larger}
 use Rattle.words.specs.Words.{table_in}
 use Rattle.conclusions.specs.Cooled.{at_word}
 

@@ -11,25 +11,25 @@ use Rattle.record.specs.declared.Run.{Run}
 use Rattle.proposal.specs.declared.Asking.{Asking}
 use Rattle.proposal.specs.declared.Committed.{Committed}
 use Rattle.rules.specs.Calls.{Call}
-use Rattle.rules.specs.Meaning.{Serves, correct_serves, serves_correct}
+use Rattle.rules.proofs.Meaning.{Serves, correct_serves, serves_correct}
 use Rattle.rules.specs.Numbers.{refusal_number, check_number, planned_number, rows_left}
 use Rattle.rules.specs.Orders.{is_order, check_both}
 use Rattle.rules.specs.Rows.{at, is_row}
 use Rattle.rules.specs.Tables.{Accepted, zero_table}
 use Rattle.texts.specs.Sheets.{read_of}
 use Rattle.theory.specs.Facts.{both_pass, facts, is_row_lem}
-use Rattle.theory.specs.Finishes.{earliest_first}
+use Rattle.theory.proofs.Finishes.{earliest_first}
 use Rattle.theory.specs.Tests.{by_bool}
 use Rattle.planner.specs.Promise.{refusal_number_lem}
 use Rattle.judge.specs.Checked.{checked}
 use Rattle.record.specs.Records.{is_sound, state_of, start_run}
-use Rattle.record.specs.Sound.{speeds}
-use Rattle.proposal.specs.Asked as Asked
-use Rattle.proposal.specs.Asked.{ForTheRecord, asked_good, good_commits}
+use Rattle.record.proofs.Sound.{speeds}
+use Rattle.proposal.proofs.Asked as Asked
+use Rattle.proposal.proofs.Asked.{ForTheRecord, asked_good, good_commits}
 use Rattle.proposal.specs.Commits.{check_commit, commit_of}
 use Rattle.proposal.specs.Proposals.{ask_of, check_proposal}
-use Rattle.proposal.specs.Passing.{by_check, Turned, turns, refused_not, own_refusal, not_correct, row_open, released_before}
-use Rattle.proposal.specs.Renewing.{check_renews}
+use Rattle.proposal.proofs.Passing.{by_check, Turned, turns, refused_not, own_refusal, not_correct, row_open, released_before}
+use Rattle.proposal.proofs.Renewing.{check_renews}
 use Rattle.words.specs.Words.{table_in, words_of, run_in, state_words}
 use Rattle.words.specs.Inverse.{words_of_table_in, table_in_words_of, state_words_of_run_in}
 use Rattle.conclusions.specs.declared.Begun.{Begun}

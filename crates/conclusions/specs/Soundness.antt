@@ -15,7 +15,7 @@ use Rattle.theory.specs.Tests.{by_bool, by_eqb, by-leb, and_left, and_right, not
 use Rattle.columns.specs.Figures.{over, Sound, closing_sound, sound_facts, sound_test, open_so}
 use Rattle.record.specs.declared.Run.{Run}
 use Rattle.record.specs.Records.{tail_sound, is_sound}
-use Rattle.record.specs.Sound.{sound_so, is_sound_lem}
+use Rattle.record.proofs.Sound.{sound_so, is_sound_lem}
 use Rattle.words.specs.Words.{table_in, run_in}
 use Rattle.conclusions.specs.Conclusions.{OrderIn}
 use Rattle.conclusions.specs.Entries.{column_full, table_words, state_words_lem}

@@ -17,15 +17,15 @@ use Rattle.rules.specs.Tables.{Accepted}
 use Rattle.rules.specs.Worst.{worst_speed, worst_finish, promised_moment}
 use Rattle.theory.specs.Caps.{cap}
 use Rattle.theory.specs.Cells.{at_put_same, at_put_other}
-use Rattle.theory.specs.Choosing.{none_follow, follow_none, keep_in, in_keep}
+use Rattle.theory.proofs.Choosing.{none_follow, follow_none, keep_in, in_keep}
 use Rattle.theory.specs.Counts.{In, Within, Same, erase_last}
 use Rattle.theory.specs.Facts.{Row, TableFacts, facts, rows_in_lem, in_rows, followed_row_lem}
-use Rattle.theory.specs.Finishes.{rows_of_lem, once_of, worst_sweep}
-use Rattle.theory.specs.Promised.{part_of, moment_sweep, latest, meets_is}
+use Rattle.theory.proofs.Finishes.{rows_of_lem, once_of, worst_sweep}
+use Rattle.theory.proofs.Promised.{part_of, moment_sweep, latest, meets_is}
 use Rattle.theory.specs.Sorting.{same_sort}
 use Rattle.theory.specs.Sweep.{sweep}
 use Rattle.theory.specs.Tests.{by_bool, by_eqb, and_true, and_assoc, both_ways}
-use Rattle.theory.specs.Waiting.{unbound, unbound_table}
+use Rattle.theory.proofs.Waiting.{unbound, unbound_table}
 use Rattle.sweep.specs.CapColumn.{part_needs}
 use Rattle.sweep.specs.Finds.{by_release, queued, queued_sorted, finds, zero_entry}
 use Rattle.sweep.specs.Holds.{count_keep_le, count_kept, count_dropped}
@@ -40,7 +40,8 @@ use Rattle.trials.specs.Opening.{open_to, open_clear, open_whole}
 use Rattle.trials.specs.Prepared.{caps_at, at_level}
 use Rattle.trials.specs.Taking.{entry_of, entry_at, entry_place, cap_entry, queue_is, later_both, sequence_length}
 use Rattle.choices.specs.Choices.{rows_in}
-use Rattle.lowest.specs.Standing.{may_stand, free_stand}
+use Rattle.lowest.specs.Standing.{may_stand}
+use Rattle.lowest.proofs.Standing.{free_stand}
 use Rattle.counter.specs.Testing.{AllIn, stands_in}
 
 module _ (t : Table) (accepted : Accepted t) where

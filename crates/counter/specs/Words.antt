@@ -14,7 +14,7 @@ use Rattle.theory.specs.Tests.{by_bool, by_eqb, by-ltb, and_left}
 use Rattle.sweep.specs.Masks.{bit, is_left, bit_le, left_bit, bit_left, full_bit}
 use Rattle.sweep.specs.Padded.{map_append, map_same}
 use Rattle.choices.specs.Choices.{rows_in, choices, choices_lowest, choices_of, words_to, counted}
-use Rattle.lowest.specs.Counted.{some_row, choices_zero, choices_step, choices_all, all_in_word, choices_small, lowest_choices}
+use Rattle.lowest.proofs.Counted.{some_row, choices_zero, choices_step, choices_all, all_in_word, choices_small, lowest_choices}
 use Rattle.lowest.specs.Standing.{may_stand}
 use Rattle.counter.specs.Summing.{without_row}
 use Rattle.counter.specs.Testing.{standing_to, standing_bit, standing_above}

@@ -10,7 +10,7 @@ use Rattle.record.specs.declared.Run.{Run}
 use Rattle.record.specs.declared.Forwarded.{Forwarded}
 use Rattle.record.specs.declared.ForwardAnswer.TheVariants.{Worked, ClockOver}
 use Rattle.record.specs.Records.{next_run, worked_run, closed_run, due_of, chosen_row, work_on}
-use Rattle.record.specs.Sound.{runs}
+use Rattle.record.proofs.Sound.{runs}
 use Rattle.record.specs.Stepping.{closing_next, served, worked_idle, worked_served, next_looks, closed_fields, closed_early}
 use Rattle.columns.specs.Dues.{due_later}
 use Rattle.columns.specs.Entries.{put_other}

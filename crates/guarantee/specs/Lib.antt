@@ -2,9 +2,6 @@ pub mod Playing
 pub mod Paper
 pub mod Supplies
 pub mod Claim
-pub mod Listed
-pub mod Concluded
-pub mod Proved
 pub mod Encoding
 pub mod Shown
 pub mod Reading

@@ -5,8 +5,8 @@ use mathlib.Core.List.{List, [], ◌∷◌}
 use Rattle.record.specs.declared.Run.{Run}
 use Rattle.record.specs.Answers.{slot_said, forward_said}
 use Rattle.record.specs.Records.{record_of, is_sound, next_run, chosen_row, one_slot, work_on, forward_over}
-use Rattle.record.specs.Fresh.{start_sound, start_sized}
-use Rattle.record.specs.Kept.{Sized, sized_kept, sound_kept}
+use Rattle.record.proofs.Fresh.{start_sound, start_sized}
+use Rattle.record.proofs.Kept.{Sized, sized_kept, sound_kept}
 use Rattle.rules.specs.declared.Table.{Table}
 use Rattle.rules.specs.Calls.{last_clock, Call, one, forward, Told, tell_one, tell_forward, tell}
 use Rattle.proposal.specs.Days.{Act, run, commit, InHand, ActTold, tell_act, tell_day}
@@ -15,7 +15,7 @@ use Rattle.rules.specs.Running.{run_slot}
 use Rattle.rules.specs.Slots.{State}
 use Rattle.theory.specs.Tests.{by_bool}
 use Rattle.proposal.specs.Commits.{check_commit, commit_of}
-use Rattle.proposal.specs.Passing.{by_check, turned}
+use Rattle.proposal.proofs.Passing.{by_check, turned}
 use Rattle.guarantee.specs.Playing.{Made, make, make_act, make_day}
 
 -- the record of this state is sound and has full columns

@@ -23,11 +23,11 @@ use Rattle.rules.specs.Tables.{Accepted}
 use Rattle.theory.specs.Tests.{by-ltb}
 use Rattle.theory.specs.Ends.{clock_run}
 use Rattle.theory.specs.Facts.{Row, facts}
-use Rattle.theory.specs.Finishes.{earliest_first}
-use Rattle.theory.specs.Starting.{started}
+use Rattle.theory.proofs.Finishes.{earliest_first}
+use Rattle.theory.proofs.Starting.{started}
 use Rattle.record.specs.Checked.{limits}
 use Rattle.judge.specs.Checked.{checked}
-use Rattle.proposal.specs.Passing.{by_check, turned}
+use Rattle.proposal.proofs.Passing.{by_check, turned}
 
 -- the next supply of what is left of a list
 head_at : (l : List ℕ) (k v : ℕ) (more : List ℕ) → drop k l ≡ v ∷ more → get_or l k 0 ≡ v

@@ -14,7 +14,7 @@ use Rattle.rules.specs.Judge.{tightest, verdict_at, judge_of}
 use Rattle.rules.specs.Numbers.{verdict_yes}
 use Rattle.theory.specs.Tests.{by_bool, not_both}
 use Rattle.theory.specs.Facts.{facts, row_is, is_row_lem, in_rows}
-use Rattle.theory.specs.Results.{verdict}
+use Rattle.theory.proofs.Results.{verdict}
 use Rattle.judge.specs.Checked.{checked}
 use Rattle.judge.specs.Late.{late_tightest, tightest_row}
 

@@ -12,8 +12,8 @@ use Rattle.rules.specs.Worst.{worst_speed, worst_finish, promised_moment, slack,
 use Rattle.theory.specs.Caps.{cap}
 use Rattle.theory.specs.Counts.{In, Once, Within, Same, in_head, in_tail, in_last, erase_last, count_append, count_same, sum_same}
 use Rattle.theory.specs.Facts.{Row, TableFacts}
-use Rattle.theory.specs.Finishes.{rows_of_lem, once_of, worst_sweep}
-use Rattle.theory.specs.Promised.{part_of, moment_sweep, latest, slack_is, meets_is}
+use Rattle.theory.proofs.Finishes.{rows_of_lem, once_of, worst_sweep}
+use Rattle.theory.proofs.Promised.{part_of, moment_sweep, latest, slack_is, meets_is}
 use Rattle.theory.specs.Sorting.{Sorted, sort_by, sorted_sort, same_sort}
 use Rattle.theory.specs.Sweep.{sweep}
 use Rattle.theory.specs.Tests.{by_bool, by_eqb}

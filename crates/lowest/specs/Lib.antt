@@ -2,7 +2,3 @@ pub mod Many
 pub mod Listed
 pub mod Standing
 pub mod Images
-pub mod Alone
-pub mod Accepting
-pub mod Counted
-pub mod TwelveCases

@@ -5,7 +5,7 @@ use Rattle.std.proofs.lemmas.List.{length-map, set-get_or}
 use Rattle.std.proofs.Math.ListN.{get_or-eq_default}
 use Rattle.rules.specs.Choice.{padded}
 use Rattle.sentences.specs.Reading.{figures_in, marked, word_of, small}
-use Rattle.sentences.specs.RoundTrip.{word_append}
+use Rattle.sentences.proofs.RoundTrip.{word_append}
 use Rattle.sweep.specs.Padded.{padded_more, padded_beyond, map_append}
 use Rattle.theory.specs.Tests.{by-ltb}
 use Rattle.parser.specs.declared.Figure.{Figure}

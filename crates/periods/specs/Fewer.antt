@@ -3,7 +3,7 @@ use Rattle.std.specs.Prelude.{ℕ, zero, suc, ◌+◌, ◌-◌, ◌≤◌, ◌<�
 use Rattle.std.proofs.Common.{sym, ap, ◌∙◌, arith}
 use Rattle.rules.specs.Lists.{keep}
 use Rattle.theory.specs.Tests.{by_bool, by-ltb, by-leb}
-use Rattle.theory.specs.Sweep.{sweep_ge}
+use Rattle.theory.proofs.Sweep.{sweep_ge}
 use Rattle.periods.specs.Busy.{row, LeftAt, Rising, busy_to, from, finish, from_end, from_skip, from_early, from_busy, from_free, stops}
 use Rattle.periods.specs.Busy.{busy_row, busy_skip, busy_past, reach, free}
 

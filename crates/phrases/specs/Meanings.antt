@@ -4,7 +4,7 @@ use Rattle.std.proofs.Common.{sym, arith}
 use Rattle.std.proofs.Math.Path.{ap}
 use Rattle.std.proofs.Math.Arith.{lt_of_le-ne}
 use Rattle.texts.specs.Quoted.{bytes}
-use Rattle.sentences.specs.Longest.{beyond}
+use Rattle.sentences.proofs.Longest.{beyond}
 use Rattle.sentences.specs.Sentences.{meanings, words_at, meaning}
 
 -- a number that is none of the k from b on

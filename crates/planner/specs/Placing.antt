@@ -9,7 +9,7 @@ use Rattle.rules.specs.declared.Planning.{Planning}
 use Rattle.rules.specs.declared.Refusal.{Refusal}
 use Rattle.ceiling.specs.declared.Counted.{Counted}
 use Rattle.ceiling.specs.Ceiling.{trials_at, trials_from, trial_count, over_ceiling, counted_from}
-use Rattle.ceiling.specs.Bounds.{trials_none, trials_stuck, trials_turn}
+use Rattle.ceiling.proofs.Bounds.{trials_none, trials_stuck, trials_turn}
 use Rattle.rules.specs.Lists.{count, erase}
 use Rattle.rules.specs.Rows.{rows_of}
 use Rattle.rules.specs.Tables.{Accepted}
@@ -19,7 +19,7 @@ use Rattle.theory.specs.Counts.{In, first_in, same_size, keep_all}
 use Rattle.theory.specs.Facts.{Row, TableFacts, facts, rows_in_lem}
 use Rattle.theory.specs.Waits.{Closed, rows_closed}
 use Rattle.theory.specs.Places.{length_rows}
-use Rattle.theory.specs.Choosing.{same_sequence, lowest_stands, keep_in}
+use Rattle.theory.proofs.Choosing.{same_sequence, lowest_stands, keep_in}
 use Rattle.sweep.specs.Masks.{bit, is_left, cleared_ones}
 use Rattle.sweep.specs.Holds.{Holds, count_keep_le, holds_start, holds_without, holds_once, holds_row, holds_in, keep_without}
 use Rattle.sweep.specs.Padded.{zeros, padded_zeros}

@@ -14,7 +14,7 @@ use Rattle.rules.specs.Choice.{choice, word, padded, plan_from, plan_checked, pl
 use Rattle.rules.specs.Numbers.{refusal_number, planned_number, rows_left}
 use Rattle.theory.specs.Tests.{by_eqb}
 use Rattle.theory.specs.Counts.{In, in_head, empty}
-use Rattle.theory.specs.Results.{choice_order, choice_correct, choice_none}
+use Rattle.theory.proofs.Results.{choice_order, choice_correct, choice_none}
 
 pub record Promise (t : Table) (r : Planning) : Type 0 where
   -- the answer is the planner's, of the checks of the table and the choice

@@ -2,8 +2,5 @@ pub mod Records
 pub mod Answers
 pub mod RecordCases
 pub mod Checked
-pub mod Sound
 pub mod Stepping
-pub mod Kept
-pub mod Fresh
 pub mod Coming

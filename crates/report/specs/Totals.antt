@@ -16,7 +16,7 @@ use Rattle.texts.specs.Reports.{figure, is_late, needs_of, late_rows}
 use Rattle.theory.specs.Counts.{sum_append, sum_part, sum_zero, sum_most}
 use Rattle.theory.specs.Facts.{Row, row_is, is_row_lem, in_rows, rows_in_lem, both_accepted, both_order}
 use Rattle.theory.specs.Places.{length_rows, place_row, sum_lines}
-use Rattle.theory.specs.Results.{verdict}
+use Rattle.theory.proofs.Results.{verdict}
 use Rattle.theory.specs.Tests.{by_bool}
 use Rattle.fields.specs.Figures.{figure_space}
 use Rattle.judge.specs.Promise.{promised}

@@ -5,7 +5,6 @@ pub mod Tables
 pub mod Orders
 pub mod Slots
 pub mod Correct
-pub mod Meaning
 pub mod Running
 pub mod Worst
 pub mod Choice

@@ -3,8 +3,4 @@ pub mod Reading
 pub mod Scanned
 pub mod Telling
 pub mod Minus
-pub mod RoundTrip
-pub mod Longest
-pub mod Reads
-pub mod Given
 pub mod SentenceCases

@@ -16,7 +16,7 @@ use Rattle.rules.specs.Numbers.{refusal_number, planned_number}
 use Rattle.rules.specs.Tables.{Accepted}
 use Rattle.searches.specs.Speeds.{at_speed, slowest, fastest, InRange, makes_order, speeds_of, least_speed, searched_at}
 use Rattle.theory.specs.Facts.{facts}
-use Rattle.theory.specs.Speeds.{accepted_at, exists_at}
+use Rattle.theory.proofs.Faster.{accepted_at, exists_at}
 use Rattle.theory.specs.Tests.{by_bool, not_both}
 use Rattle.planner.specs.Promise.{promised, refusal_number_lem}
 use Rattle.speeds.specs.declared.Between.{Between}

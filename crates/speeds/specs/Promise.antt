@@ -19,8 +19,8 @@ use Rattle.texts.specs.Sheets.{read_of}
 use Rattle.searches.specs.Speeds.{at_speed, slowest, fastest, InRange, LeastSpeed, makes_order, speeds_of, least_speed, searched_at, search_refused, search_checked, search_of, search_read, search_sheet}
 use Rattle.theory.specs.Facts.{clash}
 use Rattle.theory.specs.Tests.{by_eqb, not_both}
-use Rattle.theory.specs.Results.{least_exact, larger_at}
-use Rattle.theory.specs.Speeds.{order_at_lem}
+use Rattle.theory.proofs.Results.{least_exact, larger_at}
+use Rattle.theory.proofs.Faster.{order_at_lem}
 use Rattle.planner.specs.Promise.{promised, refusal_number_lem}
 use Rattle.speeds.specs.Stretch.{First, none_first, some_first}
 use Rattle.speeds.specs.Halving.{works_exists, range}

@@ -11,16 +11,16 @@ use Rattle.rules.specs.Lists.{count, first, erase, rows_to}
 use Rattle.rules.specs.Rows.{at, rows_of, release_of, work_of, deadline_of, promised_of, follows_of}
 use Rattle.theory.specs.Counts.{In, Once, Within, Same, in_head, in_tail, count_same, count_other, map_entry}
 use Rattle.theory.specs.Facts.{TableFacts, count_zero}
-use Rattle.theory.specs.Finishes.{rows_of_lem, once_of}
+use Rattle.theory.proofs.Finishes.{rows_of_lem, once_of}
 use Rattle.theory.specs.Places.{rows_once}
 use Rattle.theory.specs.Sorting.{Sorted}
 use Rattle.theory.specs.Tests.{by_bool, by_eqb, by-leb, both_ways}
 use Rattle.sweep.specs.Holds.{Holds, holds_empty, holds_with, keep_left, count_tail}
 use Rattle.trials.specs.Lines.{sorted_rising}
 use Rattle.choices.specs.Choices.{rows_in, renumbered, alone}
-use Rattle.lowest.specs.Alone.{Chosen, in_number, renumbered_row, renumbered_none, entry_in, single, figure, numbers, followed, by-followed}
+use Rattle.lowest.proofs.Alone.{Chosen, in_number, renumbered_row, renumbered_none, entry_in, single, figure, numbers, followed, by-followed}
 use Rattle.lowest.specs.Images.{Single, in_map, once_map}
-use Rattle.lowest.specs.Counted.{rows_rising}
+use Rattle.lowest.proofs.Counted.{rows_rising}
 use Rattle.lowest.specs.Listed.{erase_within}
 
 -- rising lists

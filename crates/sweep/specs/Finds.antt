@@ -10,10 +10,11 @@ use Rattle.rules.specs.Choice.{padded}
 use Rattle.theory.specs.Tests.{by_bool, by-ltb, and_left, and_right}
 use Rattle.theory.specs.Counts.{In, Within, Same, in_last}
 use Rattle.theory.specs.Cells.{at_put_same, at_put_other}
-use Rattle.theory.specs.Results.{moment_sweep}
+use Rattle.theory.proofs.Results.{moment_sweep}
 use Rattle.theory.specs.Waits.{Stand}
 use Rattle.theory.specs.Sorting.{Sorted, sort_by, sorted_sort, same_sort}
-use Rattle.theory.specs.Sweep.{sweep, sweep_same}
+use Rattle.theory.specs.Sweep.{sweep}
+use Rattle.theory.proofs.Sweep.{sweep_same}
 use Rattle.theory.specs.Caps.{cap, cap_most}
 use Rattle.theory.specs.Facts.{Row, TableFacts, facts, accepted_tail, count_zero, rows_in_lem}
 use Rattle.theory.specs.Places.{rows_once}

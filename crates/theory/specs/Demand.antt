@@ -10,11 +10,10 @@
 -- (`served-less`).
 -- The instances in this crate are the two rules of a slot at supplies of at least s work units: `planning-serves` and `running-serves` in
 -- Sustain.
-use Rattle.std.specs.Prelude.{ℕ, zero, suc, ◌+◌, ◌-◌, ◌≤◌, ◌<◌, ◌≡◌, refl, List, [], ◌∷◌, ◌⊎◌}
+use Rattle.std.specs.Prelude.{ℕ, suc, ◌+◌, ◌-◌, ◌≤◌, ◌≡◌, refl, List, [], ◌∷◌, ◌⊎◌}
 use Rattle.std.proofs.Common.{inl, inr, arith}
 use Rattle.rules.specs.Lists.{sum}
 use Rattle.theory.specs.Counts.{In, sum_zero, sum_falls}
-use Rattle.theory.specs.Backlog.{backlog}
 
 -- some row of the list has its demand lowered by a slot
 pub record Lowered (rows : List ℕ) (bring before after : ℕ → ℕ) : Type 0 where
@@ -46,12 +45,3 @@ served_sum rows bring before after s = go s.works
     go : ((x : ℕ) → In x rows → after x ≡ 0) ⊎ Lowered rows bring before after → sum after rows ≤ sum before rows + sum bring rows - 1
     go (inl h) = omega (arith, sum_zero after rows h)
     go (inr l) = omega (arith, sum_falls after (λ x. before x + bring x) l.row rows l.among s.calm l.falls, sum_both before bring rows)
-
--- the demand of the rows never exceeds their backlog
-pub sustained : (rows : List ℕ) (bring demand : ℕ → ℕ → ℕ) (k : ℕ)
-    → sum (demand 0) rows ≡ 0
-    → ((u : ℕ) → u < k → Served rows (bring u) (demand u) (demand (suc u)))
-    → sum (demand k) rows ≤ backlog (λ u. sum (bring u) rows) k
-sustained rows bring demand zero z h = omega arith
-sustained rows bring demand (suc k) z h =
-    omega (arith, sustained rows bring demand k z (λ u q. h u (omega arith)), served_sum rows (bring k) (demand k) (demand (suc k)) (h k (omega arith)))

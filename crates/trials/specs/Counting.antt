@@ -14,7 +14,7 @@ use Rattle.theory.specs.Tests.{by_bool, by_eqb, by-ltb}
 use Rattle.theory.specs.Counts.{In, Once, in_head, in_entry, first_in, first_passes, count_same}
 use Rattle.theory.specs.Facts.{TableFacts, facts}
 use Rattle.theory.specs.Waits.{Closed}
-use Rattle.theory.specs.Choosing.{same_sequence, keep_in}
+use Rattle.theory.proofs.Choosing.{same_sequence, keep_in}
 use Rattle.sweep.specs.Holds.{Holds, count_tail, count_keep_le}
 use Rattle.sweep.specs.Masks.{bit, is_left}
 use Rattle.trials.specs.Lines.{At, place_of, keep_both}

@@ -11,7 +11,7 @@ use Rattle.theory.specs.Sorting.{sort_by}
 use Rattle.theory.specs.Caps.{cap}
 use Rattle.theory.specs.Facts.{rows_in_lem, TableFacts, facts, count_zero}
 use Rattle.theory.specs.Places.{rows_once, length_rows}
-use Rattle.theory.specs.Choosing.{same_sequence}
+use Rattle.theory.proofs.Choosing.{same_sequence}
 use Rattle.sweep.specs.Masks.{is_left}
 use Rattle.sweep.specs.Padded.{padded_take, padded_at}
 use Rattle.sweep.specs.Finds.{by_release}

@@ -23,9 +23,9 @@ use Rattle.theory.specs.Caps.{cap, cap_positive}
 use Rattle.theory.specs.Facts.{Row, TableFacts, facts, rows_in_lem, in_rows, followed_row_lem, count_zero}
 use Rattle.theory.specs.Places.{rows_once}
 use Rattle.theory.specs.Waits.{Closed, Stand}
-use Rattle.theory.specs.Choosing.{same_sequence, none_follow, follow_none, lowest_stands, keep_in, in_keep}
-use Rattle.theory.specs.Promised.{latest, meets_is}
-use Rattle.theory.specs.Results.{worst_sweep}
+use Rattle.theory.proofs.Choosing.{same_sequence, none_follow, follow_none, lowest_stands, keep_in, in_keep}
+use Rattle.theory.proofs.Promised.{latest, meets_is}
+use Rattle.theory.proofs.Results.{worst_sweep}
 use Rattle.checks.specs.RowLists.{zero_at}
 use Rattle.sweep.specs.Masks.{bit, is_left, bit_lt, left_bit, bit_left, bit_not_left, cleared_same, cleared_other, full_bit, above}
 use Rattle.sweep.specs.CapColumn.{part_needs, parts_most}

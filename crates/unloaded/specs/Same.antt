@@ -20,10 +20,10 @@ use Rattle.record.specs.Records.{is_sound, fresh_of, coming_slot, one_slot, forw
 use Rattle.theory.specs.Cells.{brought_all}
 use Rattle.unwaited.specs.OldRecords as Records
 use Rattle.unwaited.specs.OldTexts as Texts
-use Rattle.unwaited.specs.Same as Since
-use Rattle.unwaited.specs.SameAnswers as SinceAnswers
-use Rattle.unwaited.specs.SameRecords as SinceRecords
-use Rattle.unwaited.specs.SameTexts as SinceTexts
+use Rattle.unwaited.proofs.Same as Since
+use Rattle.unwaited.proofs.SameAnswers as SinceAnswers
+use Rattle.unwaited.proofs.SameRecords as SinceRecords
+use Rattle.unwaited.proofs.SameTexts as SinceTexts
 use Rattle.unwaited.specs.Unwaited as Then
 use Rattle.unwaited.specs.Unwaited.{Agrees, Before, CorrectThen}
 use Rattle.unloaded.specs.Unloaded.{need, without}

@@ -14,7 +14,7 @@ use Rattle.theory.specs.Tests.{by-ltb}
 use Rattle.fields.specs.Lengths.{written_long}
 use Rattle.unwaited.specs.OldSheets.{line_size, widen}
 use Rattle.unwaited.specs.OldTexts as Texts
-use Rattle.unwaited.specs.SameTexts.{text_between}
+use Rattle.unwaited.proofs.SameTexts.{text_between}
 use Rattle.unwaited.specs.Unwaited.{Before}
 use Rattle.unpromised.specs.Same.{own}
 use Rattle.unpromised.specs.SameTexts as Since

@@ -20,9 +20,9 @@ use Rattle.fields.specs.Bytes.{field_within}
 use Rattle.fields.specs.Lengths.{written_long}
 use Rattle.unwaited.specs.OldSheets as Then
 use Rattle.unwaited.specs.OldSheets.{line_size, check_lines, read_lines, row_line, widen}
-use Rattle.unwaited.specs.Same.{check_between}
+use Rattle.unwaited.proofs.Same.{check_between}
 use Rattle.unwaited.specs.Unwaited.{check_table}
-use Rattle.unwaited.specs.Widened.{zero_field, zero_value}
+use Rattle.unwaited.proofs.Widened.{zero_field, zero_value}
 use Rattle.unpromised.specs.Same.{own}
 use Rattle.unpromised.specs.SameSheets as Since
 use Rattle.unpromised.specs.Unpromised.{with_loading}

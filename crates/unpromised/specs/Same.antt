@@ -16,9 +16,9 @@ use Rattle.rules.specs.Slots.{State, allowance, is_over, slot, after}
 use Rattle.rules.specs.Tables.{check_table}
 use Rattle.rules.specs.Worst.{worst_finish, slack}
 use Rattle.searches.specs.Speeds.{search_of}
-use Rattle.unwaited.specs.Same as Since
-use Rattle.unwaited.specs.Same.{loaded, column_none}
-use Rattle.unwaited.specs.SameAnswers as Answers
+use Rattle.unwaited.proofs.Same as Since
+use Rattle.unwaited.proofs.Same.{loaded, column_none}
+use Rattle.unwaited.proofs.SameAnswers as Answers
 use Rattle.unwaited.specs.Unwaited as Then
 use Rattle.unwaited.specs.Unwaited.{Before, CorrectThen, RunServesThen}
 use Rattle.unpromised.specs.Unpromised.{with_loading}

@@ -6,7 +6,7 @@ use Rattle.rules.specs.Lists.{all_zero}
 use Rattle.record.specs.declared.Run.{Run}
 use Rattle.record.specs.Records.{is_sound, fresh_of, next_run, coming_slot, one_slot, forward_over}
 use Rattle.unwaited.specs.OldRecords as Then
-use Rattle.unwaited.specs.SameRecords as Since
+use Rattle.unwaited.proofs.SameRecords as Since
 use Rattle.unwaited.specs.Unwaited.{Before}
 use Rattle.unpromised.specs.Same.{own}
 use Rattle.unpromised.specs.Unpromised.{with_loading}

@@ -14,12 +14,12 @@ use Rattle.texts.specs.Sheets.{is_line, number_at, read_of, sheet_of}
 use Rattle.searches.specs.Speeds.{search_sheet}
 use Rattle.unwaited.specs.OldSheets as Old
 use Rattle.unwaited.specs.OldSheets.{line_size, widen}
-use Rattle.unwaited.specs.Same as Tables
-use Rattle.unwaited.specs.SameSheets as Since
-use Rattle.unwaited.specs.SameSheets.{read_alike, stated_before, read_before, search_read_same}
+use Rattle.unwaited.proofs.Same as Tables
+use Rattle.unwaited.proofs.SameSheets as Since
+use Rattle.unwaited.proofs.SameSheets.{read_alike, stated_before, read_before, search_read_same}
 use Rattle.unwaited.specs.Unwaited.{with_promises, check_table}
-use Rattle.unwaited.specs.WidenedSheets as Lines
-use Rattle.unwaited.specs.WidenedSheets.{read_wider}
+use Rattle.unwaited.proofs.WidenedSheets as Lines
+use Rattle.unwaited.proofs.WidenedSheets.{read_wider}
 use Rattle.unpromised.specs.Unpromised.{with_loading}
 use Rattle.unpromised.specs.Same.{own}
 

@@ -8,12 +8,12 @@ use Rattle.texts.specs.Reports.{report_of}
 use Rattle.unwaited.specs.OldSheets as Old
 use Rattle.unwaited.specs.OldSheets.{kept_of, widen}
 use Rattle.unwaited.specs.OldTexts as Texts
-use Rattle.unwaited.specs.Same as Tables
-use Rattle.unwaited.specs.SameSheets.{read_alike, read_before}
-use Rattle.unwaited.specs.SameTexts as Since
-use Rattle.unwaited.specs.SameTexts.{text_between}
+use Rattle.unwaited.proofs.Same as Tables
+use Rattle.unwaited.proofs.SameSheets.{read_alike, read_before}
+use Rattle.unwaited.proofs.SameTexts as Since
+use Rattle.unwaited.proofs.SameTexts.{text_between}
 use Rattle.unwaited.specs.Unwaited.{with_promises, check_table}
-use Rattle.unwaited.specs.WidenedSheets.{kept_wider}
+use Rattle.unwaited.proofs.WidenedSheets.{kept_wider}
 use Rattle.unpromised.specs.Same.{own}
 use Rattle.unpromised.specs.SameSheets.{check_then}
 use Rattle.unpromised.specs.Unpromised.{with_loading}

@@ -3,10 +3,3 @@ pub mod OldRecords
 pub mod OldSheets
 pub mod OldTexts
 pub mod UnwaitedCases
-pub mod Same
-pub mod SameAnswers
-pub mod SameRecords
-pub mod Widened
-pub mod WidenedSheets
-pub mod SameSheets
-pub mod SameTexts

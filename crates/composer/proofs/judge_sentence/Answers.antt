@@ -1,6 +1,6 @@
 -- The sentence is never longer than the bytes that it is made in, and is handed over from there.
 use Rattle.std.proofs.Common.{arith, rules, Fits, SFits, w32}
-use Rattle.sentences.specs.Longest.{judge_longest}
+use Rattle.sentences.proofs.Longest.{judge_longest}
 use Rattle.composer.specs.Fits.{slack_fits}
 use Rattle.composer.specs.Front.{front_long}
 use Rattle.composer.proofs.judge_sentence.Goals as goal

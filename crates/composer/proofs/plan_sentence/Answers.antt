@@ -1,6 +1,6 @@
 -- The sentence is never longer than the bytes that it is made in, and is handed over from there.
 use Rattle.std.proofs.Common.{ℕ, ◌≡◌, leb, length, get_or, arith, rules, le-leb, Fits, w8, w32, w64}
-use Rattle.sentences.specs.Longest.{plan_longest}
+use Rattle.sentences.proofs.Longest.{plan_longest}
 use Rattle.composer.specs.Lists.{all_entries}
 use Rattle.composer.specs.Front.{front_long}
 use Rattle.composer.proofs.plan_sentence.Goals as goal

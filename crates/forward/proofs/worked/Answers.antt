@@ -6,8 +6,8 @@ use borrow.Author.Tests.{lt-ltb}
 use Rattle.rules.specs.Calls.{last_clock}
 use Rattle.record.specs.declared.Run.{Run}
 use Rattle.record.specs.Records.{worked_run, closed_run, due_of}
-use Rattle.record.specs.Kept.{sized_kept, sound_kept}
-use Rattle.record.specs.Sound.{speeds}
+use Rattle.record.proofs.Kept.{sized_kept, sound_kept}
+use Rattle.record.proofs.Sound.{speeds}
 use Rattle.forward.specs.Forwarding.{next_clock, Looked, look_taken, look_left, work_end, work_over, work_next}
 use Rattle.forward.proofs.worked.Goals as goal
 use Rattle.forward.proofs.worked.Goals.{then-due-run, else-due-run}

@@ -1,6 +1,6 @@
 use Rattle.proposal.specs.Days.{just_runs}
 use Rattle.guarantee.specs.Encoding.{calls_in}
-use Rattle.guarantee.specs.Proved.{demand_3}
+use Rattle.guarantee.proofs.Proved.{demand_3}
 use Rattle.guarantee.proofs.play.Goals as goal
 
 pub returns : goal.returns

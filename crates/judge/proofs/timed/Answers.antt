@@ -6,7 +6,7 @@ use mathlib.Core.List.{List}
 use lib.ListN.{length, take, get_or, length-set}
 use Rattle.rules.specs.declared.Table.{Table}
 use Rattle.rules.specs.Worst.{worst_finish}
-use Rattle.theory.specs.Promised as Promised
+use Rattle.theory.proofs.Promised as Promised
 use Rattle.sweep.specs.CapColumn.{limited, limited_parts, caps_normal, caps_degraded}
 use Rattle.sweep.specs.Holds.{Holds, holds_empty}
 use Rattle.judge.specs.Checked.{Checked, checked}

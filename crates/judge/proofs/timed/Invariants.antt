@@ -4,7 +4,7 @@ use Prim.Native.Nat.{◌≤◌, ◌-◌}
 use mathlib.Core.Path.{◌≡◌}
 use lib.ListN.{length, take}
 use Rattle.rules.specs.Worst.{worst_finish}
-use Rattle.theory.specs.Promised as Promised
+use Rattle.theory.proofs.Promised as Promised
 use Rattle.sweep.specs.Holds.{Holds}
 use Rattle.judge.specs.Stored.{Stored}
 use Rattle.judge.proofs.timed.Given as goal

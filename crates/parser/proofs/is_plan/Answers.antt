@@ -2,7 +2,7 @@
 use Rattle.std.proofs.Common.{ap, ◌∙◌}
 use Rattle.rules.specs.Lists.{same}
 use Rattle.sentences.specs.Sentences.{plan_sentence}
-use Rattle.sentences.specs.Longest.{plan_longest}
+use Rattle.sentences.proofs.Longest.{plan_longest}
 use Rattle.parser.specs.Composed.{made_within, made_front, made_long}
 use Rattle.parser.proofs.is_plan.Goals as goal
 

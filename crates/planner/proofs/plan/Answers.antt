@@ -7,7 +7,7 @@ use Rattle.rules.specs.Tables.{Accepted}
 use Rattle.theory.specs.Facts.{facts}
 use Rattle.ceiling.specs.declared.Counted.{Counted}
 use Rattle.ceiling.specs.Ceiling.{trial_count, most_trials}
-use Rattle.ceiling.specs.Bounds.{count_most, planned_within}
+use Rattle.ceiling.proofs.Bounds.{count_most, planned_within}
 use Rattle.planner.specs.Promise.{promised}
 use Rattle.planner.proofs.plan.Goals as goal
 

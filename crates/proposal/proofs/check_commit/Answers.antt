@@ -1,7 +1,7 @@
 use mathlib.Core.Path.{sym, ◌∙◌}
 use Rattle.proposal.specs.Proposals.{check_proposal}
 use Rattle.record.specs.Checked.{limits}
-use Rattle.record.specs.Sound.{speeds}
+use Rattle.record.proofs.Sound.{speeds}
 use Rattle.proposal.specs.Commits.{check_commit}
 use Rattle.proposal.proofs.check_commit.Goals as goal
 

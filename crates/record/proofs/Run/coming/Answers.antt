@@ -2,7 +2,7 @@ use borrow.Author.Tests.{le-ltb, lt-ltb}
 use mathlib.Core.Path.{sym, ap, ◌∙◌}
 use Rattle.record.specs.declared.SlotAnswer.TheVariants.{Worked}
 use Rattle.record.specs.Records.{coming_slot}
-use Rattle.record.specs.Sound.{order_placed, chosen_first}
+use Rattle.record.proofs.Sound.{order_placed, chosen_first}
 use Rattle.record.proofs.Run.coming.Goals as goal
 
 pub returns-then-not-is_sound : goal.returns-then-not-is_sound

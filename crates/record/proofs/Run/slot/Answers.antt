@@ -3,7 +3,7 @@ use Rattle.record.specs.declared.Run.{Run}
 use Rattle.record.specs.declared.SlotAnswer.TheVariants.{Worked}
 use Rattle.record.specs.Records.{worked_run, closed_run}
 use Rattle.record.specs.Coming.{coming_worked, slot_worked, slot_refused}
-use Rattle.record.specs.Sound.{speeds}
+use Rattle.record.proofs.Sound.{speeds}
 use Rattle.record.specs.Stepping.{next_looks}
 use Rattle.record.proofs.Run.slot.Goals as goal
 

@@ -1,0 +1,3 @@
+pub mod Concluded
+pub mod Listed
+pub mod Proved

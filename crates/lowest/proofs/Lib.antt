@@ -1,0 +1,5 @@
+pub mod Alone
+pub mod Counted
+pub mod Accepting
+pub mod TwelveCases
+pub mod Standing

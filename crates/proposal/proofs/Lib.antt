@@ -1,0 +1,3 @@
+pub mod Passing
+pub mod Renewing
+pub mod Asked

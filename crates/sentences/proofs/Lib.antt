@@ -1,0 +1,4 @@
+pub mod Given
+pub mod Reads
+pub mod RoundTrip
+pub mod Longest
