@@ -2,7 +2,7 @@
  * Jasminebrace: priority orders for a processor whose speed varies unseen.
  * C11 and C++11 or later, hosted or freestanding.
  *
- * Link libjasminebrace.a, which `rt staticlib jasminebrace` writes. It is for
+ * Link libjasminebrace.a, which `tools/archive.sh` writes. It is for
  * x86-64 and the System V calling convention, as Linux has it, and for no other
  * processor or convention. It has no writable globals, allocates nothing and
  * calls nothing but these functions of the C library, which a freestanding

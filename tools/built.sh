@@ -10,24 +10,30 @@ there=$(mktemp -d)
 trap 'rm -rf "$there"' EXIT
 copy="$there/a copy of it"
 mkdir -p "$copy" "$there/bin" "$there/elsewhere"
-cp -r "$root"/{c,crates,crates.txt,samples,tools} "$copy"
+(cd "$root" && tar -c --exclude='crates/*/out' c crates crates.txt samples tools) | tar -x -C "$copy"
 
 cat >"$there/bin/rt" <<'STAND_IN'
 #!/usr/bin/env bash
 set -euo pipefail
 case $1 in
     version) cat "$STAND_IN/version" ;;
-    staticlib)
+    lib)
+        [ "${PWD##*/}" = jasminebrace_c ] || { echo "rt: not in the crate's folder"; exit 2; }
         echo asked >>"$STAND_IN/asked"
         # Long enough for two runs to meet, and in several steps, so that a half-made archive can be seen.
         sleep 0.3
-        [ ! -e "$STAND_IN/refuse" ] || { echo "rt: rules is not proved"; exit 1; }
-        mkdir -p target/staticlib
-        echo "rt: rules proved (1 s)"
-        head -c 100 "$STAND_IN/archive" >target/staticlib/libjasminebrace.a
+        echo "rt: chose --jobs 2 for rules"
+        echo "crate rules: modules loaded=0 checked=5"
+        [ ! -e "$STAND_IN/refuse" ] || { echo "logic=not-proved"; echo "rt: the library rules did not build, so nothing above it was checked"; exit 1; }
+        echo "axioms std: none reached of the 2 declared"
+        echo "logic=proved functions=2 sum=0"
+        echo "fn jasminebrace_c::jb_plan: proved"
+        echo "crate jasminebrace_c: modules loaded=5 checked=0"
+        mkdir -p out
+        head -c 100 "$STAND_IN/archive" >out/libjasminebrace_c.a
         sleep 0.3
-        cp "$STAND_IN/archive" target/staticlib/libjasminebrace.a
-        echo "rt: theory proved (unchanged since it was last proved)"
+        cp "$STAND_IN/archive" out/libjasminebrace_c.a
+        echo "logic=proved functions=25 target=x86_64-unknown-linux-gnu sum=0"
         ;;
 esac
 STAND_IN
@@ -59,9 +65,9 @@ cp "$root/samples/p1.sheet" "$there/elsewhere/a sheet"
 try plan "a sheet"
 [ "$status" -eq 0 ] || fail "the first run: status $status"
 said 'place 2: row 2 (LO), slack 2 slots' out
-said 'jasminebrace: crate rules proved (1 s)' err
-said 'jasminebrace: crate theory proved (unchanged since it was last proved)' err
-said 'jasminebrace: crate jasminebrace proved and compiled' err
+said 'jasminebrace: crate rules proved' err
+said 'jasminebrace: crate jasminebrace_c proved' err
+said 'jasminebrace: the library is proved and compiled' err
 asked 1
 # The second run makes nothing and says nothing of it.
 try plan --plain "a sheet"
@@ -93,20 +99,25 @@ for header in $included; do
     [ "$status" -eq 0 ] || fail "$header as it was"
 done
 
-# Every other source, and another kit, make the library anew.
+# Every other source, and another kit, make the library anew; what the kit itself has made does not.
 made=1
-for source in crates.txt crates/rules/src/lib.rt crates/theory/specs/Results.antt crates/jasminebrace/proofs/jb_plan/Proof.antt; do
+proof=$(cd "$copy" && find crates -path 'crates/*/proofs/*' -name '*.antt' -print -quit)
+for source in crates.txt tools/archive.sh crates/rules/src/lib.rt crates/theory/specs/Results.antt "$proof"; do
     [ -f "$copy/$source" ] || fail "$source is no source"
     echo >>"$copy/$source"
     try --version
     made=$((made + 1))
     asked "$made"
 done
+mkdir -p "$copy/crates/rules/out/rlib/src"
+: >"$copy/crates/rules/out/rlib/src/lib.rt"
+try --version
+asked "$made"
 echo "another kit" >"$STAND_IN/version"
 try --version
 made=$((made + 1))
 asked "$made"
-rm "$copy/crates/jasminebrace/proofs/jb_plan/Proof.antt"
+rm "$copy/$proof"
 try --version
 made=$((made + 1))
 asked "$made"
@@ -117,7 +128,8 @@ touch "$STAND_IN/refuse"
 echo >>"$copy/crates.txt"
 try plan "a sheet"
 [ "$status" -eq 3 ] && [ ! -s "$there/out" ] || fail "not proved: status $status"
-said 'rt: rules is not proved' err
+said 'rt: the library rules did not build, so nothing above it was checked' err
+grep -q 'crate rules proved' "$there/err" && fail "not proved, and said to be"
 rm "$STAND_IN/refuse"
 
 # What a run that was broken off has left is cleared away by the next that makes something.

@@ -17,6 +17,7 @@ a fault if
 
   - an entry, a function that C calls, a `main`, or a public function of the crate `conclusions` has a `requires`;
   - an entry does not exist, or a function that C calls is not among the entries;
+  - a function that C calls takes or promises something else than the function of its name in the crate BOUNDARY, or does more than to call it;
   - a public function has no `ensures`;
   - a function of the crate `conclusions` is not public, or its `ensures` neither names a record of that crate's Conclusions.antt
     nor gives its result as a figure;
@@ -41,12 +42,16 @@ ASKING = "| function | asks for | called by |"
 # Its functions do what callers do: one that asked for something would conclude less.
 CONCLUSIONS = "conclusions"
 CONCLUDED = Path("crates/conclusions/specs/Conclusions.antt")
+# Its functions are those that C calls, each by a function of the same name that is exported.
+BOUNDARY = "jasminebrace"
 
 # Comments, texts and characters, whose braces and words are none. A lifetime such as 'a is no character.
 NO_CODE = re.compile(r"""//[^\n]*|/\*.*?\*/|b?"(?:\\.|[^"\\])*"|b?'(?:\\[^\n]|[^'\\\n])'""", re.S)
 EXTERN_C = re.compile(r'\bextern\s+"C"')
 HEAD = re.compile(r"\b(pub\s+)?((?:(?:const|unsafe|extern)\s+)*)fn\s+(\w+)")
-CONTRACT = re.compile(r"\s*(ghost|requires|ensures)(?:\s+[^\s{]+)?\s*(?=\{)")
+CONTRACT = re.compile(r"\s*(ghost|requires|ensures)\*?(?:\s+[^\s{]+)?\s*(?=\{)")
+# A clause by which the result is a figure.
+FIGURE = re.compile(r"\{ result ≡ \d+ \}")
 IMPL = re.compile(r"^impl\b[^{;]*?\b(\w+)\s*(?:<[^{]*>)?\s*\{", re.M)
 CLOSING = {"(": ")", "[": "]", "{": "}"}
 
@@ -71,6 +76,11 @@ def after_group(code, at):
     return len(code)
 
 
+def laid_flat(code):
+    """Code on one line, whatever its layout is."""
+    return re.sub(r",?\s*([)\]])", r"\1", re.sub(r"([(\[])\s+", r"\1", " ".join(code.split())))
+
+
 class Function:
     """A function of a crate: its name, and where its contract and its body stand."""
 
@@ -82,15 +92,18 @@ class Function:
         self.plain = head.group(3)
         self.name = self.plain if self.extern else f"{owner or crate}::{self.plain}"
         self.method = owner is not None
+        # Of each kind of clause all that stand there, one after another.
         self.parts, self.texts = {}, {}
         # From the parameters on: what the function hands back, its contract, and its body or a semicolon.
-        at = after_group(code, code.index("(", head.end()))
+        opened = code.index("(", head.end())
+        at = after_group(code, opened)
+        self.takes, self.head = code[opened:at], opened
         while True:
             part = CONTRACT.match(code, at)
             if part is not None:
                 at = after_group(code, part.end())
-                self.parts.setdefault(part.group(1), (part.start(), at))
-                self.texts.setdefault(part.group(1), code[part.start() : at])
+                self.parts.setdefault(part.group(1), []).append((part.start(), at))
+                self.texts[part.group(1)] = self.texts.get(part.group(1), "") + code[part.start() : at]
             elif at >= len(code) or code[at] in "{;":
                 break
             elif code[at] in CLOSING:
@@ -105,6 +118,10 @@ class Function:
 
     def where(self):
         return f"{self.path}:{self.line}"
+
+    def says(self):
+        """Its parameters, what it hands back, and its contract, on one line."""
+        return laid_flat(self.code[self.head : self.body])
 
 
 def functions_of(root):
@@ -175,12 +192,26 @@ class Entries:
             self.fault(where, f"{name} is public and has no ensures")
         if function.crate == CONCLUSIONS:
             self.check_conclusion(function)
+        if function.extern:
+            self.check_export(function)
+
+    def check_export(self, function):
+        """What C calls is the boundary's function: its parameters, its clauses, and a call of it alone."""
+        of = self.named.get(f"{BOUNDARY}::{function.plain}")
+        if of is None or not of.public:
+            self.fault(function.where(), f"{function.name} can be called from C, and {BOUNDARY} has no public function of that name")
+            return
+        if function.says() != of.says():
+            self.fault(function.where(), f"{function.name} takes or promises something else than {of.name}")
+        handed = ", ".join(re.findall(r"(\w+)\s*:", function.takes))
+        if laid_flat(function.code[function.body : function.end]) != f"{{ {of.name}({handed}) }}":
+            self.fault(function.where(), f"{function.name} does more than to call {of.name}")
 
     def check_conclusion(self, function):
         promise = function.texts.get("ensures", "")
         if not function.public:
             self.fault(function.where(), f"{function.name} is a conclusion and not public")
-        if not self.records & set(re.findall(r"\w+", promise)) and re.search(r"⌜ r ≡ \d+ ⌝", promise) is None:
+        if not self.records & set(re.findall(r"\w+", promise)) and FIGURE.search(promise) is None:
             self.fault(function.where(), f"{function.name} concludes nothing that {CONCLUDED} states")
 
     def check_asking(self, name, callers):
@@ -252,17 +283,29 @@ def edits(root):
     def asks(name):
         """A requires is put before the function's other parts, or before its body."""
         def change(text, function):
-            at = min((start for start, _ in function.parts.values()), default=body_at(text, function))
-            return text[:at] + "\n    requires { ⌜ 0 ≡ 0 ⌝ }\n    " + text[at:].lstrip()
+            at = min((start for clauses in function.parts.values() for start, _ in clauses), default=body_at(text, function))
+            return text[:at] + "\n    requires { 0 ≡ 0 }\n    " + text[at:].lstrip()
         return source(name, change)
 
     def without(name, part):
-        return source(name, lambda text, function: text[: function.parts[part][0]] + text[function.parts[part][1] :])
+        def change(text, function):
+            for start, end in reversed(function.parts[part]):
+                text = text[:start] + text[end:]
+            return text
+        return source(name, change)
 
     def promises(name, contract):
         def change(text, function):
-            start, end = function.parts["ensures"]
+            start, end = function.parts["ensures"][0][0], function.parts["ensures"][-1][1]
             return text[:start] + contract + text[end:]
+        return source(name, change)
+
+    def taking(name, parameters):
+        return source(name, lambda text, function: text[: function.body].replace("supply: u32", parameters) + text[function.body :])
+
+    def calling(name, called):
+        def change(text, function):
+            return text[: function.body] + text[function.body :].replace(f"::{function.plain}(", f"::{called}(", 1)
         return source(name, change)
 
     def hidden(text, function):
@@ -282,7 +325,7 @@ def edits(root):
         ("a requires on a method", asks(method), f"{method} is an entry for outside callers and has a requires"),
         ("a requires on a program", asks(program), f"{program} is a program and has a requires"),
         ("a requires on a conclusion", asks(concluded), f"{concluded} draws a conclusion and has a requires"),
-        ("a conclusion that says nothing", promises(concluded, "ensures { λ r. ⌜ r ≡ r ⌝ }"), f"{concluded} concludes nothing"),
+        ("a conclusion that says nothing", promises(concluded, " ensures { result ≡ result }"), f"{concluded} concludes nothing"),
         ("a conclusion that nobody can call", source(concluded, hidden), f"{concluded} is a conclusion and not public"),
         ("a public function with a requires that is not listed", asks(free), f"{free} is public, has a requires, and is not under"),
         ("an ensures removed from an entry", without("planner::plan", "ensures"), "planner::plan is public and has no ensures"),
@@ -294,6 +337,11 @@ def edits(root):
         ("a function that is listed no more", said(f"{row}\n", ""), f"{asked} is public, has a requires, and is not under"),
         ("an entry that does not exist", said("`sheet::read`", "`sheet::reads`"), "the entry sheet::reads does not exist"),
         ("a function for C that is no entry", said("`jb_slot`", "jb_slot"), "jb_slot can be called from C and is not among the entries"),
+        ("a function for C that promises less", promises("jb_slot", " ensures { result ≡ result }"), "jb_slot takes or promises something else"),
+        ("a function for C that takes more", taking("jb_slot", "supply: u64, supplied: u32"), "jb_slot takes or promises something else"),
+        ("a function for C that calls another", calling("jb_slot", "jb_coming"), "jb_slot does more than to call"),
+        ("a function for C that does more", calling("jb_slot", "jb_version(); jasminebrace::jb_slot"), "jb_slot does more than to call"),
+        ("a function for C that is not behind it", source("jasminebrace::jb_slot", hidden), "jasminebrace has no public function of that name"),
         ("no table of entries", said(ENTRIES, "| call | entry |"), "is missing"),
         ("no table of those that ask", said(f"## {OWN}", "## Functions"), "is missing"),
     ]
@@ -302,7 +350,7 @@ def edits(root):
 def signature(root, function):
     """A function's code up to its contract, without the space before that."""
     code = blanked((root / function.path).read_text(encoding="utf-8"))
-    return code[code.index(f"fn {function.plain}") : min(start for start, _ in function.parts.values())].rstrip()
+    return code[code.index(f"fn {function.plain}") : min(start for clauses in function.parts.values() for start, _ in clauses)].rstrip()
 
 
 def body_at(text, function):

@@ -2,7 +2,7 @@
 # docs/FIRMWARE.md against the archive: its listing is taken out of the page, compiled, and run on a board played by tools/firmware_test.c,
 # which also calls what the page says of records. Then the listing is spoilt in ways that the test must notice. Last, the archive's code is
 # looked through for what the page says of variables and the header of bare boards.
-# Needs gcc, g++, objdump, python3 and the archive that `rt staticlib jasminebrace` writes.
+# Needs gcc, g++, objdump, python3 and the archive that tools/archive.sh writes.
 set -euo pipefail
 cd "$(dirname "$0")/.."
 archive=target/staticlib/libjasminebrace.a
@@ -11,7 +11,7 @@ trap 'rm -rf "$built"' EXIT
 
 fail() { echo "firmware page: $*" >&2; exit 1; }
 
-[ -f "$archive" ] || fail "there is no $archive; rt staticlib jasminebrace writes it"
+[ -f "$archive" ] || fail "there is no $archive; tools/archive.sh writes it"
 
 # The listing: the page's one C listing.
 [ "$(grep -c '^```c$' docs/FIRMWARE.md)" -eq 1 ] || fail "the page has not exactly one C listing"

@@ -1,6 +1,6 @@
 #!/usr/bin/env bash
 # Counts the plannings of each search for a least workable speed: how often the archive's planner::plan is entered while the benchmark
-# makes every search once, under gdb. For docs/BENCHMARKS.md, after `rt staticlib jasminebrace`; the gate does not run it.
+# makes every search once, under gdb. For docs/BENCHMARKS.md, after tools/archive.sh; the gate does not run it.
 # Needs cargo, nm and gdb. It prints what is sought, the rows, the least speed (work units per slot), the plannings of plain Rust and
 # those of the library.
 set -euo pipefail

@@ -22,7 +22,7 @@ from pathlib import Path
 SECTION = "From each rule to its definition, its proof and its test"
 COLUMNS = ("definition", "kept by", "run by")
 TOP = ("crates/", "model/", "compiled/", "c/", "docs/", "tools/", "samples/", ".ci/")
-SKIPPED = {".git", "target", "__pycache__"}
+SKIPPED = {".git", "target", "out", "__pycache__"}
 
 NUMBER = r"\d+\.\d+"
 RULE = re.compile(rf"^(?:\| )?\*\*({NUMBER})(?: [^*]+)?\*\*", re.M)

@@ -19,8 +19,8 @@ variable that a `let` of the block around it has made. So more is looked through
     STANDING; or one of these is not called in each of the places named; or PART does not call MOMENT;
   - PLAN does not come to PLACES, or COUNT not to WORDS;
   - in PLACES the entries that are searched are not cut once for each place to the trials that the ceiling has left, a search there is handed
-    others; WITHIN hands PLACES, or EXPORTED WITHIN, another ceiling than its own, or PLAN hands WITHIN another one than the most trials of the
-    table's rows; or not just one way of calls leads from each of the three to PLACES, so that more is planned than is answered;
+    others; WITHIN hands PLACES, BOUNDARY WITHIN, or EXPORTED BOUNDARY, another ceiling than its own, or PLAN hands WITHIN another one than the most
+    trials of the table's rows; or not just one way of calls leads from each of the four to PLACES, so that more is planned than is answered;
   - PLAN or COUNT comes to NEED in a function that is not among ASKING, or in one of these for another column than it is for; or for one of these
     columns by no way of calls or by more than one; or around the calls of such a way there is no loop, or another besides the one over the
     rows, as that over the words would be; or what PLAN or COUNT comes to calls itself: then ways have no end;
@@ -57,8 +57,9 @@ WORDS = "counter::count_words"
 ALL = "counter::all_in_time"
 STANDING = "counter::standing"
 STANDS = "counter::stands"
-# Planning at a ceiling, and how its places are cut to the trials left: what is searched there is a part of this word.
+# Planning at a ceiling, over lent words, and as C calls it; and how its places are cut to the trials left: what is searched there is a part of this word.
 WITHIN = "planner::plan_within"
+BOUNDARY = "jasminebrace::jb_plan_within"
 EXPORTED = "jb_plan_within"
 CUT = re.compile(r"\blet allowed = trials::first_entries\(tries, ceiling - made\);")
 SEARCHED = re.compile(r"allowed & w\.\w+")
@@ -67,7 +68,7 @@ SET = re.compile(r"\b(?:let\s+(?:mut\s+)?)?(?:allowed|ceiling)\s*(?:[-+*/%&|^]|<
 SWEEP = "periods::renew"
 MOMENT = "sweep::part_finish"
 NEED = "checks::need"
-NAMED = (TRIAL, LOW, PART, PLACES, PLAN, COUNT, WORDS, ALL, STANDING, STANDS, WITHIN, EXPORTED, SWEEP, MOMENT, NEED)
+NAMED = (TRIAL, LOW, PART, PLACES, PLAN, COUNT, WORDS, ALL, STANDING, STANDS, WITHIN, BOUNDARY, EXPORTED, SWEEP, MOMENT, NEED)
 # Where a planning and a counting work out needs, and what is handed over there to have its need worked out: each row's work (at N), each row's promised part
 # (at G), and a HI row's work (at G).
 ASKING = (("sweep::needs", "&t.work"), ("sweep::needs", "&t.promised"), ("sweep::degraded_cap", "work[i]"))
@@ -329,8 +330,11 @@ class Trials:
             for at in self.calls(places, called):
                 if not any(SEARCHED.fullmatch(value) for value in arguments(places, at)) or any(at < cut.start() for cut in cuts):
                     self.fault(places.where(at), f"{PLACES} searches by {called.name} more than the ceiling allows")
-        for caller, called, ceiling in ((within, places, "ceiling"), (named[EXPORTED], within, "ceiling"), (named[PLAN], within, "most_trials(t.n)")):
-            handed_over = [arguments(caller, at)[-1] for at in self.calls(caller, called)]
+        boundary = named[BOUNDARY]
+        handing = ((within, places, -1, "ceiling"), (boundary, within, -1, "ceiling"), (named[EXPORTED], boundary, 1, "ceiling"),
+                   (named[PLAN], within, -1, "most_trials(t.n)"))
+        for caller, called, place, ceiling in handing:
+            handed_over = [arguments(caller, at)[place] for at in self.calls(caller, called)]
             if handed_over != [ceiling] or any(caller.found(SET)):
                 self.fault(caller.where(caller.start), f"{caller.name} hands {called.name} another ceiling than {ceiling}")
             ways = [shown(way) for way in self.ways(caller, (caller,), (), PLACES)]
@@ -483,7 +487,7 @@ def edits():
     counts, words = WORDS.split("::")
     (rows, _), _, (high, _) = ASKING
     works, parts, highs = map(said, ASKING)
-    hidden = "fn hidden(work: u32) -> u32\n    ensures { λ r. ⌜ r ≡ r ⌝ }\n{\n    checks::need(0, work, 1)\n}"
+    hidden = "fn hidden(work: u32) -> u32\n    ensures { result ≡ result }\n{\n    checks::need(0, work, 1)\n}"
     halved = "impl Table { fn halved(self) -> u32 { self.n / 2 } }"
     return [
         ("a division in the trial", [looped(TRIAL, "let a = 7 / 2;")], f"a trial divides (/): {TRIAL}"),
@@ -569,7 +573,9 @@ def edits():
         ("a ceiling that grows", [looped(PLACES, "ceiling += 1;")], f"{PLACES} sets what it has of the ceiling"),
         ("all trials made first", [instead(WITHIN, "choose(t, ceiling)", "choose(t, most_trials(t.n))")], f"{WITHIN} hands {PLACES} another ceiling"),
         ("a whole planning before", [first(EXPORTED, "let whole = planner::plan(t);")], f"2 ways, not one, lead from {EXPORTED} to {PLACES}"),
-        ("all trials for C made first", [instead(EXPORTED, "plan_within(t, ceiling)", "plan_within(t, 2080)")], f"{EXPORTED} hands {WITHIN} another ceiling"),
+        ("a whole planning before, over words", [first(BOUNDARY, "let whole = planner::plan(t);")], f"2 ways, not one, lead from {BOUNDARY} to {PLACES}"),
+        ("all trials over words made first", [instead(BOUNDARY, "plan_within(t, ceiling)", "plan_within(t, 2080)")], f"{BOUNDARY} hands {WITHIN} another"),
+        ("all trials for C made first", [instead(EXPORTED, "(table, ceiling,", "(table, 2080,")], f"{EXPORTED} hands {BOUNDARY} another ceiling"),
         ("another ceiling that is enough", [instead(PLAN, "most_trials(t.n)", "2080")], f"{PLAN} hands {WITHIN} another ceiling"),
         ("a ceiling raised before", [first(WITHIN, "let ceiling = ceiling | 4095;")], f"{WITHIN} hands {PLACES} another ceiling"),
         ("a preparation without a body", [becomes(PREPARE, ";")], f"{PREPARE} has no body: {PLAN}"),

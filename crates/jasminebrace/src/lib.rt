@@ -102,8 +102,7 @@ fn packed(verdict: Verdict) -> u64
 }
 
 // Reads a sheet into the words of a table, all zero on a refusal (rule 6.8). Gives the number of the sheet's checks (rule 11.2).
-#[unsafe(no_mangle)]
-pub extern "C" fn jb_read(sheet: &[u8], table: &mut [u32; 388]) -> u32
+pub fn jb_read(sheet: &[u8], table: &mut [u32; 388]) -> u32
     ensures { let reading = read_of sheet.now in (result ≡ check_number reading.check) × (table.new ≡ words_of reading.table) }
 {
     let reading = sheet::read(sheet);
@@ -115,8 +114,7 @@ pub extern "C" fn jb_read(sheet: &[u8], table: &mut [u32; 388]) -> u32
 
 // Writes the sheet of a table to the start of lent bytes and gives its length in bytes (rule 15.2); no byte and 0 on a refusal
 // (rule 15.5). Gives the number of the writer's checks (rule 11.6).
-#[unsafe(no_mangle)]
-pub extern "C" fn jb_write(table: &[u32; 388], sheet: &mut [u8], size: &mut u32) -> u32
+pub fn jb_write(table: &[u32; 388], sheet: &mut [u8], size: &mut u32) -> u32
     ensures { let back = write_of (table_in table.now) sheet.old in
         (result ≡ check_number back.said.check)
         × (size.new ≡ back.said.size)
@@ -130,8 +128,7 @@ pub extern "C" fn jb_write(table: &[u32; 388], sheet: &mut [u8], size: &mut u32)
 }
 
 // Writes a number as a field of a sheet (rule 15.9). Gives 1 if the field holds the number, 0 if only its last eight digits.
-#[unsafe(no_mangle)]
-pub extern "C" fn jb_field(figure: u32, field: &mut [u8; 8]) -> u32
+pub fn jb_field(figure: u32, field: &mut [u8; 8]) -> u32
     ensures { (result ≡ yes_word (fits_field figure)) × (field.new ≡ written figure) }
 {
     *field = fields::written(figure);
@@ -140,8 +137,7 @@ pub extern "C" fn jb_field(figure: u32, field: &mut [u8; 8]) -> u32
 
 // Plans an order for a table, all zero where none is made, at a ceiling that is always enough (rule 23.9). Gives 0, 7 with the word of the rows left, or a
 // refusal's number (rules 4.6, 4.8, 4.10, 11.3).
-#[unsafe(no_mangle)]
-pub extern "C" fn jb_plan(table: &[u32; 388], order: &mut [u8; 64], left: &mut u64) -> u32
+pub fn jb_plan(table: &[u32; 388], order: &mut [u8; 64], left: &mut u64) -> u32
     ensures { let planning = plan_of (table_in table.now) in
         (result ≡ planned_number planning.answer)
         × (order.new ≡ planning.order)
@@ -159,8 +155,7 @@ pub extern "C" fn jb_plan(table: &[u32; 388], order: &mut [u8; 64], left: &mut u
 
 // Plans an order for a table at a ceiling, in trials, and tells the trials made (rules 23.4 to 23.7). Gives 0, 7 with the word of the rows left, 19 if
 // the planning takes more trials, or a refusal's number (rule 11.11); the order is all zero where none is made.
-#[unsafe(no_mangle)]
-pub extern "C" fn jb_plan_within(
+pub fn jb_plan_within(
     table: &[u32; 388],
     ceiling: u32,
     order: &mut [u8; 64],
@@ -188,8 +183,7 @@ pub extern "C" fn jb_plan_within(
 // Counts the correct orders of a table of up to 12 rows (rules 25.4 to 25.6), and tells for each row in how many of them it stands lowest. Afterwards entry m of
 // the scratch has the choices of the rows of word m alone. Gives 0, or a refusal's number with counts of 0 and the scratch as it was: a check of the table, 20 for
 // more rows, or 10 for fewer than 4,096 numbers (rule 11.13).
-#[unsafe(no_mangle)]
-pub extern "C" fn jb_count(
+pub fn jb_count(
     table: &[u32; 388],
     scratch: &mut [u32],
     count: &mut u32,
@@ -212,13 +206,7 @@ pub extern "C" fn jb_count(
 
 // Asks for a proposal (rule 22.2): the table of a sheet and an order for it, both all zero where none is made. Gives the reader's number, or 0, or 7 with
 // the word of the rows left (rule 11.9).
-#[unsafe(no_mangle)]
-pub extern "C" fn jb_ask(
-    sheet: &[u8],
-    table: &mut [u32; 388],
-    order: &mut [u8; 64],
-    left: &mut u64,
-) -> u32
+pub fn jb_ask(sheet: &[u8], table: &mut [u32; 388], order: &mut [u8; 64], left: &mut u64) -> u32
     ensures { let asking = ask_of sheet.now in
         (result ≡ planned_number asking.answer)
         × (table.new ≡ words_of asking.table)
@@ -250,12 +238,7 @@ fn put_search(searching: Searching, speed: &mut u32, order: &mut [u8; 64]) -> u3
 
 // The least degraded speed of a table at which a correct order exists, in work units per slot, and the planner's order at it; both zero where
 // none does, with 7, and on a refusal (rules 18.4 to 18.6). Gives the number of the search (rule 11.8).
-#[unsafe(no_mangle)]
-pub extern "C" fn jb_least_degraded(
-    table: &[u32; 388],
-    speed: &mut u32,
-    order: &mut [u8; 64],
-) -> u32
+pub fn jb_least_degraded(table: &[u32; 388], speed: &mut u32, order: &mut [u8; 64]) -> u32
     ensures { SearchTold (search_of Sought.Degraded (table_in table.now)) result speed.new order.new }
 {
     let t = words::table_in(table);
@@ -264,8 +247,7 @@ pub extern "C" fn jb_least_degraded(
 }
 
 // The same for the normal speed.
-#[unsafe(no_mangle)]
-pub extern "C" fn jb_least_normal(table: &[u32; 388], speed: &mut u32, order: &mut [u8; 64]) -> u32
+pub fn jb_least_normal(table: &[u32; 388], speed: &mut u32, order: &mut [u8; 64]) -> u32
     ensures { SearchTold (search_of Sought.Normal (table_in table.now)) result speed.new order.new }
 {
     let t = words::table_in(table);
@@ -274,8 +256,7 @@ pub extern "C" fn jb_least_normal(table: &[u32; 388], speed: &mut u32, order: &m
 }
 
 // The least degraded speed of a sheet (rule 18.7): the reader's numbers first, then as for its table.
-#[unsafe(no_mangle)]
-pub extern "C" fn jb_read_least_degraded(sheet: &[u8], speed: &mut u32, order: &mut [u8; 64]) -> u32
+pub fn jb_read_least_degraded(sheet: &[u8], speed: &mut u32, order: &mut [u8; 64]) -> u32
     ensures { SearchTold (search_sheet Sought.Degraded sheet.now) result speed.new order.new }
 {
     let searching = speeds::sheet_speed(Sought::Degraded, sheet);
@@ -283,8 +264,7 @@ pub extern "C" fn jb_read_least_degraded(sheet: &[u8], speed: &mut u32, order: &
 }
 
 // The same for the normal speed.
-#[unsafe(no_mangle)]
-pub extern "C" fn jb_read_least_normal(sheet: &[u8], speed: &mut u32, order: &mut [u8; 64]) -> u32
+pub fn jb_read_least_normal(sheet: &[u8], speed: &mut u32, order: &mut [u8; 64]) -> u32
     ensures { SearchTold (search_sheet Sought.Normal sheet.now) result speed.new order.new }
 {
     let searching = speeds::sheet_speed(Sought::Normal, sheet);
@@ -292,8 +272,7 @@ pub extern "C" fn jb_read_least_normal(sheet: &[u8], speed: &mut u32, order: &mu
 }
 
 // Judges an order of a table: yes as 1 or 0, the tightest row, and its slack in slots. All zero on a refusal (rules 7.2 to 7.4).
-#[unsafe(no_mangle)]
-pub extern "C" fn jb_judge(
+pub fn jb_judge(
     table: &[u32; 388],
     order: &[u8; 64],
     yes: &mut u32,
@@ -319,8 +298,7 @@ pub extern "C" fn jb_judge(
 
 // Judges an order of lent rows, two speeds in work units per slot, and a loading in slots (rule 7.1). Gives the verdict in one word, as
 // specs/Packed says.
-#[unsafe(no_mangle)]
-pub extern "C" fn jb_judge_rows(
+pub fn jb_judge_rows(
     rows: &[Row],
     normal: u32,
     degraded: u32,
@@ -335,8 +313,7 @@ pub extern "C" fn jb_judge_rows(
 }
 
 // The worst finish of each row under an order, in slots, zeros after row n (rule 3.6). All zero on a refusal.
-#[unsafe(no_mangle)]
-pub extern "C" fn jb_finishes(table: &[u32; 388], order: &[u8; 64], finishes: &mut [u32; 64]) -> u32
+pub fn jb_finishes(table: &[u32; 388], order: &[u8; 64], finishes: &mut [u32; 64]) -> u32
     ensures { let t = table_in table.now in
         (result ≡ check_number (check_both t order.now))
         × (finishes.new ≡ finishes_of t order.now) }
@@ -359,13 +336,7 @@ pub extern "C" fn jb_finishes(table: &[u32; 388], order: &[u8; 64], finishes: &m
 
 // Writes the report of a table under an order to the start of lent bytes and gives its length in bytes (rule 16.5); no byte and 0 on a
 // refusal (rule 16.8). Gives the number of the report's checks (rule 11.7).
-#[unsafe(no_mangle)]
-pub extern "C" fn jb_report(
-    table: &[u32; 388],
-    order: &[u8; 64],
-    report: &mut [u8],
-    size: &mut u32,
-) -> u32
+pub fn jb_report(table: &[u32; 388], order: &[u8; 64], report: &mut [u8], size: &mut u32) -> u32
     ensures { let back = report_of (table_in table.now) order.now report.old in
         (result ≡ check_number back.said.check)
         × (size.new ≡ back.said.size)
@@ -403,8 +374,7 @@ fn number_told(kind: Kind, plan: PlanAnswer, verdict: JudgeAnswer) -> u32
 
 // Writes the sentence of a planner's answer, whatever its values are, to the start of lent bytes and gives its length in bytes; no byte and 0 with 10
 // (rule 24.9). Gives 0, or 10 if there are too few bytes.
-#[unsafe(no_mangle)]
-pub extern "C" fn jb_plan_sentence(
+pub fn jb_plan_sentence(
     number: u32,
     left: u64,
     order: &[u8; 64],
@@ -431,8 +401,7 @@ pub extern "C" fn jb_plan_sentence(
 }
 
 // The same for a judge's answer; yes is 1 and no is 0, and a slack is in slots.
-#[unsafe(no_mangle)]
-pub extern "C" fn jb_judge_sentence(
+pub fn jb_judge_sentence(
     number: u32,
     yes: u32,
     row: u32,
@@ -458,8 +427,7 @@ pub extern "C" fn jb_judge_sentence(
 }
 
 // Reads a sentence: whose answer it tells, and the answer; the fields of the other kind are 0. Gives 0, or 2 and zeros for all other bytes (rule 24.11).
-#[unsafe(no_mangle)]
-pub extern "C" fn jb_read_sentence(
+pub fn jb_read_sentence(
     line: &[u8],
     kind: &mut u32,
     number: &mut u32,
@@ -500,8 +468,7 @@ pub extern "C" fn jb_read_sentence(
 }
 
 // Starts a run record of a table and an order, at clock 0. All zero on a refusal (rule 8.2).
-#[unsafe(no_mangle)]
-pub extern "C" fn jb_fresh(
+pub fn jb_fresh(
     table: &[u32; 388],
     order: &[u8; 64],
     run_table: &mut [u32; 388],
@@ -528,13 +495,7 @@ pub extern "C" fn jb_fresh(
 }
 
 // The row that the coming slot runs, before its supply is known; 0 for an idle slot and with 8 or 9 (rule 8.15).
-#[unsafe(no_mangle)]
-pub extern "C" fn jb_coming(
-    table: &[u32; 388],
-    order: &[u8; 64],
-    state: &[u32; 193],
-    row: &mut u32,
-) -> u32
+pub fn jb_coming(table: &[u32; 388], order: &[u8; 64], state: &[u32; 193], row: &mut u32) -> u32
     ensures { let said = slot_said (coming_slot (run_in table.now order.now state.now)) in
         (result ≡ said.number)
         × (row.new ≡ said.value) }
@@ -550,8 +511,7 @@ pub extern "C" fn jb_coming(
 
 // Works one slot with a supply in work units: the state after it, and the row that ran. With 8 or 9 the state stays and the row is 0
 // (rules 8.9, 8.13, 8.14).
-#[unsafe(no_mangle)]
-pub extern "C" fn jb_slot(
+pub fn jb_slot(
     table: &[u32; 388],
     order: &[u8; 64],
     state: &mut [u32; 193],
@@ -577,8 +537,7 @@ pub extern "C" fn jb_slot(
 
 // Works one slot for each supply (work units), first to last: the state after them, and the slots worked (rules 8.10, 8.12 to 8.14). The
 // record goes through `forward::forward`.
-#[unsafe(no_mangle)]
-pub extern "C" fn jb_forward(
+pub fn jb_forward(
     table: &[u32; 388],
     order: &[u8; 64],
     state: &mut [u32; 193],
@@ -604,8 +563,7 @@ pub extern "C" fn jb_forward(
 
 // Commits a table and an order to a run record (rules 22.3 to 22.5): the record has them, its rows are open and empty, and its clock stays. On a refusal the
 // record stays as it was. Gives the number of the commit's checks (rule 11.10).
-#[unsafe(no_mangle)]
-pub extern "C" fn jb_commit(
+pub fn jb_commit(
     table: &[u32; 388],
     order: &[u8; 64],
     run_table: &mut [u32; 388],
@@ -641,8 +599,7 @@ pub extern "C" fn jb_commit(
 }
 
 // Writes what the planning program writes for an input, zeros after it (section 12 of the rules). Gives how many bytes that is.
-#[unsafe(no_mangle)]
-pub extern "C" fn jb_program(input: &[u8], text: &mut [u8; 1617]) -> u32
+pub fn jb_program(input: &[u8], text: &mut [u8; 1617]) -> u32
     ensures { (result ≡ length (program_text input.now))
         × (text.new ≡ program_text input.now ++ replicate (1617 - length (program_text input.now)) 0) }
 {
@@ -653,8 +610,7 @@ pub extern "C" fn jb_program(input: &[u8], text: &mut [u8; 1617]) -> u32
 }
 
 // The number of this interface, for a caller to compare with the one that it was compiled for.
-#[unsafe(no_mangle)]
-pub extern "C" fn jb_version() -> u32
+pub fn jb_version() -> u32
     ensures { result ≡ version }
 {
     5

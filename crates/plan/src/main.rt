@@ -1,10 +1,13 @@
 // The planning program: a sheet from standard input, the text of its plan to standard output.
 #![tactic(auto)]
 
-fn main() {
-    let mut sheet = [0u8; text::KEPT];
-    let kept = io::read_full(0, &mut sheet);
+use std::io;
+use std::io::{Read, Write};
+
+fn main(rt: HostRuntime) -> io::Result<()> {
+    let mut sheet = Vec::new(rt.alloc());
+    rt.stdin().take(text::KEPT as u64).read_to_end(&mut sheet)?;
     let mut out = [0u8; text::LONGEST];
-    let size = text::program(&sheet[..kept], &mut out);
-    io::write_all(1, &out[..size]);
+    let size = text::program(&sheet, &mut out);
+    io::writer(&rt).write_all(&out[..size])
 }

@@ -1,54 +1,54 @@
 // Stored cases of the planning program: for each sheet in data/ its name and what the planning program writes for it.
 #![tactic(auto)]
 
+use std::io::{Read, Write};
+use std::{fs, io};
+
 // One sheet.
-fn show(name: &[u8]) {
-    let file = os::open_read(name);
-    if file < 0 {
-        os::fail(name);
-        return;
-    }
-    let mut sheet = [0u8; text::KEPT];
-    let kept = io::read_full(file, &mut sheet);
-    libc::close(file);
-    io::write_all(1, name);
-    io::write_all(1, b"\n");
+fn show(rt: &HostRuntime, name: &str) -> io::Result<()> {
+    let file = match fs::open(rt, name) {
+        Ok(file) => file,
+        Err(why) => return eprintln!(rt; "{name}: {why}"),
+    };
+    let mut sheet = Vec::new(rt.alloc());
+    file.take(text::KEPT as u64).read_to_end(&mut sheet)?;
+    println!(rt; "{name}")?;
     let mut out = [0u8; text::LONGEST];
-    let size = text::program(&sheet[..kept], &mut out);
-    io::write_all(1, &out[..size]);
+    let size = text::program(&sheet, &mut out);
+    io::writer(rt).write_all(&out[..size])
 }
 
-fn main() {
-    show(b"p1");
-    show(b"p2");
-    show(b"no_order");
-    show(b"loading");
-    show(b"loading_most");
-    show(b"rows64");
-    show(b"one_more");
-    show(b"two_more");
-    show(b"three_more");
-    show(b"long");
-    show(b"empty");
-    show(b"short");
-    show(b"trailing");
-    show(b"leading_zero");
-    show(b"malformed_row");
-    show(b"loading_missing");
-    show(b"count");
-    show(b"speeds");
-    show(b"loading_above");
-    show(b"release");
-    show(b"level");
-    show(b"deadline");
-    show(b"promise");
-    show(b"promise_above");
-    show(b"promise_high");
-    show(b"promise_missing");
-    show(b"wait");
-    show(b"wait_no_order");
-    show(b"wait_not_lower");
-    show(b"wait_released_later");
-    show(b"wait_on_low");
-    show(b"wait_missing");
+fn main(rt: HostRuntime) -> io::Result<()> {
+    show(&rt, "p1")?;
+    show(&rt, "p2")?;
+    show(&rt, "no_order")?;
+    show(&rt, "loading")?;
+    show(&rt, "loading_most")?;
+    show(&rt, "rows64")?;
+    show(&rt, "one_more")?;
+    show(&rt, "two_more")?;
+    show(&rt, "three_more")?;
+    show(&rt, "long")?;
+    show(&rt, "empty")?;
+    show(&rt, "short")?;
+    show(&rt, "trailing")?;
+    show(&rt, "leading_zero")?;
+    show(&rt, "malformed_row")?;
+    show(&rt, "loading_missing")?;
+    show(&rt, "count")?;
+    show(&rt, "speeds")?;
+    show(&rt, "loading_above")?;
+    show(&rt, "release")?;
+    show(&rt, "level")?;
+    show(&rt, "deadline")?;
+    show(&rt, "promise")?;
+    show(&rt, "promise_above")?;
+    show(&rt, "promise_high")?;
+    show(&rt, "promise_missing")?;
+    show(&rt, "wait")?;
+    show(&rt, "wait_no_order")?;
+    show(&rt, "wait_not_lower")?;
+    show(&rt, "wait_released_later")?;
+    show(&rt, "wait_on_low")?;
+    show(&rt, "wait_missing")
 }
