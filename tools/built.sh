@@ -102,7 +102,7 @@ done
 # Every other source, and another kit, make the library anew; what the kit itself has made does not.
 made=1
 proof=$(cd "$copy" && find crates -path 'crates/*/proofs/*' -name '*.antt' -print -quit)
-for source in crates.txt tools/archive.sh crates/rules/src/lib.rt crates/theory/specs/Results.antt "$proof"; do
+for source in crates.txt tools/archive.sh crates/rules/src/lib.rt crates/theory/proofs/Results.antt "$proof"; do
     [ -f "$copy/$source" ] || fail "$source is no source"
     echo >>"$copy/$source"
     try --version
