@@ -744,13 +744,14 @@ static void put_waits_matter(FILE *to, const jb_table *table) {
 }
 
 /*
- * Says that no correct order exists, which rows are left and what they tell, whether waits are
- * the reason, and what was not looked for. To find out about waits the table is planned without
+ * Says that no correct order exists, which rows are left, whether waits are the reason, and
+ * what was not looked for; what the rows left tell is said by the command left. To find out about waits the table is planned without
  * them, so that nothing is said of them where that is not to be done, as beside a ceiling.
  */
 static void explain_no_order(FILE *to, const jb_table *table, uint64_t left, bool plan_without_waits) {
     put_words(to, JB_NO_ORDER);
-    put_left(to, table, left);
+    fputs("rows left:", to);
+    put_rows_left(to, left);
     if (plan_without_waits) {
         put_waits_matter(to, table);
     }
@@ -1488,20 +1489,18 @@ static void put_speed_remedy(FILE *to, const search *of, const jb_table *table, 
     }
 }
 
-/* Says that no speed of the range has a correct order, and how rows stand that are left at its largest. Gives these rows. */
+/* Says that no speed of the range has a correct order, and gives the rows left at its largest. */
 static uint64_t explain_no_speed(FILE *to, const search *of, const jb_table *table) {
     const bool degraded = of->letter == 'G';
     const uint32_t least = degraded ? 1 : table->degraded;
     const uint32_t largest = degraded ? table->normal : JB_MOST_SPEED;
     const uint32_t degraded_there = degraded ? largest : table->degraded;
-    const jb_table at_largest = with_speed(table, of->letter, largest);
     uint64_t left;
     plan_at(*table, largest, degraded_there, &left);
     fprintf(to, "number %d: no %c from %" PRIu32 " to %" PRIu32 " %s has a correct order\n", JB_NO_ORDER, of->letter, least,
             largest, per_slot(largest));
     fprintf(to, "rows left at %c = %" PRIu32 " %s:", of->letter, largest, per_slot(largest));
     put_rows_left(to, left);
-    put_each_left(to, &at_largest, left);
     put_speed_remedy(to, of, table, largest, degraded_there);
     return left;
 }
@@ -2619,8 +2618,7 @@ static const char PLAN_HELP[] =
     "because late LO rows are dropped; such orders are not looked for. A row that follows\n"
     "another stands below it, and orders in which it does not are not looked for either:\n"
     "beside a 7 it is said whether there is a correct order without such waits, but not\n"
-    "with --ceiling: it takes trials of its own to find out. Of each row left it is said how\n"
-    "many slots it is short, and then what that means: see left --help.\n"
+    "with --ceiling: it takes trials of its own to find out.\n"
     "\n"
     "--ceiling: no more than TRIALS trials are made, 0 to 4294967295; if it is given more\n"
     "than once, the last one counts. A trial is counted for\n"
@@ -2738,7 +2736,7 @@ static const char SPEEDS_HELP[] =
     "within its limits and does not matter otherwise. Correct is meant as for plan, with\n"
     "late rows going on. Status 1 if no speed of one range, or of both, has a correct\n"
     "order: that is said on standard output, and the rows left are then those at the\n"
-    "largest speed of the range, with the slots that each is short there, as left has them.\n"
+    "largest speed of the range.\n"
     "\n"
     "--slacks: for one order the judge's verdict at each G from 1 to N: correct or not, the\n"
     "row of least slack (the lower row on a tie) and that slack in slots. ROW.. is the\n"

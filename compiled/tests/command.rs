@@ -467,8 +467,7 @@ fn left_words(table: &Table, left: &[InSet]) -> String {
     }
 }
 
-/// The rows left with how many slots each is short, in words and in figures; `plan` says the same
-/// of them, at a ceiling too. A sheet that is refused is explained as by `finishes`.
+/// The rows left with how many slots each is short, in words and in figures. A sheet that is refused is explained as by `finishes`.
 #[test]
 fn rows_left() {
     let mut random = Random::seeded(716);
@@ -511,10 +510,7 @@ fn rows_left() {
         );
         if status == 1 {
             let of_plan = command_with_errors(&["plan", "-"], sheet).1;
-            let at_ceiling = command_with_errors(&["plan", "--ceiling", "2080", "-"], sheet).1;
             assert_eq!(errors, of_plan, "{table:?}");
-            assert!(of_plan.contains(&expected), "{of_plan}");
-            assert!(at_ceiling.contains(&expected), "{at_ceiling}");
         }
         for of in &left {
             let decides = of.slack < 0 && of.moment > of.finish;

@@ -21,7 +21,7 @@ use Rattle.rules.specs.Choice.{plan_of}
 use Rattle.rules.specs.Numbers.{check_number, planned_number}
 use Rattle.record.specs.Answers.{forward_said}
 use Rattle.record.specs.declared.Run.{Run}
-use Rattle.record.proofs.Fresh.{start_sized}
+use Rattle.record.proofs.FreshRuns.{start_sized}
 use Rattle.record.proofs.Kept.{Sized, sized_kept}
 use Rattle.record.specs.Records.{start_run, fresh_of, is_sound, next_run, one_slot, work_on, forward_over}
 use Rattle.guarantee.proofs.Concluded as Concluded

@@ -19,6 +19,10 @@ use Rattle.theory.specs.Tests.{by_eqb}
 use Rattle.conclusions.specs.Conclusions.{Planner}
 use Rattle.conclusions.specs.Ordered.{order_plain}
 
+none : (l : List ℕ) → length l ≡ 0 → l ≡ []
+none [] e = refl
+none (x ∷ l) e = absurd (omega arith)
+
 -- what the planner answers, as numbers
 abbrev Answered : Table → Check → Type 0
 Answered t c = Planner t (planned_number (plan_checked c t).answer) (plan_checked c t).order (rows_left (plan_checked c t).answer)

@@ -6,6 +6,12 @@ use Rattle.rules.specs.Lists.{all}
 use Rattle.texts.specs.Fields.{weights, digit_at, written}
 use Rattle.theory.specs.Tests.{and_left, and_right}
 
+-- an entry of a mapped list
+pub entry_map : (f : ℕ → ℕ) (l : List ℕ) (i : ℕ) → i < length l → get_or (map f l) i 0 ≡ f (get_or l i 0)
+entry_map f [] i h = absurd (omega arith)
+entry_map f (x ∷ l) zero h = refl
+entry_map f (x ∷ l) (suc i) h = entry_map f l i (omega arith)
+
 -- an entry of a list whose entries are all at least 1
 some : (l : List ℕ) (i : ℕ) → all (leb 1) l ≡ true → i < length l → 1 ≤ get_or l i 0
 some [] i e h = absurd (omega arith)

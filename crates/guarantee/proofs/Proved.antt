@@ -4,7 +4,7 @@ use Rattle.std.proofs.Common.{inl, inr, sym, subst, arith}
 use Rattle.std.proofs.Math.Path.{refl}
 use mathlib.Core.List.{List, [], ◌∷◌}
 use Rattle.record.specs.declared.Run.{Run}
-use Rattle.record.proofs.Fresh.{start_sound, start_sized}
+use Rattle.record.proofs.FreshRuns.{start_sound, start_sized}
 use Rattle.record.specs.Records.{record_of, start_run, fresh_of}
 use Rattle.rules.specs.declared.Table.{Table}
 use Rattle.rules.specs.declared.Check.TheVariants.{Passed}

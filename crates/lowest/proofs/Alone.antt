@@ -1,6 +1,6 @@
 -- The rows of a word alone (rule 25.3): the table of them, numbered anew, is a table like any other, and its choices are counted by the lowest row of the same
 -- rows in the whole table (rule 25.7).
-use Rattle.std.specs.Prelude.{ℕ, zero, suc, ◌-◌, ◌≤◌, Bool, true, ◌&&◌, cond, List, [], ◌∷◌, map, ◌≡◌, length, get_or}
+use Rattle.std.specs.Prelude.{ℕ, zero, suc, ◌-◌, ◌≤◌, Bool, true, ◌&&◌, cond, List, [], ◌∷◌, map, ◌≡◌, length, get_or, ◌<◌}
 use Rattle.std.proofs.Math.Bool.{not}
 use Rattle.std.proofs.Math.Path.{refl, sym, ap, ap₂}
 use Rattle.std.proofs.Common.{subst, ◌∙◌, ext_get_or, eq-eqb, eqb-true}
@@ -14,7 +14,7 @@ use Rattle.rules.specs.Orders.{is_arrangement, is_order}
 use Rattle.rules.specs.Rows.{at, rows_of, release_of, work_of, deadline_of, promised_of, follows_of}
 use Rattle.rules.specs.Worst.{meets}
 use Rattle.theory.proofs.Choosing.{lowest_stands}
-use Rattle.theory.specs.Counts.{In, Once, Within, in_head, in_tail, in_entry, erase_last, sum_eq, first_in, first_passes, first_none, same_size, map_entry}
+use Rattle.theory.specs.Counts.{In, Once, Within, in_head, in_tail, in_entry, erase_last, sum_eq, first_in, first_passes, first_none, same_size}
 use Rattle.theory.specs.Facts.{Row, TableFacts, count_zero, count_rows, count_no_row}
 use Rattle.theory.proofs.Finishes.{rows_of_lem, once_of}
 use Rattle.theory.specs.Places.{length_rows, same_length}
@@ -29,6 +29,12 @@ use Rattle.lowest.specs.Listed.{erase_within}
 use Rattle.lowest.specs.Standing.{may_stand, by_lowest}
 use Rattle.lowest.proofs.Standing.{free_stand, choices_lowest_lem}
 use Rattle.lowest.specs.Images.{Single, sum_map, erase_map, Image, passes_image}
+
+-- a figure of each row of a list
+map_entry : (g : ℕ → ℕ) (l : List ℕ) (k : ℕ) → k < length l → get_or (map g l) k 0 ≡ g (get_or l k 0)
+map_entry g [] k h = absurd (omega arith)
+map_entry g (x ∷ l) zero h = refl
+map_entry g (x ∷ l) (suc k) h = map_entry g l k (omega arith)
 
 -- the rows of a list by their new numbers
 pub numbered : (s : List ℕ) → map (at s) (rows_to (length s)) ≡ s

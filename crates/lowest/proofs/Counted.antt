@@ -20,7 +20,7 @@ use Rattle.rules.specs.Rows.{at, rows_of}
 use Rattle.rules.specs.Tables.{Accepted}
 use Rattle.rules.specs.Worst.{slack, meets}
 use Rattle.theory.proofs.Choosing.{choice_filled, keep_in, in_keep}
-use Rattle.theory.specs.Counts.{In, Within, Same, in_head, in_tail, count_erase_same, count_erase_other, sum_eq, sum_erase, sum_zero, sum_most, same_size, keep_all, empty, in_some}
+use Rattle.theory.specs.Counts.{In, Within, Same, in_head, in_tail, count_erase_same, count_erase_other, sum_eq, sum_erase, sum_zero, sum_most, same_size}
 use Rattle.theory.specs.Facts.{Row, TableFacts, facts, rows_in_lem, in_rows, all_in, in_all, count_zero}
 use Rattle.theory.specs.Places.{length_rows, rows_once, order_rows, order_long}
 use Rattle.theory.proofs.Promised.{correct, all_meet}
@@ -41,6 +41,19 @@ use Rattle.lowest.specs.Standing.{may_stand, by_lowest, stands_from}
 use Rattle.lowest.proofs.Standing.{may_fewer, many_below, many_standing, correct_is, choices_lowest_lem}
 use Rattle.lowest.proofs.Accepting.{alone_accepted}
 use Rattle.lowest.proofs.Alone.{Chosen, in_number, length_within, choices_alone, may_alone}
+
+empty : (l : List ℕ) → length l ≡ 0 → l ≡ []
+empty [] e = refl
+empty (x ∷ l) e = absurd (omega arith)
+
+-- a row that stands in a list, so that it is not empty
+in_some : (x : ℕ) (l : List ℕ) → In x l → 1 ≤ length l
+in_some x [] i = absurd (omega arith)
+in_some x (y ∷ l) i = omega arith
+
+keep_all : (p : ℕ → Bool) (l : List ℕ) → ((x : ℕ) → In x l → p x ≡ true) → keep p l ≡ l
+keep_all p [] h = refl
+keep_all p (x ∷ l) h = rw (h x (in_head x l), keep_all p l (λ y i. h y (in_tail y x l i)))
 
 -- the rows of a word, from the lowest number up
 

@@ -14,7 +14,7 @@ use Rattle.theory.specs.Counts.{In, Within, Same, part, in_last, count_append, c
 use Rattle.theory.specs.Facts.{Row, TableFacts, in_rows, rows_in_lem, followed_row_lem, all_in, in_all}
 use Rattle.theory.specs.Places.{length_rows, rows_once, stand_at}
 use Rattle.theory.proofs.Promised.{moved}
-use Rattle.theory.specs.Tests.{by_bool, by-leb, by_eqb, and_left, and_right, and_both, and_true, and_false, and_assoc, both_ways}
+use Rattle.theory.specs.Tests.{by_bool, by-leb, by_eqb, and_left, and_right, and_both, and_true, and_false, and_assoc}
 use Rattle.theory.proofs.Waiting.{unbound, unbound_table, same_slack_lem}
 use Rattle.theory.specs.Waits.{Stand}
 use Rattle.sweep.specs.Padded.{zeros, zeros_entry, padded_zeros, padded_take}
@@ -22,6 +22,12 @@ use Rattle.choices.specs.Choices.{arranged, arrangements, how_many, is_correct, 
 use Rattle.lowest.specs.Many.{Every, many_spread, many_map, many_agree, many_none, every_weaker}
 use Rattle.lowest.specs.Listed.{below, below_same, erased_length, erase_within, listed_same}
 use Rattle.lowest.specs.Standing.{may_stand, by_lowest, stands_from}
+
+-- two tests that pass for one another are the same
+pub both_ways : (a b : Bool) → (a ≡ true → b ≡ true) → (b ≡ true → a ≡ true) → a ≡ b
+both_ways true b f g = sym (f refl)
+both_ways false true f g = g refl
+both_ways false false f g = refl
 
 module _ (t : Table) where
   pub stands_last : (a l : List ℕ) (i : ℕ) → stands_from t a (l ++ (i ∷ [])) ≡ stands_from t a l && may_stand t (a ++ (l ++ (i ∷ []))) i

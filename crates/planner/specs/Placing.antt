@@ -1,5 +1,5 @@
 -- The loop that fills the places from the lowest up: what stands between two turns, and what each turn does.
-use Rattle.std.specs.Prelude.{ℕ, zero, suc, ◌+◌, ◌-◌, ◌^◌, ◌≤◌, ◌<◌, true, ◌≡◌, refl, List, ◌∷◌, ◌++◌, length, take, drop, set}
+use Rattle.std.specs.Prelude.{ℕ, zero, suc, ◌+◌, ◌-◌, ◌^◌, ◌≤◌, ◌<◌, true, ◌≡◌, refl, List, ◌∷◌, ◌++◌, length, take, drop, set, Bool, []}
 use Rattle.std.proofs.Common.{sym, ap, ◌∙◌, length-set, take-append-drop, drop-cons, drop-set-lt, get_or-set_same, length-take-le, eq-eqb, ne_eqb, le-ltb, lt-ltb}
 use native.Mathlib.Omega.{arith}
 use Rattle.std.specs.Int.Count.{ones}
@@ -10,12 +10,12 @@ use Rattle.rules.specs.declared.Refusal.{Refusal}
 use Rattle.ceiling.specs.declared.Counted.{Counted}
 use Rattle.ceiling.specs.Ceiling.{trials_at, trials_from, trial_count, over_ceiling, counted_from}
 use Rattle.ceiling.proofs.Bounds.{trials_none, trials_stuck, trials_turn}
-use Rattle.rules.specs.Lists.{count, erase}
+use Rattle.rules.specs.Lists.{count, erase, keep}
 use Rattle.rules.specs.Rows.{rows_of}
 use Rattle.rules.specs.Tables.{Accepted}
 use Rattle.rules.specs.Choice.{sequence, unfollowed, tried, passes, taker, fill, choice, padded, plan_from}
 use Rattle.theory.specs.Tests.{by_eqb}
-use Rattle.theory.specs.Counts.{In, first_in, same_size, keep_all}
+use Rattle.theory.specs.Counts.{In, first_in, same_size, in_head, in_tail}
 use Rattle.theory.specs.Facts.{Row, TableFacts, facts, rows_in_lem}
 use Rattle.theory.specs.Waits.{Closed, rows_closed}
 use Rattle.theory.specs.Places.{length_rows}
@@ -24,6 +24,10 @@ use Rattle.sweep.specs.Masks.{bit, is_left, cleared_ones}
 use Rattle.sweep.specs.Holds.{Holds, count_keep_le, holds_start, holds_without, holds_once, holds_row, holds_in, keep_without}
 use Rattle.sweep.specs.Padded.{zeros, padded_zeros}
 use Rattle.trials.specs.Prepared.{left_of, sequence_once, sequence_zero}
+
+keep_all : (p : ℕ → Bool) (l : List ℕ) → ((x : ℕ) → In x l → p x ≡ true) → keep p l ≡ l
+keep_all p [] h = refl
+keep_all p (x ∷ l) h = rw (h x (in_head x l), keep_all p l (λ y i. h y (in_tail y x l i)))
 
 -- the rows placed so far, highest first, where the places above, as many as `place` says, are open
 abbrev pub placed_below : Table → List ℕ → ℕ → List ℕ

@@ -13,8 +13,12 @@ use Rattle.rules.specs.Correct.{Correct, CorrectOrder}
 use Rattle.rules.specs.Choice.{choice, word, padded, plan_from, plan_checked, plan_of}
 use Rattle.rules.specs.Numbers.{refusal_number, planned_number, rows_left}
 use Rattle.theory.specs.Tests.{by_eqb}
-use Rattle.theory.specs.Counts.{In, in_head, empty}
+use Rattle.theory.specs.Counts.{In, in_head}
 use Rattle.theory.proofs.Results.{choice_order, choice_correct, choice_none}
+
+empty : (l : List ℕ) → length l ≡ 0 → l ≡ []
+empty [] e = refl
+empty (x ∷ l) e = absurd (omega arith)
 
 pub record Promise (t : Table) (r : Planning) : Type 0 where
   -- the answer is the planner's, of the checks of the table and the choice

@@ -11,7 +11,7 @@ use Rattle.theory.proofs.Finishes.{earliest_first}
 use Rattle.theory.specs.Tests.{by_bool}
 use Rattle.columns.specs.Figures.{sound_facts}
 use Rattle.record.specs.Checked.{limits}
-use Rattle.record.proofs.Fresh.{start_sound}
+use Rattle.record.proofs.FreshRuns.{start_sound}
 use Rattle.record.specs.Records.{state_of, start_run, is_sound}
 use Rattle.record.proofs.Sound.{sound_so, speeds}
 use Rattle.proposal.specs.Proposals.{check_proposal}

@@ -1,3 +1,3 @@
 pub mod Sound
 pub mod Kept
-pub mod Fresh
+pub mod FreshRuns

@@ -1,4 +1,4 @@
 pub mod Given
-pub mod Reads
+pub mod ReadsBack
 pub mod RoundTrip
 pub mod Longest

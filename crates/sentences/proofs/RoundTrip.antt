@@ -13,7 +13,7 @@ use Rattle.theory.specs.Counts.{keep_append}
 use Rattle.checks.specs.RowLists.{all_append}
 use Rattle.theory.specs.Tests.{by_bool, by_eqb, and_left, and_right, and_both}
 use Rattle.fields.specs.Values.{same_same}
-use Rattle.sweep.specs.Padded.{zeros, padded_zeros, all_zeros}
+use Rattle.sweep.specs.Padded.{zeros, padded_zeros}
 use Rattle.sentences.specs.declared.PlanAnswer.{PlanAnswer}
 use Rattle.sentences.specs.declared.JudgeAnswer.{JudgeAnswer}
 use Rattle.sentences.specs.declared.Kind.TheVariants.{Planner, Judge}
@@ -23,6 +23,10 @@ use Rattle.sentences.specs.Reading.{is_digit, figures_in, marked, word_of, small
 use Rattle.sentences.specs.Scanned.{tells_all}
 use Rattle.sentences.specs.Telling.{Held, yes_figures, plan_tells, judge_tells}
 use Rattle.sentences.specs.Minus.{judge_minus, letter_yes, letter_no, letter_digit}
+
+all_zeros : (o : List ℕ) → all_zero o ≡ true → o ≡ zeros (length o)
+all_zeros [] e = refl
+all_zeros (x ∷ o) e = ap₂ (λ (y : ℕ) (l : List ℕ). y ∷ l) (eqb-true x 0 (and_left (eqb x 0) (all_zero o) e)) (all_zeros o (and_right (eqb x 0) (all_zero o) e))
 
 -- ---- the order: what its places leave out is zeros
 pub last_within : (o : List ℕ) → length (up_to_last o) ≤ length o

@@ -18,7 +18,7 @@ use Rattle.texts.specs.Program.{place_line, plan_text, read_text, program_text}
 use Rattle.texts.specs.Reports.{is_late, job_line, needs_of, late_rows, last_line, report_text, check_report, report_of}
 use Rattle.texts.specs.Sheets.{read_of}
 use Rattle.theory.specs.Agree.{joined_agree}
-use Rattle.theory.specs.Counts.{sum_eq, empty}
+use Rattle.theory.specs.Counts.{sum_eq}
 use Rattle.theory.specs.Facts.{facts}
 use Rattle.theory.specs.Places.{place_row}
 use Rattle.theory.proofs.Promised.{natural, all_meet}
@@ -34,6 +34,10 @@ use Rattle.unwaited.specs.Unwaited as Then
 use Rattle.unwaited.specs.Unwaited.{Past, with_promises, Before}
 use Rattle.unwaited.proofs.Widened.{rows_joined}
 use Rattle.unwaited.proofs.WidenedSheets.{kept_wider}
+
+empty : (l : List ℕ) → length l ≡ 0 → l ≡ []
+empty [] e = refl
+empty (x ∷ l) e = absurd (omega arith)
 
 module _ (p : Past) (t : Table) (b : Before p t) where
   -- the report (section 16 of the rules)

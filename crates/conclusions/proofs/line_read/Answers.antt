@@ -1,7 +1,7 @@
 -- Every field is handed on as the exported function leaves it.
 use Rattle.std.proofs.Common.{refl, sym, subst, ◌∙◌, SFits, to_z-of_z}
 use Rattle.std.specs.Int.{w32}
-use Rattle.sentences.proofs.Reads.{told_slack_fits}
+use Rattle.sentences.proofs.ReadsBack.{told_slack_fits}
 use Rattle.conclusions.specs.Pasting.{slack_held, line_read}
 use Rattle.conclusions.proofs.line_read.Goals as goal
 
