@@ -202,8 +202,7 @@ pub fn tight_under(random: &mut Random, table: &Table, order: &Order, moves: &[i
         let index = row as usize - 1;
         let without_slack = i64::from(table.deadline[index]) - slack(table, order, row);
         let moved = without_slack + random.one_of(moves);
-        let earliest = i64::from(table.release[index]) + 1;
-        tight.deadline[index] = moved.max(earliest) as u32;
+        tight.deadline[index] = (moved as u32).max(table.release[index] + 1);
     }
     tight
 }

@@ -1,5 +1,5 @@
 -- The planner's conclusion, from what the planner promises.
-use Rattle.std.specs.Prelude.{ℕ, true, pos, nat_abs}
+use Rattle.std.specs.Prelude.{ℕ, List, [], ◌∷◌, true, pos, nat_abs}
 use Rattle.std.proofs.Math.Logic.{inl, inr, ⊎_elim}
 use Rattle.std.proofs.Math.Path.{◌≡◌, refl}
 use Rattle.std.proofs.Common.{ap, arith}
