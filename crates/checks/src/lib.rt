@@ -1,5 +1,7 @@
 // The need of a job (rules 1.8, 1.10), checks 3, 4, 11, 5, 12, 13 to 15 and 6 on tables and orders (section 5 of the rules), and check 10 on lent bytes
 // (rule 10.10).
+#![tactic(auto)]
+
 ghost use Rattle.std.specs.Prelude.{◌≡◌, true, ◌&&◌, ℕ, ◌≤◌, ◌<◌, eqb, length, get_or, drop};
 ghost use Rattle.rules.specs.Lists.{all, all_zero, count, rows_to};
 ghost use Rattle.rules.specs.Need.{work_slots, need};

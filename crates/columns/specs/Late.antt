@@ -1,5 +1,5 @@
 -- The clock's look through a column of closing slots (rule 19.2), row by row: what the code's loop does, and the entries after the last row.
-use Rattle.std.specs.Prelude.{ℕ, zero, suc, ◌+◌, ◌-◌, ◌≤◌, ◌<◌, Bool, true, false, cond, ◌&&◌, List, [], ◌∷◌, ◌++◌, ◌≡◌, refl, eqb, length, get_or, set, take, drop}
+use Rattle.std.specs.Prelude.{ℕ, zero, suc, ◌+◌, ◌≤◌, ◌<◌, Bool, true, false, cond, ◌&&◌, List, [], ◌∷◌, ◌++◌, ◌≡◌, refl, eqb, length, get_or, set, take, drop}
 use Rattle.std.proofs.Common.{ap, ◌∙◌, arith, add-one, take-append-drop, drop-cons, take-suc-set, drop-set-lt, eq-eqb}
 use Rattle.std.proofs.Math.Seq.{append_snoc}
 use Rattle.std.proofs.lemmas.List.{set-get_or}

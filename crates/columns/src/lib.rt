@@ -1,6 +1,8 @@
 // What check 9 asks of plain columns (rules 8.6, 8.7) and what a slot and the clock after it do to them (sections 2 and 19 of the rules), one
 // entry for each row, below the type of the run record. Row i is at index i - 1. Releases, deadlines, clocks, loading, slots used and closing
 // slots are in slots; work and supplies are in work units, speeds in work units per slot. Nothing here divides: a slot asks for no quotient.
+#![tactic(auto)]
+
 ghost use Rattle.std.specs.Prelude.{◌≡◌, cond, ◌&&◌, ◌||◌, ◌+◌, ◌≤◌, ◌<◌, max, min, eqb, leb, get_or};
 ghost use Rattle.rules.specs.Lists.{rows_to, all, first};
 ghost use Rattle.rules.specs.Need.{need};

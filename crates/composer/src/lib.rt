@@ -1,5 +1,7 @@
 // The composer: a planner's or a judge's answer as one English sentence, written into lent bytes (section 24 of the rules). Each function that puts
 // something writes from a byte on and answers the byte after what it wrote; what it needs room for is what it writes.
+#![tactic(auto)]
+
 ghost use Rattle.std.specs.Prelude.{◌≡◌, ◌+◌, ◌≤◌, length, take};
 ghost use Rattle.fields.specs.Wrote.{Wrote};
 ghost use Rattle.sentences.specs.Sentences.{judged_words, judged_meaning, up_to_last, rows_in, plan_opening, plan_sentence, yes_or_no, slack_words, judge_opening, judge_sentence, compose_of};
@@ -29,7 +31,7 @@ fn places(order: [u8; 64]) -> usize
 }
 
 // Rows of a word: how many there are, and their numbers, zeros after the last.
-#[derive(Drop)]
+#[derive(Clone, Copy)]
 struct Rows {
     many: usize,
     rows: [u8; 64],

@@ -1,5 +1,5 @@
 -- The table author's conclusions about the writer, from its definition and the theorems on reading and writing.
-use Rattle.std.specs.Prelude.{ℕ, ◌+◌, List, ◌++◌, ◌≡◌, length, get_or}
+use Rattle.std.specs.Prelude.{ℕ, List, ◌++◌, ◌≡◌, length, get_or}
 use Rattle.std.proofs.Math.Path.{refl, sym, ap}
 use Rattle.std.proofs.Common.{◌∙◌, arith}
 use Rattle.std.proofs.Math.ListN.{take, drop, length-append, length-drop}

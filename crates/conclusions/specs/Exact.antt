@@ -1,6 +1,6 @@
 -- The conclusions about the writer leave nothing open: whatever meets them is what the archive answers. So a conclusion that loses a clause
 -- which does not follow from its others is noticed here.
-use Rattle.std.specs.Prelude.{ℕ, ◌+◌, ◌≡◌, get_or}
+use Rattle.std.specs.Prelude.{ℕ, ◌≡◌, get_or}
 use mathlib.Core.List.{List, ◌++◌}
 use Rattle.std.proofs.Math.Path.{refl, sym, ap}
 use Rattle.std.proofs.Common.{◌∙◌, arith, take-append-drop, ext_get_or}

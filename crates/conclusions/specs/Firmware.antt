@@ -1,5 +1,5 @@
 -- The firmware writer's conclusion, from the definition of one slot on a record and the words that hold one.
-use Rattle.std.specs.Prelude.{ℕ, zero, suc, ◌+◌, ◌-◌, ◌≤◌, ◌<◌, min, max, Bool, true, false, cond, ◌&&◌, List, ◌≡◌, ltb, eqb, length, get_or}
+use Rattle.std.specs.Prelude.{ℕ, zero, suc, ◌+◌, ◌≤◌, ◌<◌, min, max, Bool, true, false, cond, ◌&&◌, List, ◌≡◌, ltb, eqb, length, get_or}
 use Rattle.std.proofs.Common.{inl, inr, ◌∙◌, arith}
 use Rattle.std.proofs.Math.Path.{refl, sym, ap}
 use borrow.Author.Tests.{ltb-true, ltb-false, lt-ltb, le-leb, lt-leb, eq-eqb, ne_eqb}
@@ -24,7 +24,7 @@ use Rattle.record.specs.Answers.{slot_said}
 use Rattle.record.specs.Checked.{limits}
 use Rattle.record.specs.Kept.{Sized, next_idle, sized_worked, sized_kept}
 use Rattle.record.specs.Records.{state_of, is_sound, chosen_row, next_run, worked_run, closed_run, coming_slot, one_slot}
-use Rattle.record.specs.Sound.{sound_so, runs}
+use Rattle.record.specs.Sound.{sound_so}
 use Rattle.record.specs.Stepping.{got_next, closing_next, rested, served, worked_served, next_looks}
 use Rattle.forward.specs.Forwarding.{worked_clock, next_clock}
 use Rattle.rules.specs.Tables.{FullTable}

@@ -1,6 +1,6 @@
 -- Two answers that meet the maintainer's conclusion are the same, and the archive's meets it: number, count, every count of a row as lowest, and every number of the
 -- scratch. So the conclusion can lose no clause that settles one of them unseen.
-use Rattle.std.specs.Prelude.{ℕ, zero, suc, ◌+◌, ◌-◌, ◌^◌, ◌≤◌, Bool, true, cond, List, [], ◌∷◌, ◌≡◌, refl, eqb, length, get_or}
+use Rattle.std.specs.Prelude.{ℕ, suc, ◌+◌, ◌-◌, ◌^◌, ◌≤◌, Bool, true, cond, List, [], ◌∷◌, ◌≡◌, refl, eqb, length, get_or}
 use Rattle.std.proofs.Common.{sym, ap, ◌∙◌, arith, ext_get_or, get_or-drop}
 use Rattle.rules.specs.declared.Table.{Table}
 use Rattle.rules.specs.Lists.{same}

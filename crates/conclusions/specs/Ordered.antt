@@ -12,7 +12,7 @@ use Rattle.rules.specs.declared.Check.TheVariants.{Passed, Refused}
 use Rattle.rules.specs.Lists.{all, all_zero, count, first, rows_to}
 use Rattle.rules.specs.Numbers.{refusal_number, check_number}
 use Rattle.rules.specs.Orders.{is_arrangement, is_above, keeps_wait, is_order, check_order, check_both}
-use Rattle.rules.specs.Rows.{at, follows_of, is_follower}
+use Rattle.rules.specs.Rows.{follows_of, is_follower}
 use Rattle.rules.specs.Tables.{and_then, check_table, Accepted}
 use Rattle.theory.specs.Counts.{In, first_passes, first_above}
 use Rattle.theory.specs.Facts.{Row, rows_in_lem, in_rows, TableFacts, facts, followed_row_lem}

@@ -1,12 +1,11 @@
 -- The conclusions about asking and committing, from their definitions and from demand 3.
-use Rattle.std.specs.Prelude.{ℕ, ◌+◌, ◌-◌, ◌≤◌, ◌<◌, true, List, ◌≡◌, length, get_or, replicate}
+use Rattle.std.specs.Prelude.{ℕ, ◌+◌, ◌≤◌, ◌<◌, true, List, ◌≡◌, length, get_or, replicate}
 use Rattle.std.proofs.Math.Path.{refl, sym, ap}
 use Rattle.std.proofs.Common.{subst, ◌∙◌}
 use native.Mathlib.Omega.{arith}
 use Rattle.rules.specs.declared.Table.{Table}
 use Rattle.rules.specs.declared.Refusal.{Refusal}
 use Rattle.rules.specs.declared.Refusal.TheVariants.{Unsound, NotCorrect, RowOpen, ReleasedBefore}
-use Rattle.rules.specs.declared.Check.{Check}
 use Rattle.rules.specs.declared.Check.TheVariants.{Passed, Refused}
 use Rattle.record.specs.declared.Run.{Run}
 use Rattle.proposal.specs.declared.Asking.{Asking}
@@ -36,7 +35,7 @@ use Rattle.words.specs.Inverse.{words_of_table_in, table_in_words_of, state_word
 use Rattle.conclusions.specs.declared.Begun.{Begun}
 use Rattle.conclusions.specs.declared.Proposed.{Proposed}
 use Rattle.conclusions.specs.Back.{read_full}
-use Rattle.conclusions.specs.Conclusions.{start_of, PenEngineer, Proposing, Committing}
+use Rattle.conclusions.specs.Conclusions.{PenEngineer, Proposing, Committing}
 use Rattle.conclusions.specs.Drawn.{penned}
 use Rattle.conclusions.specs.Entries.{table_words, state_words_lem}
 use Rattle.conclusions.specs.Forwarded.{clock_word}

@@ -1,6 +1,6 @@
 -- The program's text and the zeros after it, taken apart.
-use Rattle.std.specs.Prelude.{ℕ, ◌-◌, List, ◌++◌, ◌≡◌, refl, length, take, drop, replicate}
-use Rattle.std.proofs.Common.{sym, ap, ◌∙◌, take_at, drop_at}
+use Rattle.std.specs.Prelude.{ℕ, ◌-◌, List, ◌++◌, ◌≡◌, refl, length, replicate}
+use Rattle.std.proofs.Common.{take_at, drop_at}
 use Rattle.texts.specs.Program.{program_text}
 use Rattle.conclusions.specs.Conclusions.{Text}
 

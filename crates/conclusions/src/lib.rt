@@ -1,12 +1,14 @@
 // What each caller may rely on, shown of the exported functions themselves: each function here does what one caller does, through the
 // C boundary alone, and its contract is that caller's conclusion in plain terms (specs/Conclusions). None of it is shipped.
+#![tactic(auto)]
+
 ghost use Rattle.std.specs.Prelude.{◌≡◌, get_or};
 ghost use Rattle.rules.specs.Tables.{Accepted};
 ghost use Rattle.words.specs.Words.{table_in};
 ghost use Rattle.conclusions.specs.Conclusions.{TableAuthor, SheetBack, SheetAgain, NumberField, Text, Planner, PlannerWithin, Cutting, Maintainer, LeastFound, LeastRead, FreshRecord, Proposing, Committing, FirmwareWriter, Forwarding, Drawn, SalesDesk, Listing, LineRead, PlanPasted, VerdictPasted};
 
 // What reading a sheet and writing its table back said: both numbers, and the length in bytes.
-#[derive(Drop)]
+#[derive(Clone, Copy)]
 pub struct Again {
     pub read: u32,
     pub written: u32,
@@ -14,7 +16,7 @@ pub struct Again {
 }
 
 // What a fresh record was said to be, or a record after a commit: the number, and the words of its table, its order and its state.
-#[derive(Drop)]
+#[derive(Clone, Copy)]
 pub struct Begun {
     pub number: u32,
     pub table: [u32; 388],
@@ -23,7 +25,7 @@ pub struct Begun {
 }
 
 // What asking answered: its number, the rows left as a word, and the words of the table and the order proposed.
-#[derive(Drop)]
+#[derive(Clone, Copy)]
 pub struct Proposed {
     pub number: u32,
     pub left: u64,
@@ -32,7 +34,7 @@ pub struct Proposed {
 }
 
 // What the coming slot was said to be, what the slot itself said, numbers and rows, and the state's words after it.
-#[derive(Drop)]
+#[derive(Clone, Copy)]
 pub struct Slots {
     pub coming: u32,
     pub coming_row: u32,
@@ -42,7 +44,7 @@ pub struct Slots {
 }
 
 // What a record worked forward said, its number and the slots worked, and the state's words after them.
-#[derive(Drop)]
+#[derive(Clone, Copy)]
 pub struct Forwards {
     pub number: u32,
     pub worked: u32,
@@ -50,7 +52,7 @@ pub struct Forwards {
 }
 
 // What planning, the fresh record and working it forward said, the order, and the state's words at the end.
-#[derive(Drop)]
+#[derive(Clone, Copy)]
 pub struct Drawing {
     pub planned: u32,
     pub fresh: u32,
@@ -61,7 +63,7 @@ pub struct Drawing {
 }
 
 // What the judge said: its number, yes as 1 or 0 and the row of least slack; and the number that the worst finishes were answered with.
-#[derive(Drop)]
+#[derive(Clone, Copy)]
 pub struct Opinion {
     pub number: u32,
     pub yes: u32,
@@ -70,7 +72,7 @@ pub struct Opinion {
 }
 
 // What reading a sheet and searching it for a speed said, both numbers, and the words of the table that was read.
-#[derive(Drop)]
+#[derive(Clone, Copy)]
 pub struct Reads {
     pub read: u32,
     pub number: u32,
@@ -78,7 +80,7 @@ pub struct Reads {
 }
 
 // What is had back from a drawing: the numbers of composing a sentence and of reading it, whose answer it tells, and the fields of both answers.
-#[derive(Drop)]
+#[derive(Clone, Copy)]
 pub struct Pasted {
     pub composed: u32,
     pub read: u32,

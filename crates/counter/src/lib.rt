@@ -1,6 +1,8 @@
 // Counting choices (section 25 of the rules): how many orders of a table are correct, and how many of the rows of every word alone, by the rows that may stand
 // lowest. Rows count from 1; row i is bit i - 1 of a word and entry i - 1 of a column. Entries of the trial sequence count from 0 as they are stored, and from 1
 // where they are handed to functions on words.
+#![tactic(auto)]
+
 ghost use Rattle.std.specs.Prelude.{◌≡◌, true, map, ℕ, ◌-◌, ◌≤◌, ◌<◌, ◌^◌, length};
 ghost use Rattle.rules.specs.Choice.{padded};
 ghost use Rattle.rules.specs.Lists.{rows_to, sum};

@@ -1,6 +1,6 @@
 -- A number in decimal, one weight more at a time, and how long it is.
-use Rattle.std.specs.Prelude.{ℕ, zero, suc, ◌+◌, ◌≤◌, ◌<◌, true, false, List, [], ◌∷◌, ◌++◌, ◌≡◌, refl, length, get_or, take, drop}
-use Rattle.std.proofs.Common.{append-nil, sym, ap, ◌∙◌, add-one, arith, length-append, take-append-drop, take-suc, take_all}
+use Rattle.std.specs.Prelude.{ℕ, ◌+◌, ◌≤◌, ◌<◌, true, false, List, [], ◌∷◌, ◌++◌, ◌≡◌, refl, length, get_or, take, drop}
+use Rattle.std.proofs.Common.{append-nil, sym, ap, ◌∙◌, add-one, arith, length-append, take-append-drop, take-suc}
 use Rattle.rules.specs.Lists.{joined}
 use Rattle.texts.specs.Fields.{weights}
 use Rattle.texts.specs.Decimals.{has_digit, digit_if, decimal}

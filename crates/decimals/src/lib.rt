@@ -1,5 +1,7 @@
 // A number in decimal, its digits alone, written into lent bytes by the digits and the weights of a field (rule 24.2). Each function that puts
 // something writes from a byte on and answers the byte after what it wrote.
+#![tactic(auto)]
+
 ghost use Rattle.std.specs.Prelude.{◌≡◌, ◌+◌, ◌≤◌, length};
 ghost use Rattle.rules.specs.Lists.{joined};
 ghost use Rattle.texts.specs.Decimals.{has_digit, digit_if, decimal};

@@ -1,6 +1,8 @@
 // Fields: a decimal number in 8 bytes, read, and written into lent bytes, alone and on lines (rules 6.1 to 6.4). Reader, writer and program
 // share them. Figures: a whole number in 10 bytes, for the report (rule 16.1). Digits of both come by the same eight weights. Each function
 // that puts something writes from a byte on and answers the byte after what it wrote.
+#![tactic(auto)]
+
 ghost use Rattle.std.specs.Prelude.{◌≡◌, true, ◌&&◌, [], ◌∷◌, ◌+◌, ◌-◌, ◌*◌, ◌/◌, ◌%◌, ◌≤◌, ◌<◌, ltb, leb, pos, nat_abs, length};
 ghost use Rattle.texts.specs.Fields.{weights, digit_at, written, digit_of, value_of, is_field, field_at, line};
 ghost use Rattle.texts.specs.Reports.{figure};
@@ -12,7 +14,7 @@ ghost use Rattle.fields.specs.Figures.{signed_at, signed_columns};
 pub const WEIGHTS: [u32; 8] = [10000000, 1000000, 100000, 10000, 1000, 100, 10, 1];
 
 // What a field of eight bytes holds: a number, or nothing that is well formed.
-#[derive(Drop)]
+#[derive(Clone, Copy)]
 enum Field {
     Number(u32),
     Bad,

@@ -1,6 +1,8 @@
 // Forward, the second entry (rule 8.10): a lent run record is worked over lent supplies, one slot for each, by the record's own by-value
 // halves of a step, `Run::work` and `Run::close_late`. It keeps a clock that no open LO row's deadline is before; from there on the rows are
 // looked through for late ones, and the clock is asked for anew. Supplies are in work units, the clock and the slots worked in slots. What it means stands in record/specs/Records.
+#![tactic(auto)]
+
 ghost use Rattle.std.specs.Prelude.{◌≡◌, true};
 ghost use Rattle.record.specs.Records.{is_sound, work_on, forward_over};
 

@@ -10,7 +10,7 @@ use Rattle.rules.specs.Calls.{supply_from}
 use Rattle.rules.specs.Choice.{choice, word, plan_from, plan_of}
 use Rattle.ceiling.specs.Ceiling.{trial_count, most_trials, plan_within}
 use Rattle.rules.specs.Correct.{KeptIn, Correct, CorrectOrder, earliest, Window, WindowTo}
-use Rattle.proposal.specs.Days.{Act, InHand, begun, DayTold, tell_day, run_calls}
+use Rattle.proposal.specs.Days.{Act, begun, DayTold, tell_day, run_calls}
 use Rattle.rules.specs.Lists.{all}
 use Rattle.rules.specs.Orders.{is_order}
 use Rattle.rules.specs.Rows.{at, is_row, is_low, is_high, work_of, deadline_of, promised_of, follows_of}

@@ -1,6 +1,6 @@
 -- The claim from the other side: what a caller gets from `Demand3`, in plain terms, derived from its statement alone and without its proof.
 -- Where a field of the claim is weakened or left out, a proof here fails.
-use Rattle.std.specs.Prelude.{ℕ, zero, suc, ◌+◌, ◌-◌, ◌*◌, ◌/◌, ◌^◌, ◌≤◌, ◌<◌, min, true, not, ◌↔◌, ◌⊎◌, ◌≡◌, refl, List, [], ◌∷◌, map, ltb, eqb, length, get_or, replicate}
+use Rattle.std.specs.Prelude.{ℕ, zero, suc, ◌+◌, ◌-◌, ◌*◌, ◌/◌, ◌≤◌, ◌<◌, min, true, not, ◌↔◌, ◌⊎◌, ◌≡◌, refl, List, [], ◌∷◌, map, ltb, eqb, length, get_or, replicate}
 use Rattle.std.proofs.Common.{inl, inr, sym, subst, ◌∙◌, arith, pow_pos, eq-eqb, ne_eqb}
 use Rattle.std.proofs.Math.Path.{ap}
 use Rattle.record.specs.declared.Run.{Run}

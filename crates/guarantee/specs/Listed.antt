@@ -2,14 +2,14 @@
 -- one that the list began with (rule 9.10).
 use Rattle.std.specs.Prelude.{ℕ, ◌≤◌, true, not, ◌≡◌, eqb}
 use Rattle.std.proofs.Math.Path.{refl}
-use Rattle.std.proofs.Common.{sym, ap, subst, ◌∙◌, arith}
+use Rattle.std.proofs.Common.{ap, subst, ◌∙◌, arith}
 use mathlib.Core.List.{List, [], ◌∷◌}
 use Rattle.record.specs.declared.Run.{Run}
 use Rattle.record.specs.Records.{start_run, fresh_of}
 use Rattle.rules.specs.declared.Table.{Table}
 use Rattle.rules.specs.Calls.{Call, AllTold, tell, tell_all, supply_from}
 use Rattle.rules.specs.Correct.{earliest}
-use Rattle.proposal.specs.Days.{run, InHand, DayTold, tell_day, run_calls, just_runs}
+use Rattle.proposal.specs.Days.{InHand, DayTold, tell_day, run_calls, just_runs}
 use Rattle.rules.specs.Lists.{all}
 use Rattle.rules.specs.Orders.{is_order}
 use Rattle.rules.specs.Slots.{State, start_at, fresh}

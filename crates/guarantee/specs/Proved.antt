@@ -1,6 +1,6 @@
 -- Demand 3 (rules 9.5 to 9.12, 9.18 to 9.20, 22.7 to 22.9), the theorem: the claim holds of every accepted table and every list of run calls and commits.
 use Rattle.std.specs.Prelude.{ℕ, ◌+◌, ◌≤◌, Bool, true, not, ◌↔◌, ◌⊎◌, ◌≡◌, ltb, eqb, length, replicate}
-use Rattle.std.proofs.Common.{inl, inr, sym, ap, subst, ◌∙◌, arith}
+use Rattle.std.proofs.Common.{inl, inr, sym, subst, arith}
 use Rattle.std.proofs.Math.Path.{refl}
 use mathlib.Core.List.{List, [], ◌∷◌}
 use Rattle.record.specs.declared.Run.{Run}
@@ -11,15 +11,15 @@ use Rattle.rules.specs.declared.Check.TheVariants.{Passed}
 use Rattle.rules.specs.Calls.{last_clock, Call, one, forward, Said, tell_one, tell_forward, tell, supply_from}
 use Rattle.ceiling.specs.Bounds.{count_most, within_count}
 use Rattle.rules.specs.Choice.{choice, word, padded, plan_from, plan_of}
-use Rattle.rules.specs.Correct.{KeptIn, Correct, CorrectOrder, earliest, Window, WindowTo}
+use Rattle.rules.specs.Correct.{KeptIn, Correct, CorrectOrder, earliest, WindowTo}
 use Rattle.proposal.specs.Days.{Act, run, commit, InHand, begun, tell_act, tell_day, run_calls}
 use Rattle.rules.specs.Lists.{all}
 use Rattle.rules.specs.Numbers.{planned_number, rows_left}
 use Rattle.rules.specs.Orders.{is_order}
 use Rattle.proposal.specs.Proposals.{check_proposal}
-use Rattle.rules.specs.Rows.{at, is_row, is_low, is_high, work_of, deadline_of, promised_of, follows_of}
+use Rattle.rules.specs.Rows.{at, is_high, work_of, promised_of, follows_of}
 use Rattle.rules.specs.Running.{run_slot, run_after}
-use Rattle.rules.specs.Slots.{State, fresh, chosen}
+use Rattle.rules.specs.Slots.{State, fresh}
 use Rattle.rules.specs.Tables.{Accepted}
 use Rattle.rules.specs.Worst.{worst_speed}
 use Rattle.theory.specs.Closed.{closed_kept, closed_part}

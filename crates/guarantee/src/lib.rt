@@ -1,5 +1,7 @@
 // Demand 3 (rules 9.5 to 9.12, 9.18, 9.19) through the functions that are shipped: a list of run calls is played on the fresh record of a table and its
 // planned order, by `planner::plan`, `record::fresh`, `Run::slot` and `forward::forward`.
+#![tactic(auto)]
+
 ghost use Rattle.std.specs.Prelude.{◌≡◌, ◌+◌, ◌≤◌, ◌<◌, length, get_or};
 ghost use Rattle.rules.specs.Calls.{one, forward};
 ghost use Rattle.guarantee.specs.Playing.{make};
@@ -10,7 +12,7 @@ use record::Run;
 use rules::{Planning, Table};
 
 // What one call said, its number and its value (the row that ran, or the slots worked), and the record that it left.
-#[derive(Drop)]
+#[derive(Clone, Copy)]
 struct Turn {
     number: u32,
     value: u32,
@@ -18,7 +20,7 @@ struct Turn {
 }
 
 // The planner's answer, and the record that the last call left.
-#[derive(Drop)]
+#[derive(Clone, Copy)]
 pub struct Played {
     pub planning: Planning,
     pub run: Run,

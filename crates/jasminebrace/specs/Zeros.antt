@@ -1,5 +1,5 @@
 -- What is left of a list of zeros.
-use Rattle.std.specs.Prelude.{ℕ, zero, suc, ◌-◌, List, ◌≡◌, refl, drop, replicate}
+use Rattle.std.specs.Prelude.{ℕ, zero, suc, ◌-◌, ◌≡◌, drop, replicate}
 use Rattle.std.proofs.Common.{ap, ◌∙◌, arith}
 
 pub drop_zeros : (k n : ℕ) → drop {A = ℕ} k (replicate n 0) ≡ replicate (n - k) 0

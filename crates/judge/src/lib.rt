@@ -1,5 +1,7 @@
 // The judge of orders: worst finishes, the clocks that slacks count from, slacks, the row of least slack, and the verdict on an order (section 7 of the rules).
 // Rows count from 1; row i is bit i - 1 of a word and entry i - 1 of a column.
+#![tactic(auto)]
+
 ghost use Rattle.std.specs.Prelude.{◌≡◌, cond, map, ℕ, ◌≤◌, ◌<◌, ◌^◌, eqb, pos, ◌-ℤ◌, get_or};
 ghost use Rattle.rules.specs.declared.Check.TheVariants.{Passed};
 ghost use Rattle.rules.specs.Lists.{rows_to};
@@ -19,7 +21,7 @@ use rules::{Check, Row, Table, Verdict};
 
 // The rows of a table under an order, in slots, zeros after the last: each row's need at N, whatever its level, its worst finish, and the clock
 // that its slack counts from.
-#[derive(Drop)]
+#[derive(Clone, Copy)]
 pub struct Times {
     pub need: [u32; 64],
     pub finish: [u32; 64],
@@ -138,7 +140,7 @@ pub fn slack(deadline: u32, clock: u32) -> i32
 }
 
 // A row and its slack in slots.
-#[derive(Drop)]
+#[derive(Clone, Copy)]
 struct Least {
     row: u8,
     slack: i32,

@@ -1,1 +1,2 @@
 // Counting orders by their lowest rows (rule 25.7): theorems alone; this file has no function.
+#![tactic(auto)]

@@ -1,9 +1,9 @@
 -- A sentence composed into bytes that are enough for it: it stands at their start, and its length is told.
-use Rattle.std.specs.Prelude.{ℕ, ◌≤◌, List, ◌++◌, ◌≡◌, refl, length, take, drop}
+use Rattle.std.specs.Prelude.{ℕ, ◌≤◌, List, ◌++◌, ◌≡◌, length, take, drop}
 use Rattle.std.proofs.Common.{sym, ap, ◌∙◌, arith, length-append, le-ltb}
 use Rattle.std.proofs.Math.Seq.{take-append_seam}
 use Rattle.rules.specs.declared.Writing.{Writing}
-use Rattle.texts.specs.Lent.{check_room, WrittenBack}
+use Rattle.texts.specs.Lent.{check_room}
 use Rattle.sentences.specs.Sentences.{compose_of}
 
 module _ (sentence lent : List ℕ) (h : length sentence ≤ length lent) where

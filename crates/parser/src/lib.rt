@@ -1,5 +1,7 @@
 // The reader of sentences (rule 24.11). The figures in any bytes, in their sequence, give one planner's answer and one judge's answer; the bytes are a
 // sentence exactly if they are that of one of the two, composed again.
+#![tactic(auto)]
+
 ghost use Rattle.std.specs.Prelude.{◌≡◌, not, ◌≤◌, eqb, length, get_or, take, drop};
 ghost use Rattle.rules.specs.Lists.{same, count};
 ghost use Rattle.sentences.specs.Sentences.{plan_sentence, judge_sentence};
@@ -11,14 +13,14 @@ use rules::{Check, Refusal};
 use sentences::{JudgeAnswer, Kind, PlanAnswer, Told};
 
 // A figure that was read, 0 if there is none, and the byte to go on from.
-#[derive(Drop)]
+#[derive(Clone, Copy)]
 struct Figure {
     value: u32,
     next: usize,
 }
 
 // Sixty-four small numbers that were read, and the byte to go on from.
-#[derive(Drop)]
+#[derive(Clone, Copy)]
 struct Places {
     order: [u8; 64],
     next: usize,

@@ -1,6 +1,8 @@
 // Trials by shared sweeps: the rows left in busy periods, and the first entry of the trial sequence whose row is in time (rules 4.2 to 4.4).
 // The first row is row 1; the rows left are a word in which row i is bit i - 1 (rule 4.8). Entries of the trial sequence and places of the queue
 // count from 0 where they are stored and as bits of a word, and from 1 where they are handed to functions on words.
+#![tactic(auto)]
+
 ghost use Rattle.std.specs.Prelude.{◌≡◌, ◌≤◌, ◌<◌};
 ghost use Rattle.rules.specs.Rows.{at};
 ghost use Rattle.sweep.specs.Masks.{is_left};
@@ -81,7 +83,7 @@ pub fn renew<'a>(
 
 // What a search finds and leaves known at one speed: the entry, from 1, of the first row that passes, 0 where none does; the busy periods that have
 // changed since they were swept, by the places where they begin; and the entries known to be in time by the sweep, both as words.
-#[derive(Drop)]
+#[derive(Clone, Copy)]
 pub struct Search {
     pub found: u8,
     pub changed: u64,

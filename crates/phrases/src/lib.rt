@@ -1,5 +1,7 @@
 // Phrases: words, what a number means, counts with their nouns, and lists, written into lent bytes (rules 24.2 to 24.6). Each function writes from a
 // byte on and answers the byte after what it wrote; what it needs room for is what it writes.
+#![tactic(auto)]
+
 ghost use Rattle.std.specs.Prelude.{◌≡◌, ◌+◌, ◌≤◌, length, take, drop};
 ghost use Rattle.rules.specs.Lists.{joined};
 ghost use Rattle.fields.specs.Wrote.{Wrote};

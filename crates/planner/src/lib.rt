@@ -2,6 +2,8 @@
 // trials than a ceiling allows.
 // The first row is row 1; the rows left are a word in which row i is bit i - 1 (rule 4.8). Entries of the trial sequence and places of the queue
 // count from 0 where they are stored and as bits of a word, and from 1 where they are handed to functions on words.
+#![tactic(auto)]
+
 ghost use Rattle.std.specs.Prelude.{◌≡◌, min};
 ghost use Rattle.rules.specs.Tables.{Accepted};
 ghost use Rattle.ceiling.specs.Ceiling.{most_trials, counted_from, plan_within};

@@ -1,6 +1,6 @@
 -- What asking proposes is refused for the record alone (rule 22.6): its table is accepted, and its order passes check 6 and is correct.
-use Rattle.std.specs.Prelude.{ℕ, true, cond, ◌⊎◌, List, ◌≡◌, replicate}
-use Rattle.std.proofs.Common.{inl, inr, sym, ap, ◌∙◌, arith}
+use Rattle.std.specs.Prelude.{ℕ, true, ◌⊎◌, List, ◌≡◌, replicate}
+use Rattle.std.proofs.Common.{inl, inr, arith}
 use Rattle.std.proofs.Math.Path.{refl}
 use Rattle.rules.specs.declared.Table.{Table}
 use Rattle.rules.specs.declared.Check.{Check}

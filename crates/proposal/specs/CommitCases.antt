@@ -1,15 +1,15 @@
 -- Cases on proposals and commits, computed from the definitions and checked by a theorem for each of three tables (rule 13.16): what asking answers (rule 22.2), every number of a commit with
 -- all later faults beside it (rule 11.10), the clocks at which a commit is accepted (rules 10.17, 10.18), the record afterwards (rules 22.4, 22.5), and lists in which
 -- commits stand (rules 22.8, 22.9). Each of the faults 14.38 to 14.44 meets one here.
-use Rattle.std.specs.Prelude.{ℕ, Bool, true, false, cond, ◌&&◌, List, [], ◌∷◌, map, T, eqb}
+use Rattle.std.specs.Prelude.{ℕ, Bool, true, ◌&&◌, List, [], ◌∷◌, map, T, eqb}
 use Rattle.rules.specs.declared.Row.{Row}
 use Rattle.rules.specs.declared.Table.{Table}
 use Rattle.record.specs.declared.Run.{Run}
 use Rattle.record.specs.Records.{record_of, start_run, row_sound, tail_sound, is_sound}
 use Rattle.rules.specs.Calls.{one, forward, Said, tell_one, tell_forward}
-use Rattle.rules.specs.Cases.{six_figures, promising, following, job}
+use Rattle.rules.specs.Cases.{following, job}
 use Rattle.rules.specs.Choice.{plan_of, padded, unfollowed, passes, sequence, choice, fill, taker, word}
-use Rattle.proposal.specs.Days.{Act, run, commit, InHand, begun, tell_day}
+use Rattle.proposal.specs.Days.{Act, run, commit, begun, tell_day}
 use Rattle.rules.specs.Judge.{table_of, judge_of, tightest}
 use Rattle.rules.specs.Lists.{same}
 use Rattle.rules.specs.Need.{work_slots}
@@ -17,7 +17,6 @@ use Rattle.rules.specs.Numbers.{refusal_number, check_number, planned_number, ro
 use Rattle.rules.specs.Orders.{is_arrangement, is_order, check_order, check_both}
 use Rattle.texts.specs.Fields.{digit_at, digit_of, is_field, value_of, written}
 use Rattle.proposal.specs.Proposals.{ask_of, all_closed, released_from, check_turn, check_proposal}
-use Rattle.rules.specs.Rows.{at}
 use Rattle.rules.specs.Running.{close_late, run_slot}
 use Rattle.rules.specs.Slots.{fresh, is_pending, is_waiting, is_ready, chosen, is_over, brought, serve, slot}
 use Rattle.rules.specs.Tables.{row_ok, tail_ok, promise_ok, check_wait, check_table, zero_table}

@@ -3,7 +3,6 @@ use Rattle.std.specs.Prelude.{ℕ, ◌≤◌, ◌<◌, min, Bool, true, false, c
 use Rattle.std.proofs.Math.Bool.{not}
 use mathlib.Core.List.{List, [], ◌∷◌}
 use Rattle.std.proofs.Math.Path.{refl}
-use Rattle.std.proofs.Common.{sym, subst, ◌∙◌}
 use native.Mathlib.Omega.{arith}
 use Rattle.std.proofs.Math.Dec.{leb}
 use borrow.Author.Tests.{leb-true, eqb-false, ne_eqb, le-leb}
@@ -22,9 +21,9 @@ use Rattle.rules.specs.Rows.{at, is_row, rows_of, release_of, is_follower, follo
 use Rattle.rules.specs.Slots.{State}
 use Rattle.rules.specs.Tables.{count_ok, speeds_ok, loading_ok, row_ok, promise_ok, tail_ok, and_then, check_wait, check_waits, check_table}
 use Rattle.theory.specs.Counts.{In, in_head, in_tail}
-use Rattle.theory.specs.Facts.{row_is, in_rows, rows_in_lem, is_row_lem, TableFacts}
+use Rattle.theory.specs.Facts.{row_is, rows_in_lem, TableFacts}
 use Rattle.theory.specs.Finishes.{earliest_first}
-use Rattle.theory.specs.Tests.{by_bool, not_both, not_is}
+use Rattle.theory.specs.Tests.{by_bool, not_is}
 use Rattle.columns.specs.AllRows.{all_each, all_of}
 use Rattle.record.specs.Checked.{limits}
 use Rattle.judge.specs.Promise.{exactly}

@@ -6,7 +6,6 @@ use Rattle.rules.specs.declared.Check.{Check}
 use Rattle.rules.specs.declared.Check.TheVariants as Checks
 use Rattle.rules.specs.declared.Planned.{Planned}
 use Rattle.rules.specs.declared.Planned.TheVariants as Plans
-use Rattle.rules.specs.declared.Planning.{Planning}
 use Rattle.proposal.specs.declared.Asking.{Asking}
 use Rattle.rules.specs.Choice.{plan_of}
 use Rattle.rules.specs.Judge.{judge_of}

@@ -1,5 +1,5 @@
 -- What a commit that is answered 0 says of the record and leaves of it (rules 22.4, 22.10), and that a sound record stays sound (rule 8.16).
-use Rattle.std.specs.Prelude.{ℕ, ◌≤◌, true, List, ◌≡◌, refl}
+use Rattle.std.specs.Prelude.{ℕ, ◌≤◌, true, List, ◌≡◌}
 use Rattle.std.proofs.Common.{arith}
 use Rattle.rules.specs.declared.Table.{Table}
 use Rattle.rules.specs.declared.Refusal.TheVariants.{Unsound}

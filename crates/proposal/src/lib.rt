@@ -1,5 +1,7 @@
 // A new sheet while plotting (section 22 of the rules): asking for a proposal, and committing one to a run record. What they mean stands in
 // specs/Proposals and specs/Commits. Clocks, releases and closing slots are in slots.
+#![tactic(auto)]
+
 ghost use Rattle.std.specs.Prelude.{◌≡◌, ◌≤◌, leb};
 ghost use Rattle.rules.specs.Choice.{plan_of};
 ghost use Rattle.rules.specs.Judge.{judge_of};
@@ -15,7 +17,7 @@ use rules::{Check, Planned, Refusal, Table, Verdict};
 
 // What asking answers of a sheet: the reader's refusal, or what the planner answers of its table; and the table and the order proposed, both
 // all zero unless an order was made (rule 22.2).
-#[derive(Drop)]
+#[derive(Clone, Copy)]
 pub struct Asking {
     pub answer: Planned,
     pub table: Table,
@@ -23,14 +25,14 @@ pub struct Asking {
 }
 
 // What is proposed to a run record (rule 22.3): a table, and an order for it, row numbers from the highest place down and zeros behind them.
-#[derive(Drop)]
+#[derive(Clone, Copy)]
 pub struct Proposal {
     pub table: Table,
     pub order: [u8; 64],
 }
 
 // The answer of a commit's checks, and the record after it (rules 22.4, 22.5).
-#[derive(Drop)]
+#[derive(Clone, Copy)]
 pub struct Committed {
     pub check: Check,
     pub run: Run,

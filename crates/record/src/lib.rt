@@ -1,6 +1,8 @@
 // Run records (section 8 of the rules): what a record and the answers of its calls hold, the fresh record, check 9 and one slot.
 // What they mean stands in specs/Records and specs/Answers. Clocks, slots used and closing slots are in slots, work and supplies
 // in work units.
+#![tactic(auto)]
+
 ghost use Rattle.std.specs.Prelude.{◌≡◌, true, ◌≤◌, ◌<◌};
 ghost use Rattle.rules.specs.Tables.{passed, zero_table};
 ghost use Rattle.rules.specs.Orders.{check_both};
@@ -13,7 +15,7 @@ pub const LAST_CLOCK: u32 = 2000000;
 
 // A run record (rule 8.1): the table; the order, row numbers from the highest place down and zeros behind them (rule 5.6); and the state:
 // the clock in slots, and for each row the work units got, the slots used and the closing slot, which is 0 while the row is open (rule 2.13).
-#[derive(Drop)]
+#[derive(Clone, Copy)]
 pub struct Run {
     pub table: Table,
     pub order: [u8; 64],
@@ -24,21 +26,21 @@ pub struct Run {
 }
 
 // The answer of the checks of table and order and the fresh record, which is all zero on a refusal (rule 8.2).
-#[derive(Drop)]
+#[derive(Clone, Copy)]
 pub struct FreshRun {
     pub check: Check,
     pub run: Run,
 }
 
 // The answer for one slot: the row that ran, 0 for an idle slot, or a refusal (rules 8.9, 8.13, 8.14).
-#[derive(Drop)]
+#[derive(Clone, Copy)]
 pub enum SlotAnswer {
     Worked(u8),
     Refused(Refusal),
 }
 
 // The answer for one slot and the record after it (rule 8.9).
-#[derive(Drop)]
+#[derive(Clone, Copy)]
 pub struct Stepped {
     pub answer: SlotAnswer,
     pub run: Run,
@@ -46,7 +48,7 @@ pub struct Stepped {
 
 // The answer of forward: every slot was worked, and how many; the clock was over, and how many were worked up to then; or a refusal
 // (rules 8.10, 8.13, 8.14).
-#[derive(Drop)]
+#[derive(Clone, Copy)]
 pub enum ForwardAnswer {
     Worked(u32),
     ClockOver(u32),
@@ -54,7 +56,7 @@ pub enum ForwardAnswer {
 }
 
 // The answer of forward and the record after it (rule 8.10).
-#[derive(Drop)]
+#[derive(Clone, Copy)]
 pub struct Forwarded {
     pub answer: ForwardAnswer,
     pub run: Run,

@@ -1,6 +1,8 @@
 // The report: every job of a table under an order, a line for each place and a last line of totals, written into lent bytes (section 16
 // of the rules). Worst finishes and slacks are the judge's own. Each function that puts something writes from a byte on and answers the
 // byte after what it wrote.
+#![tactic(auto)]
+
 ghost use Rattle.std.specs.Prelude.{◌≡◌, [], ◌∷◌, ◌++◌, ◌+◌, ◌*◌, ◌≤◌, ◌<◌, pos, nat_abs, length};
 ghost use Rattle.rules.specs.declared.Check.TheVariants.{Passed};
 ghost use Rattle.rules.specs.Lists.{rows_to, joined};
@@ -13,7 +15,7 @@ use judge::Times;
 use rules::{Check, Table, Writing};
 
 // A job as its line shows it: the place, from 1, and its row; the row's need at N, worst finish and slack, in slots.
-#[derive(Drop)]
+#[derive(Clone, Copy)]
 struct Job {
     place: u32,
     row: u8,
@@ -23,7 +25,7 @@ struct Job {
 }
 
 // What the lines of all places come to: the byte after them, their needs at N added up in slots, and how many of their rows have a slack below 0 slots.
-#[derive(Drop)]
+#[derive(Clone, Copy)]
 struct Listed {
     next: usize,
     needs: u32,

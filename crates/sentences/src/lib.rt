@@ -1,9 +1,11 @@
 // Verdicts as sentences (section 24 of the rules): what an answer is when it is told, whatever values its fields hold. What its sentence is, and what
 // is read from a sentence, stands in specs/; this file has no function.
+#![tactic(auto)]
+
 use rules::Check;
 
 // A planner's answer: its number, the rows left as a word, the order, and the trials made (rule 24.1).
-#[derive(Drop)]
+#[derive(Clone, Copy)]
 pub struct PlanAnswer {
     pub number: u32,
     pub left: u64,
@@ -12,7 +14,7 @@ pub struct PlanAnswer {
 }
 
 // A judge's answer: its number, yes as 1 or no as 0, the tightest row, and its slack in slots (rule 24.1).
-#[derive(Drop)]
+#[derive(Clone, Copy)]
 pub struct JudgeAnswer {
     pub number: u32,
     pub yes: u32,
@@ -21,7 +23,7 @@ pub struct JudgeAnswer {
 }
 
 // Whose answer a sentence tells (rule 24.11).
-#[derive(Drop)]
+#[derive(Clone, Copy)]
 pub enum Kind {
     Neither,
     Planner,
@@ -30,7 +32,7 @@ pub enum Kind {
 
 // The answer of the reader of sentences: the check, whose answer was read, and that answer; the other one is all zero, and with a refusal both are
 // (rule 24.11).
-#[derive(Drop)]
+#[derive(Clone, Copy)]
 pub struct Told {
     pub check: Check,
     pub kind: Kind,

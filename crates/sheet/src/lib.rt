@@ -1,5 +1,7 @@
 // The sheet reader: bytes in, a checked table out (section 6 of the rules); they are only read (rule 9.3). The sheet writer: a checked table
 // in, its sheet out into lent bytes (section 15 of the rules).
+#![tactic(auto)]
+
 ghost use Rattle.std.specs.Prelude.{◌≡◌, true, [], ◌∷◌, ◌+◌, ◌*◌, ◌≤◌, ◌<◌, length};
 ghost use Rattle.rules.specs.Lists.{joined};
 ghost use Rattle.rules.specs.Rows.{rows_of};

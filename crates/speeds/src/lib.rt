@@ -1,5 +1,7 @@
 // Least workable speeds (section 18 of the rules): how slow a processor may be, by plannings at other speeds. All speeds are in work units per
 // slot. Correct orders stay correct at larger speeds, so that a search by halves finds the least.
+#![tactic(auto)]
+
 ghost use Rattle.std.specs.Prelude.{◌≡◌, ◌+◌, ◌-◌, ◌*◌, ◌/◌, ◌≤◌, eqb};
 ghost use Rattle.rules.specs.Numbers.{planned_number};
 ghost use Rattle.rules.specs.Tables.{Accepted};
@@ -11,7 +13,7 @@ use rules::{Check, Planned, Refusal, Searched, Searching, Sought, Table};
 
 // What a search has found so far: no speed below `low` works; `high` works, with this order, or is the speed after the range, with an order of
 // zeros. The least workable speed is from `low` to `high`.
-#[derive(Drop)]
+#[derive(Clone, Copy)]
 struct Between {
     low: u32,
     high: u32,

@@ -59,7 +59,7 @@ module _ (m : ℕ) (l : List ℕ) (i : ℕ) (i1 : 1 ≤ i) (i64 : i ≤ 64) (p :
   holds_with h =
       record {
         bits = λ j q. by_eqb j i
-            (λ e w. rw (w, count_same i l, h) (set_same (i - 1) m b))
+            (λ e w. subst (λ (z : ℕ). bit (m + 2 ^ (i - 1)) (z - 1) ≡ count z (i ∷ l)) (sym w) (set_same (i - 1) m b ∙ sym (count_same i l ∙ ap suc h)))
             (λ e w. set_other (i - 1) (j - 1) m b (λ z. w (omega arith)) ∙ p.bits j q ∙ sym (count_other j i l w));
         none = count_other 0 i l (λ w. omega arith) ∙ p.none;
         few = λ j q. count_other j i l (λ w. omega arith) ∙ p.few j q;

@@ -1,5 +1,5 @@
 -- What the program promises of its text, and that every text has at most 1,617 bytes: a first line of 17 and 64 lines of 25.
-use Rattle.std.specs.Prelude.{ℕ, ◌+◌, ◌≤◌, ◌≡◌, refl, List, [], ◌∷◌, ◌++◌, length, take, drop}
+use Rattle.std.specs.Prelude.{ℕ, ◌≤◌, ◌≡◌, refl, List, [], ◌∷◌, ◌++◌, length, take, drop}
 use Rattle.std.proofs.Common.{sym, ap, ◌∙◌, arith, length-append}
 use Rattle.std.specs.Int.Count.{ones}
 use Rattle.rules.specs.declared.Table.{Table}

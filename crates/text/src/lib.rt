@@ -1,5 +1,7 @@
 // The text that the planning program writes for a sheet: lines of 8-byte fields, each line ended by byte 10 (section 12 of the rules).
 // Each function writes from a byte of the text on and answers the byte after what it wrote.
+#![tactic(auto)]
+
 ghost use Rattle.std.specs.Prelude.{◌≡◌, ◌+◌, ◌*◌, ◌≤◌, ◌<◌, length, take};
 ghost use Rattle.rules.specs.Lists.{rows_to, joined};
 ghost use Rattle.rules.specs.Tables.{Accepted};

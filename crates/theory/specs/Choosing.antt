@@ -19,7 +19,7 @@ use Rattle.rules.specs.Worst.{meets}
 use Rattle.rules.specs.Choice.{insert, falling, sequence, unfollowed, tried, passes, taker, Choice, fill, choice, padded}
 use Rattle.theory.specs.Tests.{by_bool, by_eqb, by-leb, not_both, not_is, and_both}
 use Rattle.theory.specs.Counts.{In, Within, Same, part, last_of, count_append, count_same, count_other, count_erase_same, count_erase_other}
-use Rattle.theory.specs.Counts.{in_tail, in_some, erase_last, length_erase, first_in, first_passes, first_none, same_size}
+use Rattle.theory.specs.Counts.{in_tail, erase_last, length_erase, first_in, first_passes, first_none, same_size}
 use Rattle.theory.specs.Facts.{Row, in_rows, rows_in_lem, all_in, in_all, count_rows, count_zero, TableFacts}
 use Rattle.theory.specs.Waits.{Closed, Stand, stand_same, rows_closed}
 use Rattle.theory.specs.Places.{lower_above, above_lower, in_above, stand_at, order_rows, rows_once, length_rows, count_zeros}
@@ -217,9 +217,13 @@ module _ (t : Table) (f : TableFacts t) where
   no_zero : (left placed : List ℕ) → Filling t left placed → In 0 left → ⊥
   no_zero left placed h i = omega (arith, h.every 0, count_append 0 left placed, count_zero t.n)
 
+  length_none : (x : ℕ) (l : List ℕ) → length l ≤ 0 → In x l → ⊥
+  length_none x [] h i = omega arith
+  length_none x (y ∷ l) h i = omega arith
+
   filled : (k : ℕ) (left placed : List ℕ) → length left ≤ k → Filling t left placed → Filled (fill t k left placed)
   unfolding fill taker
-  filled zero left placed p h = record { filling = h; stuck = λ x i. absurd (omega (arith, in_some x left i)) }
+  filled zero left placed p h = record { filling = h; stuck = λ x i. absurd (length_none x left p i) }
   filled (suc k') left placed p h =
       let rows = tried t left in
       let i = first (passes t left) rows in

@@ -1,6 +1,6 @@
 -- Lists of rows as sets: how often a row stands in a list, and sums over lists that hold the same rows.
 use Rattle.std.specs.Prelude.{◌<◌, zero, ℕ, suc, ◌+◌, ◌-◌, ◌*◌, ◌≤◌, Bool, true, false, ◌≡◌, refl, List, [], ◌∷◌, ◌++◌, map, ◌⊎◌, eqb, length, get_or}
-use Rattle.std.proofs.Common.{sym, ◌∙◌, inl, inr, mul-suc, arith, eq-eqb, ne_eqb}
+use Rattle.std.proofs.Common.{subst, sym, ◌∙◌, inl, inr, mul-suc, arith, eq-eqb, ne_eqb}
 use Rattle.rules.specs.Lists.{first, count, keep, erase, sum}
 use Rattle.theory.specs.Tests.{by_bool, by_eqb, not_both}
 
@@ -184,12 +184,18 @@ sum_falls_one f g x (y ∷ l) i h k =
 
 -- the first row that passes a test
 
+first_on : (p : ℕ → Bool) (x : ℕ) (l : List ℕ) → p x ≡ true → first p (x ∷ l) ≡ x
+first_on p x l e = rw e
+
+first_off : (p : ℕ → Bool) (x : ℕ) (l : List ℕ) → p x ≡ false → first p (x ∷ l) ≡ first p l
+first_off p x l e = rw e
+
 pub first_in : (p : ℕ → Bool) (l : List ℕ) → (first p l ≡ 0 → ⊥) → In (first p l) l
 first_in p [] h = absurd (h refl)
 first_in p (x ∷ l) h =
     by_bool (p x)
-    (λ e. rw e (in_head x l))
-    (λ e. rw e (in_tail (first p l) x l (first_in p l (rw e at h))))
+    (λ e. subst (λ (w : ℕ). In w (x ∷ l)) (sym (first_on p x l e)) (in_head x l))
+    (λ e. subst (λ (w : ℕ). In w (x ∷ l)) (sym (first_off p x l e)) (in_tail (first p l) x l (first_in p l (rw e at h))))
 
 pub first_passes : (p : ℕ → Bool) (l : List ℕ) → (first p l ≡ 0 → ⊥) → p (first p l) ≡ true
 first_passes p [] h = absurd (h refl)
@@ -200,8 +206,9 @@ pub first_above : (p : ℕ → Bool) (a b : List ℕ) (x : ℕ) → In x a → p
 first_above p [] b x i e = absurd (omega arith)
 first_above p (y ∷ a) b x i e =
     by_bool (p y)
-    (λ f. rw f (in_head y a))
-    (λ f. rw f (in_tail (first p (a ++ b)) y a (first_above p a b x (rw (ne_eqb x y (λ w. not_both (p y) (rw w at e) f)) at i) e)))
+    (λ f. subst (λ (w : ℕ). In w (y ∷ a)) (sym (first_on p y (a ++ b) f)) (in_head y a))
+    (λ f. subst (λ (w : ℕ). In w (y ∷ a)) (sym (first_off p y (a ++ b) f))
+    (in_tail (first p (a ++ b)) y a (first_above p a b x (rw (ne_eqb x y (λ w. not_both (p y) (rw w at e) f)) at i) e)))
 
 -- where the first that passes is 0, and 0 is no row of the list, no row passes
 pub first_none : (p : ℕ → Bool) (l : List ℕ) → (In 0 l → ⊥) → first p l ≡ 0 → (x : ℕ) → In x l → p x ≡ false

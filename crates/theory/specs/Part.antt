@@ -4,7 +4,7 @@
 use Prim.Native.Nat.{ℕ, zero, suc, ◌+◌, ◌-◌, ◌*◌, ◌≤◌, ◌<◌, min}
 use Rattle.std.specs.Prelude.{false, cond, ◌≡◌, List, [], ◌∷◌, ◌++◌, map, ◌⊎◌, eqb, length, get_or}
 use Rattle.std.proofs.Math.Path.{refl, ap}
-use Rattle.std.proofs.Common.{sym, ◌∙◌}
+use Rattle.std.proofs.Common.{subst, sym, ◌∙◌}
 use Rattle.std.proofs.lemmas.List.{map-append, length-map}
 use Rattle.std.proofs.Math.Logic.{inl, inr}
 use native.Mathlib.Omega.{arith}
@@ -252,8 +252,9 @@ module _ (t : Table) (f : TableFacts t) (i : ℕ) (r : Row t i) (some : 1 ≤ pr
   stays_parted k h =
       let e : suc k ≡ 1 + k = omega arith in
       record {
-        has = rw e (omega (arith, h.has, got_grows t f rule o σ i r k 1));
-        closed = rw (e, ap (λ (x : Cell). x.closing) (closed_stays (part_table t i) g (part_rule t f i rule) o σ i part_i k 1 h.closed)) h.closed;
+        has = subst (λ (m : ℕ). promised_of t i ≤ at (whole_at m).got i) (sym e) (omega (arith, h.has, got_grows t f rule o σ i r k 1));
+        closed = subst (λ (m : ℕ). 1 ≤ at (part_at m).closing i) (sym e)
+            (rw (ap (λ (x : Cell). x.closing) (closed_stays (part_table t i) g (part_rule t f i rule) o σ i part_i k 1 h.closed)) h.closed);
       }
 
   -- both runs make the same slot

@@ -1,7 +1,7 @@
 -- Where the rows of an order stand: an order that passes check 6 holds each row once in its first n places, and nothing else.
 use Rattle.std.specs.Prelude.{ℕ, zero, suc, ◌+◌, ◌-◌, ◌≤◌, ◌<◌, Bool, true, ◌||◌, ◌≡◌, refl, List, [], ◌∷◌, ◌++◌, eqb, length, get_or, take, drop}
 use Rattle.std.proofs.Math.Bool.{or-true}
-use Rattle.std.proofs.Common.{sym, ap, ◌∙◌, append_assoc, arith, length-append, length-take, take-append-drop, get_or-take, take-suc, eqb-true, eq-eqb, lt-ltb}
+use Rattle.std.proofs.Common.{subst, sym, ap, ◌∙◌, append_assoc, arith, length-append, length-take, take-append-drop, get_or-take, take-suc, eqb-true, eq-eqb, lt-ltb}
 use Rattle.std.proofs.Math.ListN.{get_or-append}
 use Rattle.std.proofs.Math.Seq.{get_or-append_seam}
 use Rattle.rules.specs.declared.Table.{Table}
@@ -28,7 +28,7 @@ same_length (y ∷ a) b h k x =
     let i : In y b = omega (arith, h y, count_same y a) in
     let r = same_length a (erase y b) less (omega (arith, length_erase y b i)) in
     by_eqb x y
-    (λ e q. rw q (omega (arith, count_same y a, r y, count_erase_same y b)))
+    (λ e q. subst (λ (w : ℕ). count w (y ∷ a) ≡ count w b) (sym q) (omega (arith, count_same y a, r y, count_erase_same y b)))
     (λ e q. rw e (omega (arith, r x, count_erase_other x y b q)))
   where
     less : (z : ℕ) → count z a ≤ count z (erase y b)

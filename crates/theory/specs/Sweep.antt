@@ -1,6 +1,6 @@
 -- The sweep: one pass over rows sorted by release finds the finish.
 use Rattle.std.specs.Prelude.{ℕ, zero, suc, ◌+◌, ◌-◌, ◌≤◌, ◌<◌, max, true, false, cond, ◌&&◌, ◌≡◌, refl, List, [], ◌∷◌, ltb, leb}
-use Rattle.std.proofs.Common.{arith, lt-ltb, le-ltb, ne_eqb}
+use Rattle.std.proofs.Common.{subst, sym, arith, lt-ltb, le-ltb, ne_eqb}
 use Rattle.rules.specs.Lists.{sum}
 use Rattle.theory.specs.Tests.{by-ltb, by-leb, by_eqb, by_bool}
 use Rattle.theory.specs.Counts.{In, in_head, in_tail, sum_same}
@@ -63,13 +63,21 @@ module _ (rel cap : ℕ → ℕ) where
   upto_ge u b [] = omega arith
   upto_ge u b (x ∷ xs) = by-ltb (rel x) u (λ e q. rw e (omega (arith, upto_ge u (max b (rel x) + cap x) xs))) (λ e q. rw e (omega arith))
 
+  -- the sweep at a row: it stops before it, or goes on with it
+  sweep_stops : (a b x : ℕ) (xs : List ℕ) → (ltb a (rel x) && leb b (rel x)) ≡ true → sweep a b (x ∷ xs) ≡ b
+  sweep_stops a b x xs e = rw e
+
+  sweep_goes : (a b x : ℕ) (xs : List ℕ) → (ltb a (rel x) && leb b (rel x)) ≡ false → sweep a b (x ∷ xs) ≡ sweep a (max b (rel x) + cap x) xs
+  sweep_goes a b x xs e = rw e
+
   -- at the sweep's answer nothing is left
   sweep_clear : (a b : ℕ) (l : List ℕ) → upto (sweep a b l) b l ≤ sweep a b l
   sweep_clear a b [] = omega arith
   sweep_clear a b (x ∷ xs) =
       by-stop a b (rel x)
-      (λ e p q. rw (e, le-ltb (rel x) b q) (omega arith))
-      (λ e p. rw e (by-ltb (rel x) (sweep a (max b (rel x) + cap x) xs)
+      (λ e p q. subst (λ (w : ℕ). upto w b (x ∷ xs) ≤ w) (sym (sweep_stops a b x xs e)) (rw (le-ltb (rel x) b q) (omega arith)))
+      (λ e p. subst (λ (w : ℕ). upto w b (x ∷ xs) ≤ w) (sym (sweep_goes a b x xs e))
+      (by-ltb (rel x) (sweep a (max b (rel x) + cap x) xs)
       (λ f q. rw f (sweep_clear a (max b (rel x) + cap x) xs))
       (λ f q. rw f (omega (arith, sweep_ge a (max b (rel x) + cap x) xs)))))
 
@@ -96,9 +104,10 @@ module _ (rel cap : ℕ → ℕ) where
   sweep_past n x b [] s h c = absurd (omega arith)
   sweep_past n x b (y ∷ ys) s h c =
       by_eqb x y
-      (λ e q. rw q (by-stop (rel y) b (rel y)
+      (λ e q. subst (λ (w : ℕ). rel w < sweep (rel w) b (y ∷ ys)) (sym q) (by-stop (rel y) b (rel y)
       (λ e p r. absurd (omega arith))
-      (λ e p. rw e (omega (arith, rw q at c, sweep_ge (rel y) (max b (rel y) + cap y) ys)))))
+      (λ e p. subst (λ (w : ℕ). rel y < w) (sym (sweep_goes (rel y) b y ys e))
+      (omega (arith, rw q at c, sweep_ge (rel y) (max b (rel y) + cap y) ys)))))
       (λ e q. by-stop (rel x) b (rel y)
       (λ f p r. absurd (omega (arith, sorted_in (rel y) x ys s.1 (rw e at h))))
       (λ f p. rw f (sweep_past (rel y) x (max b (rel y) + cap y) ys s.1 (rw e at h) c)))

@@ -1,6 +1,8 @@
 // What a planning prepares, and the entries that are tried at a place (rules 4.2 to 4.4, 4.11). The first row is row 1; the rows left are a word in which
 // row i is bit i - 1 (rule 4.8). Entries of the trial sequence and places of the queue count from 0 where they are stored and as bits of a word, and from
 // 1 where they are handed to functions on words.
+#![tactic(auto)]
+
 ghost use Rattle.std.specs.Prelude.{◌≡◌, map, ℕ, ◌-◌, ◌≤◌, ◌<◌, cond, eqb, get_or, take};
 ghost use Rattle.rules.specs.Lists.{rows_to};
 ghost use Rattle.rules.specs.Rows.{at};
@@ -19,7 +21,7 @@ use rules::Table;
 // What a planning works out once: the rows by rising release, the trial sequence, each row's entry in it from 0, the entries of LO and of HI rows as
 // words, the caps in slots at supplies of at least the normal and at least the degraded speed, and the needs in slots of the promised parts at the
 // degraded speed.
-#[derive(Drop)]
+#[derive(Clone, Copy)]
 pub struct Trials {
     pub queue: [u8; 64],
     pub sequence: [u8; 64],

@@ -1,4 +1,6 @@
 // Tables and run records as the words that a C caller lends, and back. specs/Words says which word is which.
+#![tactic(auto)]
+
 ghost use Rattle.std.specs.Prelude.{◌≡◌, ◌+◌, ◌≤◌, length};
 ghost use Rattle.std.proofs.Math.Seq.{paste};
 ghost use Rattle.words.specs.Words.{column_at, table_in, words_of, run_in, state_words};

@@ -1,0 +1,10 @@
+-- The first i bytes of the field are copied.
+use Rattle.std.proofs.Common.{◌-◌, ◌≤◌, ◌≡◌, length}
+use Rattle.std.proofs.Math.Seq.{paste}
+use Rattle.fields.proofs.put_field.Given as goal
+
+abbrev pub invariant-loop-i : goal.invariant-loop-i
+invariant-loop-i l = (l.i ≤ 8) × (length l.out ≡ length l.initial.out) × (l.out ≡ paste l.initial.out l.at l.field l.i)
+
+abbrev pub decreases-loop-i : goal.decreases-loop-i
+decreases-loop-i l = 8 - l.i

@@ -1,0 +1,19 @@
+-- A space, a space or the minus, and the columns of the weights, one after the other.
+use Rattle.std.proofs.Common.{ℕ, ◌<◌, ◌∷◌, ◌≡◌, ℤ, pos, nat_abs}
+use Rattle.std.proofs.Math.Facts.{to_z-of_z}
+use Rattle.std.specs.Int.Signed.{lt_z}
+use Rattle.texts.specs.Reports.{figure}
+use Rattle.fields.specs.Figures.{signed_at, signed_columns, by_sign}
+use Rattle.fields.specs.Wrote.{wrote_as, wrote_then}
+use Rattle.fields.proofs.put_figure.Goals as goal
+
+-- the number z is read back from its bits as z'
+as_figure : (z z' : ℤ) (size minus : ℕ) → z' ≡ z → size ≡ nat_abs z' → minus ≡ signed_at (lt_z z' (pos 0)) size 100000000 → nat_abs z < 100000000
+    → 32 ∷ minus ∷ signed_columns (lt_z z' (pos 0)) size ≡ figure z
+as_figure z z' size minus same sized signed small = rw (signed, sized, same) (by_sign z small)
+
+pub returns : goal.returns
+returns c =
+    let z = c.args.value in
+    let w = wrote_then c.put_byte-second.ensures (wrote_then c.put_byte-third.ensures c.put_columns.ensures) in
+    wrote_as (as_figure z _ _ _ (to_z-of_z c.ranges.value) c.size_of-size.ensures c.figure_byte.ensures c.requires.0) w

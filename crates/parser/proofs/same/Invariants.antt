@@ -1,0 +1,10 @@
+-- Lists of one length whose first i entries are equal are the same exactly if what is left of them is.
+use Rattle.std.proofs.Common.{◌-◌, ◌≤◌, ◌≡◌, length, drop}
+use Rattle.rules.specs.Lists.{same}
+use Rattle.parser.proofs.same.Given as goal
+
+abbrev pub invariant-loop-i : goal.invariant-loop-i
+invariant-loop-i l = (l.i ≤ length l.first) × (same (drop l.i l.first) (drop l.i l.second) ≡ same l.first l.second)
+
+abbrev pub decreases-loop-i : goal.decreases-loop-i
+decreases-loop-i l = length l.first - l.i

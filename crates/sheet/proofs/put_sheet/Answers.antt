@@ -1,0 +1,16 @@
+-- The first line and then the lines of the rows.
+use Rattle.std.proofs.Common.{[], ◌∷◌, arith}
+use Rattle.texts.specs.Fields.{line}
+use Rattle.texts.specs.Sheets.{sheet_of}
+use Rattle.fields.specs.Wrote.{wrote_then}
+use Rattle.sheet.specs.Writer.{head_long}
+use Rattle.sheet.proofs.put_sheet.Goals as goal
+
+pub put_rows-requires : goal.put_rows-requires
+put_rows-requires c = (c.requires.0, omega (arith, c.put_four-next.ensures.after, head_long c.args.t))
+
+pub returns : goal.returns
+unfolding sheet_of
+returns c =
+    let t = c.args.t in
+    wrote_then {x = line (t.n ∷ t.normal ∷ t.degraded ∷ t.loading ∷ [])} c.put_four-next.ensures c.put_rows.ensures
