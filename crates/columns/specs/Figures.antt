@@ -1,5 +1,5 @@
 -- A row's figures apart from its table and record: what the code tests of one row and of the columns. That it is what
--- the definitions say of a record's row is shown above, in record/specs/Sound and in the proofs of the record's functions.
+-- the definitions say of a record's row is shown above, in record/proofs/Sound and in the proofs of the record's functions.
 use Rattle.std.specs.Prelude.{ℕ, ◌+◌, ◌-◌, ◌≤◌, ◌<◌, max, Bool, true, false, cond, not, ◌&&◌, ◌||◌, List, ◌≡◌, eqb, ltb, get_or}
 use Rattle.std.proofs.Common.{◌∙◌, arith}
 use Rattle.std.proofs.Math.Dec.{leb}

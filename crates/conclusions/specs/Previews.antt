@@ -1,4 +1,4 @@
--- Late previews (section 19 of the rules) in plain terms, from the statements of theory/specs/Results and theory/specs/Seven alone: where one of
+-- Late previews (section 19 of the rules) in plain terms, from the statements of theory/proofs/Results and theory/proofs/Seven alone: where one of
 -- these says less, a proof here fails. Times are in slots, supplies in work units, N and G in work units per slot.
 use Rattle.std.specs.Prelude.{ℕ, ◌≤◌, ◌<◌, max, true, List, ◌⊎◌, ◌≡◌}
 use Rattle.std.proofs.Common.{eq-eqb, ne_eqb, eqb-true}

@@ -1,2 +1,2 @@
-// The theory of the rules: what this crate has is in specs/, and specs/Results.antt is the file to cite.
+// The theory of the rules: its definitions and first lemmas stand in specs/, its theorems in proofs/, and proofs/Results.antt is the file to cite.
 #![tactic(auto)]
