@@ -100,28 +100,28 @@
  * Stack, in bytes, without what the caller lends. It is measured, over tables of
  * 1 and 64 rows, for jb_count of 12 rows too, and not proved: the most that each
  * call took, and some bytes more (512 stands for less); docs/BENCHMARKS.md says how:
- *     jb_read                  8,192
+ *     jb_read                  9,728
  *     jb_write                 5,120
  *     jb_field                   512
- *     jb_plan                 12,032
- *     jb_plan_within          12,032
- *     jb_ask                  13,568
- *     jb_least_degraded       15,360
- *     jb_least_normal         15,360
- *     jb_read_least_degraded  15,616
- *     jb_read_least_normal    15,616
+ *     jb_plan                 13,056
+ *     jb_plan_within          13,056
+ *     jb_ask                  14,592
+ *     jb_least_degraded       16,640
+ *     jb_least_normal         16,640
+ *     jb_read_least_degraded  16,640
+ *     jb_read_least_normal    16,640
  *     jb_judge                10,240
- *     jb_judge_rows           12,800
- *     jb_finishes              7,680
- *     jb_report                8,960
- *     jb_count                 9,984
- *     jb_fresh                 9,216
+ *     jb_judge_rows           11,520
+ *     jb_finishes              7,936
+ *     jb_report                9,216
+ *     jb_count                10,240
+ *     jb_fresh                11,520
  *     jb_coming               14,848
- *     jb_slot                 17,920
- *     jb_forward              16,896
- *     jb_commit               28,672
- *     jb_program              16,128
- *     jb_plan_sentence         2,048
+ *     jb_slot                 16,128
+ *     jb_forward              20,224
+ *     jb_commit               38,144
+ *     jb_program              17,408
+ *     jb_plan_sentence         1,792
  *     jb_judge_sentence          512
  *     jb_read_sentence         3,072
  *     jb_version                 512
