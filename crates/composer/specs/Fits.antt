@@ -2,7 +2,7 @@
 use Rattle.std.proofs.Common.{arith, SFits}
 use Rattle.std.specs.Prelude.{ℤ, pos, negsuc}
 use Rattle.std.specs.Int.{w32}
-use Rattle.sentences.proofs.RoundTrip.{SlackFits}
+use Rattle.sentences.specs.RoundTrip.{SlackFits}
 
 pub slack_fits : (z : ℤ) → SFits w32 z → SlackFits z
 slack_fits (pos v) f = let s = f.sfits in omega arith

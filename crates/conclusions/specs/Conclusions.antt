@@ -11,7 +11,7 @@ use Rattle.ceiling.specs.Ceiling.{trial_count, plan_within}
 use Rattle.choices.specs.Choices.{how_many, rows_in, alone, count_of}
 use Rattle.stuck.specs.Stuck.{is_stuck, is_way, leaves, cut, remaining, slack_in, Held}
 use Rattle.rules.specs.Lists.{count, rows_to, sum, same}
-use Rattle.rules.proofs.Meaning.{Serves}
+use Rattle.rules.specs.Meaning.{Serves}
 use Rattle.rules.specs.Need.{need}
 use Rattle.rules.specs.Numbers.{check_number, planned_number, rows_left}
 use Rattle.rules.specs.Orders.{is_order, check_both}
@@ -27,7 +27,7 @@ use Rattle.texts.specs.Sheets.{is_line, number_at, read_of}
 use Rattle.sentences.specs.declared.PlanAnswer.{PlanAnswer}
 use Rattle.sentences.specs.declared.JudgeAnswer.{JudgeAnswer}
 use Rattle.sentences.specs.Sentences.{plan_sentence, judge_sentence}
-use Rattle.sentences.proofs.RoundTrip.{PlanFits, JudgeFits}
+use Rattle.sentences.specs.RoundTrip.{PlanFits, JudgeFits}
 use Rattle.sentences.specs.Reading.{read_sentence, kind_number, number_told}
 use Rattle.record.specs.Answers.{slot_said, forward_said}
 use Rattle.record.specs.Records.{is_sound, start_run, one_slot, forward_over}

@@ -9,7 +9,8 @@ use Rattle.rules.specs.declared.Check.TheVariants.{Passed, Refused}
 use Rattle.rules.specs.declared.Searching.{Searching}
 use Rattle.rules.specs.Choice.{choice, padded, plan_of}
 use Rattle.rules.specs.Correct.{CorrectOrder}
-use Rattle.rules.proofs.Meaning.{Serves, correct_serves, serves_correct}
+use Rattle.rules.proofs.Meaning.{correct_serves, serves_correct}
+use Rattle.rules.specs.Meaning.{Serves}
 use Rattle.rules.specs.Numbers.{check_number, searched_number, searched_speed}
 use Rattle.rules.specs.Orders.{is_order}
 use Rattle.rules.specs.Tables.{check_table, Accepted, FullTable}

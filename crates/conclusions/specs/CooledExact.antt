@@ -3,7 +3,7 @@
 use Rattle.std.specs.Prelude.{ℕ, ◌≤◌, ◌<◌, true, ◌↔◌, ◌≡◌, List}
 use Rattle.std.proofs.Common.{inl, inr, ⊎_elim, sym, ap, subst, ◌∙◌, arith}
 use Rattle.rules.specs.Choice.{choice, padded}
-use Rattle.rules.proofs.Meaning.{Serves}
+use Rattle.rules.specs.Meaning.{Serves}
 use Rattle.rules.specs.Orders.{is_order}
 use Rattle.theory.specs.Tests.{by_eqb, by-ltb}
 use Rattle.conclusions.specs.Conclusions.{speed_at, LeastFound, LeastRead}

@@ -7,7 +7,7 @@ use Rattle.rules.specs.declared.Table.{Table}
 use Rattle.rules.specs.Calls.{last_clock, Call, one, forward, supply_from}
 use Rattle.rules.specs.Correct.{earliest}
 use Rattle.proposal.specs.Days.{just_runs}
-use Rattle.rules.proofs.Meaning.{Serves}
+use Rattle.rules.specs.Meaning.{Serves}
 use Rattle.rules.specs.Orders.{is_order}
 use Rattle.rules.specs.Rows.{at}
 use Rattle.rules.specs.Running.{run_after}
@@ -22,11 +22,14 @@ use Rattle.rules.specs.Numbers.{check_number, planned_number}
 use Rattle.record.specs.Answers.{forward_said}
 use Rattle.record.specs.declared.Run.{Run}
 use Rattle.record.proofs.FreshRuns.{start_sized}
-use Rattle.record.proofs.Kept.{Sized, sized_kept}
+use Rattle.record.proofs.Kept.{sized_kept}
+use Rattle.record.specs.Kept.{Sized}
 use Rattle.record.specs.Records.{start_run, fresh_of, is_sound, next_run, one_slot, work_on, forward_over}
 use Rattle.guarantee.proofs.Concluded as Concluded
-use Rattle.guarantee.proofs.Concluded.{Supplied, SuppliedTo, Done, Deadlines, Closings, Waited, in_time_lem, closings_are}
-use Rattle.guarantee.proofs.Listed.{run_paper, ListRight, list_right}
+use Rattle.guarantee.proofs.Concluded.{in_time_lem, closings_are}
+use Rattle.guarantee.specs.Concluded.{Supplied, SuppliedTo, Done, Deadlines, Closings, Waited}
+use Rattle.guarantee.proofs.Listed.{list_right}
+use Rattle.guarantee.specs.Listed.{run_paper, ListRight}
 use Rattle.guarantee.specs.Playing.{make, make_all}
 use Rattle.guarantee.proofs.Proved.{demand_3}
 use Rattle.words.specs.Inverse.{words_of_table_in}

@@ -22,7 +22,8 @@ use Rattle.columns.specs.Figures.{over, sound_facts, due_at}
 use Rattle.record.specs.declared.Run.{Run}
 use Rattle.record.specs.Answers.{slot_said}
 use Rattle.record.specs.Checked.{limits}
-use Rattle.record.proofs.Kept.{Sized, next_idle, sized_worked, sized_kept}
+use Rattle.record.proofs.Kept.{next_idle, sized_worked, sized_kept}
+use Rattle.record.specs.Kept.{Sized}
 use Rattle.record.specs.Records.{state_of, is_sound, chosen_row, next_run, worked_run, closed_run, coming_slot, one_slot}
 use Rattle.record.proofs.Sound.{sound_so}
 use Rattle.record.specs.Stepping.{got_next, closing_next, rested, served, worked_served, next_looks}

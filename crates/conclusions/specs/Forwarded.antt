@@ -14,7 +14,8 @@ use Rattle.record.specs.declared.Run.{Run}
 use Rattle.record.specs.declared.Forwarded.{Forwarded}
 use Rattle.record.specs.declared.ForwardAnswer.TheVariants.{Worked, ClockOver}
 use Rattle.record.specs.Answers.{forward_said}
-use Rattle.record.proofs.Kept.{Sized, sized_kept, sound_kept}
+use Rattle.record.proofs.Kept.{sized_kept, sound_kept}
+use Rattle.record.specs.Kept.{Sized}
 use Rattle.record.specs.Records.{is_sound, next_run, one_slot, work_on, forward_over}
 use Rattle.record.proofs.Sound.{sound_so}
 use Rattle.forward.specs.Forwarding.{next_clock}

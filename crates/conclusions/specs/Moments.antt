@@ -14,9 +14,11 @@ use Rattle.rules.specs.Tables.{Accepted}
 use Rattle.rules.specs.Worst.{worst_speed, horizon, worst_finish, promised_moment, slack}
 use Rattle.theory.specs.Counts.{first_passes}
 use Rattle.theory.specs.Facts.{Row, TableFacts, facts}
-use Rattle.theory.proofs.Part.{part_table, part_row}
+use Rattle.theory.proofs.Part.{part_row}
+use Rattle.theory.specs.Part.{part_table}
 use Rattle.theory.specs.Places.{placed}
-use Rattle.theory.proofs.Promised.{latest, part_of, is_part, part_known, moment_order, moment_first}
+use Rattle.theory.proofs.Promised.{part_of, is_part, part_known, moment_order, moment_first}
+use Rattle.theory.specs.Promised.{latest}
 use Rattle.theory.proofs.Promised as Promised
 use Rattle.theory.specs.Tests.{by_bool, by-leb, by-ltb, not_both}
 use Rattle.theory.proofs.Verdict.{finished}

@@ -11,8 +11,10 @@ use Rattle.sentences.specs.declared.Kind.TheVariants.{Planner, Judge}
 use Rattle.sentences.specs.declared.Told.{Told}
 use Rattle.sentences.specs.Sentences.{plan_sentence, judge_sentence, compose_of}
 use Rattle.sentences.specs.Reading.{read_sentence, kind_number, number_told, no_plan, no_verdict}
-use Rattle.sentences.proofs.ReadsBack.{Reads, planned, judged, neither, reads}
-use Rattle.sentences.proofs.RoundTrip.{PlanFits, SlackFits, JudgeFits, plan_there_back, judge_there_back}
+use Rattle.sentences.proofs.ReadsBack.{planned, judged, neither, reads}
+use Rattle.sentences.specs.ReadsBack.{Reads}
+use Rattle.sentences.proofs.RoundTrip.{plan_there_back, judge_there_back}
+use Rattle.sentences.specs.RoundTrip.{PlanFits, SlackFits, JudgeFits}
 use Rattle.parser.specs.Composed.{made_within, made_front, made_long}
 use Rattle.conclusions.specs.declared.Pasted.{Pasted}
 use Rattle.conclusions.specs.Conclusions.{LineTold, LineRead, plan_back, verdict_back, PlanPasted, VerdictPasted}

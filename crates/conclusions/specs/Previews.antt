@@ -6,7 +6,8 @@ use Rattle.rules.specs.declared.Table.{Table}
 use Rattle.rules.specs.Choice.{plan_of}
 use Rattle.rules.specs.Correct.{earliest}
 use Rattle.rules.specs.LateCases.{trouble}
-use Rattle.rules.proofs.Meaning.{Serves, serves_correct}
+use Rattle.rules.proofs.Meaning.{serves_correct}
+use Rattle.rules.specs.Meaning.{Serves}
 use Rattle.rules.specs.Need.{need}
 use Rattle.rules.specs.Numbers.{planned_number}
 use Rattle.rules.specs.Orders.{is_order}
@@ -17,7 +18,8 @@ use Rattle.rules.specs.Tables.{Accepted}
 use Rattle.theory.specs.Facts.{is_row_lem, row_is}
 use Rattle.theory.proofs.Results.{correct_runs, rules_agree, running_dropped}
 use Rattle.theory.proofs.Runs.{high_step}
-use Rattle.theory.proofs.Seven.{order, trouble_order, trouble_accepted, trouble_serves, trouble_seven, trouble_none}
+use Rattle.theory.proofs.Seven.{trouble_order, trouble_accepted, trouble_serves, trouble_seven, trouble_none}
+use Rattle.theory.specs.Seven.{order}
 
 -- In the run by the running rule, with slot u supplying σ u, row i has all its work at its deadline, and was closed by then.
 pub record Previewed (t : Table) (o : List ℕ) (σ : ℕ → ℕ) (i : ℕ) : Type 0 where

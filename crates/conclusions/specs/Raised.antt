@@ -6,7 +6,8 @@ use Rattle.std.proofs.Math.Path.{subst}
 use Rattle.std.specs.Int.Signed.{lt_z}
 use Rattle.rules.specs.declared.Table.{Table}
 use Rattle.rules.specs.declared.Sought.TheVariants.{Degraded, Normal}
-use Rattle.rules.proofs.Meaning.{Serves, correct_serves, serves_correct}
+use Rattle.rules.proofs.Meaning.{correct_serves, serves_correct}
+use Rattle.rules.specs.Meaning.{Serves}
 use Rattle.rules.specs.Orders.{is_order}
 use Rattle.rules.specs.Tables.{Accepted}
 use Rattle.rules.specs.Worst.{slack}

@@ -11,7 +11,8 @@ use Rattle.record.specs.declared.Run.{Run}
 use Rattle.proposal.specs.declared.Asking.{Asking}
 use Rattle.proposal.specs.declared.Committed.{Committed}
 use Rattle.rules.specs.Calls.{Call}
-use Rattle.rules.proofs.Meaning.{Serves, correct_serves, serves_correct}
+use Rattle.rules.proofs.Meaning.{correct_serves, serves_correct}
+use Rattle.rules.specs.Meaning.{Serves}
 use Rattle.rules.specs.Numbers.{refusal_number, check_number, planned_number, rows_left}
 use Rattle.rules.specs.Orders.{is_order, check_both}
 use Rattle.rules.specs.Rows.{at, is_row}
@@ -25,10 +26,12 @@ use Rattle.judge.specs.Checked.{checked}
 use Rattle.record.specs.Records.{is_sound, state_of, start_run}
 use Rattle.record.proofs.Sound.{speeds}
 use Rattle.proposal.proofs.Asked as Asked
-use Rattle.proposal.proofs.Asked.{ForTheRecord, asked_good, good_commits}
+use Rattle.proposal.proofs.Asked.{asked_good, good_commits}
+use Rattle.proposal.specs.Asked.{ForTheRecord}
 use Rattle.proposal.specs.Commits.{check_commit, commit_of}
 use Rattle.proposal.specs.Proposals.{ask_of, check_proposal}
-use Rattle.proposal.proofs.Passing.{by_check, Turned, turns, refused_not, own_refusal, not_correct, row_open, released_before}
+use Rattle.proposal.proofs.Passing.{by_check, turns, refused_not, own_refusal, not_correct, row_open, released_before}
+use Rattle.proposal.specs.Passing.{Turned}
 use Rattle.proposal.proofs.Renewing.{check_renews}
 use Rattle.words.specs.Words.{table_in, words_of, run_in, state_words}
 use Rattle.words.specs.Inverse.{words_of_table_in, table_in_words_of, state_words_of_run_in}

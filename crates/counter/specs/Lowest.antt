@@ -21,11 +21,13 @@ use Rattle.theory.proofs.Choosing.{none_follow, follow_none, keep_in, in_keep}
 use Rattle.theory.specs.Counts.{In, Within, Same, erase_last}
 use Rattle.theory.specs.Facts.{Row, TableFacts, facts, rows_in_lem, in_rows, followed_row_lem}
 use Rattle.theory.proofs.Finishes.{rows_of_lem, once_of, worst_sweep}
-use Rattle.theory.proofs.Promised.{part_of, moment_sweep, latest, meets_is}
+use Rattle.theory.proofs.Promised.{part_of, moment_sweep, meets_is}
+use Rattle.theory.specs.Promised.{latest}
 use Rattle.theory.specs.Sorting.{same_sort}
 use Rattle.theory.specs.Sweep.{sweep}
 use Rattle.theory.specs.Tests.{by_bool, by_eqb, and_true, and_assoc, both_ways}
-use Rattle.theory.proofs.Waiting.{unbound, unbound_table}
+use Rattle.theory.proofs.Waiting.{unbound_table}
+use Rattle.theory.specs.Waiting.{unbound}
 use Rattle.sweep.specs.CapColumn.{part_needs}
 use Rattle.sweep.specs.Finds.{by_release, queued, queued_sorted, finds, zero_entry}
 use Rattle.sweep.specs.Holds.{count_keep_le, count_kept, count_dropped}

@@ -9,7 +9,8 @@ use Rattle.rules.specs.Tables.{Accepted}
 use Rattle.theory.specs.Facts.{facts}
 use Rattle.choices.specs.Choices.{Counting, choices, choices_of, count_of}
 use Rattle.lowest.proofs.Counted.{choices_all}
-use Rattle.lowest.proofs.TwelveCases.{wherever, wherever_accepted, twelve_every, rising, rising_accepted, twelve_one}
+use Rattle.lowest.proofs.TwelveCases.{wherever_accepted, twelve_every, rising_accepted, twelve_one}
+use Rattle.lowest.specs.TwelveCases.{wherever, rising}
 use Rattle.counter.specs.Answers.{passed_count}
 use Rattle.counter.specs.Words.{filled_entry}
 

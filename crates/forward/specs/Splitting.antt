@@ -15,7 +15,8 @@ use Rattle.record.specs.declared.Forwarded.{Forwarded}
 use Rattle.record.specs.declared.ForwardAnswer.TheVariants.{Worked, ClockOver}
 use Rattle.record.specs.Records.{is_sound, next_run, work_on, forward_over}
 use Rattle.record.specs.Answers.{forward_said}
-use Rattle.record.proofs.Kept.{Sized, work_sound}
+use Rattle.record.proofs.Kept.{work_sound}
+use Rattle.record.specs.Kept.{Sized}
 
 -- the slots worked that an answer tells (rules 8.10, 8.13, 8.14)
 abbrev pub slots_of : Forwarded → ℕ

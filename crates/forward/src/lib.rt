@@ -39,6 +39,7 @@ fn worked(start: Run, supplies: &[u32]) -> Forwarded
 }
 
 // The record is checked once, before its first slot; an unsound one is refused and handed back as it was (rules 8.14, 11.5).
+#[tactic(auto, unfolding(record::specs::Records::forward_over))]
 fn checked(run: Run, supplies: &[u32]) -> Forwarded
     ensures { result ≡ forward_over run supplies.now }
 {

@@ -1,31 +1,20 @@
 -- Lists of run calls alone, without a commit: what the claim says of them, from the statement of the claim and without its proof. The sheet in hand stays the
 -- one that the list began with (rule 9.10).
-use Rattle.std.specs.Prelude.{ℕ, ◌≤◌, true, not, ◌≡◌, eqb}
+use Rattle.std.specs.Prelude.{ℕ, ◌≤◌, true, not, ◌≡◌}
 use Rattle.std.proofs.Math.Path.{refl}
 use Rattle.std.proofs.Common.{ap, subst, ◌∙◌, arith}
 use mathlib.Core.List.{List, [], ◌∷◌}
 use Rattle.record.specs.declared.Run.{Run}
 use Rattle.record.specs.Records.{start_run, fresh_of}
 use Rattle.rules.specs.declared.Table.{Table}
-use Rattle.rules.specs.Calls.{Call, AllTold, tell, tell_all, supply_from}
+use Rattle.rules.specs.Calls.{Call, tell, tell_all, supply_from}
 use Rattle.rules.specs.Correct.{earliest}
 use Rattle.proposal.specs.Days.{InHand, DayTold, tell_day, run_calls, just_runs}
-use Rattle.rules.specs.Lists.{all}
 use Rattle.rules.specs.Orders.{is_order}
 use Rattle.rules.specs.Slots.{State, start_at, fresh}
 use Rattle.guarantee.specs.Playing.{AllMade, make, make_all, make_day}
 use Rattle.guarantee.specs.Claim.{HandRight, RunRight, Claim}
-
--- the run on paper from clock k on (rules 9.6, 22.7)
-abbrev pub run_paper : Table → List ℕ → ℕ → List Call → AllTold
-run_paper t o k cs = tell_all t o cs (start_at k)
-
--- What a list of run calls made, from the record of table t and order o at clock k with every row open and empty: the answers on paper, none of them 9, and
--- a record of the same table and order, of which `HandRight` holds.
-pub record ListRight (t : Table) (o : List ℕ) (k : ℕ) (cs : List Call) (made : AllMade) : Type 0 where
-  pub said : made.said ≡ (run_paper t o k cs).said
-  pub no_nine : all (λ s. not (eqb s.number 9)) made.said ≡ true
-  pub hand : HandRight t o (run_paper t o k cs).state (supply_from k cs) made.run
+use Rattle.guarantee.specs.Listed.{run_paper, ListRight}
 
 made_runs : (cs : List Call) (r : Run) → make_day (just_runs cs) r ≡ make_all cs r
 unfolding make_day make_all just_runs

@@ -8,3 +8,5 @@ pub mod Reading
 pub mod Turns
 pub mod Reached
 pub mod Working
+pub mod Concluded
+pub mod Listed

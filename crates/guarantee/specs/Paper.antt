@@ -6,7 +6,8 @@ use Rattle.record.specs.declared.Run.{Run}
 use Rattle.record.specs.Answers.{slot_said, forward_said}
 use Rattle.record.specs.Records.{record_of, is_sound, next_run, chosen_row, one_slot, work_on, forward_over}
 use Rattle.record.proofs.FreshRuns.{start_sound, start_sized}
-use Rattle.record.proofs.Kept.{Sized, sized_kept, sound_kept}
+use Rattle.record.proofs.Kept.{sized_kept, sound_kept}
+use Rattle.record.specs.Kept.{Sized}
 use Rattle.rules.specs.declared.Table.{Table}
 use Rattle.rules.specs.Calls.{last_clock, Call, one, forward, Told, tell_one, tell_forward, tell}
 use Rattle.proposal.specs.Days.{Act, run, commit, InHand, ActTold, tell_act, tell_day}

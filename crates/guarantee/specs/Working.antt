@@ -13,8 +13,10 @@ use Rattle.rules.specs.Running.{run_after}
 use Rattle.rules.specs.Slots.{State}
 use Rattle.rules.specs.Tables.{Accepted}
 use Rattle.rules.specs.Worst.{worst_speed}
-use Rattle.theory.proofs.Closed.{WorkWindowTo, closed_working, part_working_closed}
-use Rattle.theory.proofs.Lost.{WorkWindow, sustainable_working, promise_working}
+use Rattle.theory.proofs.Closed.{closed_working, part_working_closed}
+use Rattle.theory.specs.Closed.{WorkWindowTo}
+use Rattle.theory.proofs.Lost.{sustainable_working, promise_working}
+use Rattle.theory.specs.Lost.{WorkWindow}
 use Rattle.theory.proofs.Results.{verdict}
 use Rattle.guarantee.specs.Claim.{paper, Demand3}
 use Rattle.guarantee.specs.Playing.{make_day}

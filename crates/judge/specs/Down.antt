@@ -11,7 +11,7 @@ use Rattle.theory.specs.Tests.{by_bool}
 use Rattle.theory.specs.Counts.{Within, in_last}
 use Rattle.theory.specs.Caps.{cap}
 use Rattle.theory.specs.Facts.{Row, rows_in_lem, facts}
-use Rattle.theory.proofs.Promised.{latest}
+use Rattle.theory.specs.Promised.{latest}
 use Rattle.theory.proofs.Results.{worst_sweep}
 use Rattle.theory.specs.Waits.{Stand}
 use Rattle.sweep.specs.CapColumn.{part_needs, parts_most}

@@ -10,7 +10,8 @@ use Rattle.rules.specs.Choice.{padded}
 use Rattle.rules.specs.Judge.{least_slack, tightest}
 use Rattle.theory.specs.Counts.{In, in_head, in_tail}
 use Rattle.theory.specs.Facts.{Row, is_row_lem, rows_in_lem, facts}
-use Rattle.theory.proofs.Promised.{latest, slack_is}
+use Rattle.theory.proofs.Promised.{slack_is}
+use Rattle.theory.specs.Promised.{latest}
 use Rattle.theory.proofs.Results.{latest_bound}
 use Rattle.theory.specs.Tests.{by_bool}
 use Rattle.sweep.specs.Padded.{padded_at}

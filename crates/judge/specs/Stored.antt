@@ -12,7 +12,7 @@ use Rattle.theory.specs.Tests.{gate, by_eqb, by-ltb}
 use Rattle.theory.specs.Counts.{Within, count_append, count_same, count_other, in_last}
 use Rattle.theory.specs.Facts.{Row, rows_in_lem, facts, count_rows, count_no_row}
 use Rattle.theory.specs.Places.{order_rows, rows_once, stand_at}
-use Rattle.theory.proofs.Promised.{latest}
+use Rattle.theory.specs.Promised.{latest}
 use Rattle.theory.specs.Waits.{Stand}
 use Rattle.sweep.specs.Masks.{bit}
 use Rattle.sweep.specs.Holds.{Holds, holds_with_last}

@@ -10,7 +10,7 @@ ghost use Rattle.rules.specs.Orders.{check_both};
 ghost use Rattle.rules.specs.Worst.{worst_finish};
 ghost use Rattle.rules.specs.Choice.{padded};
 ghost use Rattle.rules.specs.Judge.{tightest, verdict_at, table_of};
-ghost use Rattle.theory.proofs.Promised.{latest};
+ghost use Rattle.theory.specs.Promised.{latest};
 ghost use Rattle.sweep.specs.Trials.{Columns};
 ghost use Rattle.judge.specs.Down.{swept_by, counted_from};
 ghost use Rattle.judge.specs.Least.{least_by, slack_in};

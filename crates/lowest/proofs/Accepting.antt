@@ -15,7 +15,8 @@ use Rattle.theory.specs.Facts.{Row, RowFacts, PartFacts, TableFacts, facts, foll
 use Rattle.theory.specs.Tests.{by_bool, by-leb, by-ltb, not_is, and_both}
 use Rattle.sweep.specs.Padded.{zeros, padded_zeros}
 use Rattle.choices.specs.Choices.{renumbered, alone}
-use Rattle.lowest.proofs.Alone.{Chosen, alone_table, few, row_at, row_of, row_in, level_of, followed, by-followed}
+use Rattle.lowest.proofs.Alone.{alone_table, few, row_at, row_of, row_in, level_of, followed, by-followed}
+use Rattle.lowest.specs.Alone.{Chosen}
 
 zeros_zero : (n : ℕ) → all_zero (zeros n) ≡ true
 zeros_zero zero = refl

@@ -18,9 +18,9 @@ use Rattle.theory.specs.Counts.{In, Once, Within, in_head, in_tail, in_entry, er
 use Rattle.theory.specs.Facts.{Row, TableFacts, count_zero, count_rows, count_no_row}
 use Rattle.theory.proofs.Finishes.{rows_of_lem, once_of}
 use Rattle.theory.specs.Places.{length_rows, same_length}
-use Rattle.theory.specs.Sorting.{Sorted}
 use Rattle.theory.specs.Tests.{by_bool, by_eqb, by-leb, by-ltb, not_both, both_ways}
-use Rattle.theory.proofs.Waiting.{unbound, unbound_table, lowest_slack}
+use Rattle.theory.proofs.Waiting.{unbound_table, lowest_slack}
+use Rattle.theory.specs.Waiting.{unbound}
 use Rattle.theory.specs.Waits.{Closed, rows_closed}
 use Rattle.sweep.specs.Padded.{padded_entry, rows_entry}
 use Rattle.trials.specs.Lines.{place_of, apart, sorted_rising}
@@ -29,6 +29,7 @@ use Rattle.lowest.specs.Listed.{erase_within}
 use Rattle.lowest.specs.Standing.{may_stand, by_lowest}
 use Rattle.lowest.proofs.Standing.{free_stand, choices_lowest_lem}
 use Rattle.lowest.specs.Images.{Single, sum_map, erase_map, Image, passes_image}
+use Rattle.lowest.specs.Alone.{Chosen}
 
 -- a figure of each row of a list
 map_entry : (g : ℕ → ℕ) (l : List ℕ) (k : ℕ) → k < length l → get_or (map g l) k 0 ≡ g (get_or l k 0)
@@ -117,11 +118,6 @@ none_alone : (t : Table) (s : List ℕ) → length s ≡ 0 → choices (alone t 
 unfolding choices arrangements is_correct alone is_order is_arrangement padded
 none_alone t [] e = refl
 none_alone t (x ∷ s) e = absurd (omega arith)
-
--- rows of the table, from the lowest number up
-pub record Chosen (t : Table) (s : List ℕ) : Type 0 where
-  pub within : Within s (rows_of t)
-  pub rising : Sorted (λ x. x) 0 s
 
 module _ (t : Table) (f : TableFacts t) (s : List ℕ) (c : Chosen t s) where
   once : Once s

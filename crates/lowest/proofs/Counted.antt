@@ -40,7 +40,8 @@ use Rattle.lowest.specs.Listed.{factorial, below, erased_length, erase_within, l
 use Rattle.lowest.specs.Standing.{may_stand, by_lowest, stands_from}
 use Rattle.lowest.proofs.Standing.{may_fewer, many_below, many_standing, correct_is, choices_lowest_lem}
 use Rattle.lowest.proofs.Accepting.{alone_accepted}
-use Rattle.lowest.proofs.Alone.{Chosen, in_number, length_within, choices_alone, may_alone}
+use Rattle.lowest.proofs.Alone.{in_number, length_within, choices_alone, may_alone}
+use Rattle.lowest.specs.Alone.{Chosen}
 
 empty : (l : List ℕ) → length l ≡ 0 → l ≡ []
 empty [] e = refl

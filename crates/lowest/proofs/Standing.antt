@@ -15,7 +15,8 @@ use Rattle.theory.specs.Facts.{Row, TableFacts, in_rows, rows_in_lem, followed_r
 use Rattle.theory.specs.Places.{length_rows, rows_once, stand_at}
 use Rattle.theory.proofs.Promised.{moved}
 use Rattle.theory.specs.Tests.{by_bool, by-leb, by_eqb, and_left, and_right, and_both, and_true, and_false, and_assoc}
-use Rattle.theory.proofs.Waiting.{unbound, unbound_table, same_slack_lem}
+use Rattle.theory.proofs.Waiting.{unbound_table, same_slack_lem}
+use Rattle.theory.specs.Waiting.{unbound}
 use Rattle.theory.specs.Waits.{Stand}
 use Rattle.sweep.specs.Padded.{zeros, zeros_entry, padded_zeros, padded_take}
 use Rattle.choices.specs.Choices.{arranged, arrangements, how_many, is_correct, choices}

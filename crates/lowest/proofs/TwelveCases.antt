@@ -1,8 +1,6 @@
 -- Two tables of twelve rows (rule 13.19), whose 479,001,600 arrangements are too many to be listed: their choices are computed through the lowest rows.
-use Rattle.std.specs.Prelude.{true, map, ◌≡◌, refl, replicate}
+use Rattle.std.specs.Prelude.{true, ◌≡◌, refl}
 use Rattle.std.proofs.Common.{◌∙◌}
-use Rattle.rules.specs.declared.Table.{Table}
-use Rattle.rules.specs.Cases.{job}
 use Rattle.rules.specs.Choice.{unfollowed, passes}
 use Rattle.rules.specs.Judge.{table_of}
 use Rattle.rules.specs.Lists.{all, rows_to}
@@ -16,10 +14,7 @@ use Rattle.choices.specs.Choices.{choices}
 use Rattle.lowest.specs.Standing.{may_stand, by_lowest}
 use Rattle.lowest.proofs.Standing.{choices_lowest_lem}
 use Rattle.lowest.proofs.Counted.{choices_every}
-
--- each row has time for all of them
-abbrev pub wherever : Table
-wherever = table_of (replicate 12 (job 0 1 12 0)) 1 1 0
+use Rattle.lowest.specs.TwelveCases.{wherever, rising}
 
 pub wherever_accepted : Accepted wherever
 unfolding table_of check_table row_ok promise_ok check_wait tail_ok
@@ -35,10 +30,6 @@ unfolding table_of
 twelve_every =
     choices_every wherever (facts wherever wherever_accepted)
     (λ i r. all_in (may_stand wherever (rows_of wherever)) (rows_of wherever) each_stands i (in_rows wherever i r))
-
--- row i has to be done by slot i
-abbrev pub rising : Table
-rising = table_of (map (λ i. job 0 1 i 0) (rows_to 12)) 1 1 0
 
 pub rising_accepted : Accepted rising
 unfolding table_of check_table row_ok promise_ok check_wait tail_ok

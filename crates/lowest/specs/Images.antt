@@ -13,7 +13,8 @@ use Rattle.theory.specs.Caps.{cap}
 use Rattle.theory.specs.Counts.{In, Once, Within, Same, in_head, in_tail, in_last, erase_last, count_append, count_same, sum_same}
 use Rattle.theory.specs.Facts.{Row, TableFacts}
 use Rattle.theory.proofs.Finishes.{rows_of_lem, once_of, worst_sweep}
-use Rattle.theory.proofs.Promised.{part_of, moment_sweep, latest, slack_is, meets_is}
+use Rattle.theory.proofs.Promised.{part_of, moment_sweep, slack_is, meets_is}
+use Rattle.theory.specs.Promised.{latest}
 use Rattle.theory.specs.Sorting.{Sorted, sort_by, sorted_sort, same_sort}
 use Rattle.theory.specs.Sweep.{sweep}
 use Rattle.theory.specs.Tests.{by_bool, by_eqb}
@@ -137,16 +138,19 @@ module _ (u t : Table) (φ : ℕ → ℕ) (g : Image u t φ) where
       single : Single φ (a ++ (i ∷ []))
       single x y j k = g.single x y (rows x j) (rows y k)
 
-      whole : Same (map φ (a ++ (i ∷ []))) (c ++ (φ i ∷ []))
-      whole y = omega (arith, ap (count y) (map_append φ a (i ∷ [])), count_append y (map φ a) (φ i ∷ []), count_append y c (φ i ∷ []), alike y)
+      whole : map φ (a ++ (i ∷ [])) ≡ map φ a ++ (φ i ∷ [])
+      whole = map_append φ a (i ∷ [])
+
+      whole_same : Same (map φ (a ++ (i ∷ []))) (c ++ (φ i ∷ []))
+      whole_same y = omega (arith, ap (count y) whole, count_append y (map φ a) (φ i ∷ []), count_append y c (φ i ∷ []), alike y)
 
       rows' : (y : ℕ) → In y (c ++ (φ i ∷ [])) → Row t y
       rows' y j =
-          let r = in_map φ (a ++ (i ∷ [])) y (omega (arith, j, whole y)) in
+          let r = in_map φ (a ++ (i ∷ [])) y (omega (arith, j, whole_same y)) in
           subst (Row t) r.is (g.row r.row (rows r.row r.inside))
 
       once' : Once (c ++ (φ i ∷ []))
-      once' y = omega (arith, once_map φ (a ++ (i ∷ [])) single once y, whole y)
+      once' y = omega (arith, once_map φ (a ++ (i ∷ [])) single once y, whole_same y)
 
       sorted : List ℕ
       sorted = sort_by (release_of u) (a ++ (i ∷ []))
@@ -163,7 +167,7 @@ module _ (u t : Table) (φ : ℕ → ℕ) (g : Image u t φ) where
       known x j = rows x (omega (arith, same x))
 
       same' : Same (map φ sorted) (c ++ (φ i ∷ []))
-      same' y = same_map φ sorted (a ++ (i ∷ [])) same y ∙ whole y
+      same' y = same_map φ sorted (a ++ (i ∷ [])) same y ∙ whole_same y
 
       rises' : Sorted (release_of t) 0 (map φ sorted)
       rises' = sorted_image 0 sorted known rises

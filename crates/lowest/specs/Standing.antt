@@ -5,7 +5,7 @@ use mathlib.Core.List.{List, [], ◌∷◌, ◌++◌}
 use Rattle.rules.specs.declared.Table.{Table}
 use Rattle.rules.specs.Choice.{unfollowed, passes}
 use Rattle.rules.specs.Lists.{sum, erase}
-use Rattle.theory.proofs.Waiting.{unbound}
+use Rattle.theory.specs.Waiting.{unbound}
 
 -- Row i may stand lowest of the rows of a list: none of them follows it, and with all the others above it, and no row waiting, its slack is not below zero.
 -- That this is so in the table of these rows alone, waits kept, is proved (Alone; rule 25.7).

@@ -5,7 +5,7 @@
 ghost use Rattle.std.specs.Prelude.{◌≡◌, not, ◌≤◌, eqb, length, get_or, take, drop};
 ghost use Rattle.rules.specs.Lists.{same, count};
 ghost use Rattle.sentences.specs.Sentences.{plan_sentence, judge_sentence};
-ghost use Rattle.sentences.proofs.RoundTrip.{PlanFits, JudgeFits};
+ghost use Rattle.sentences.specs.RoundTrip.{PlanFits, JudgeFits};
 ghost use Rattle.sentences.specs.Reading.{grown, figures_in, at_most, marked, word_of, small, plan_in, slack_of, judge_from, judge_in, no_plan, no_verdict, read_sentence};
 ghost use Rattle.parser.specs.Figures.{FigureAt, PlacesAt};
 

@@ -30,7 +30,7 @@ module _ (queue : List ℕ) (n : ℕ) (release deadline cap entry : List ℕ) (l
   unfolding in_time
   pass k m = le-leb (ends k) (at deadline (row q k)) m
 
-  fail : (k : ℕ) → (In-time k → ⊥) → passes (row q k) ≡ false
+  pub fail : (k : ℕ) → (In-time k → ⊥) → passes (row q k) ≡ false
   unfolding in_time
   fail k n = by-leb (ends k) (at deadline (row q k)) (λ _ m. absurd (n m)) (λ e _. e)
 

@@ -1,5 +1,5 @@
 -- What asking proposes is refused for the record alone (rule 22.6): its table is accepted, and its order passes check 6 and is correct.
-use Rattle.std.specs.Prelude.{ℕ, true, ◌⊎◌, List, ◌≡◌, replicate}
+use Rattle.std.specs.Prelude.{ℕ, true, List, ◌≡◌}
 use Rattle.std.proofs.Common.{inl, inr, arith}
 use Rattle.std.proofs.Math.Path.{refl}
 use Rattle.rules.specs.declared.Table.{Table}
@@ -10,27 +10,20 @@ use Rattle.rules.specs.declared.Planning.{Planning}
 use Rattle.rules.specs.declared.Planned.TheVariants as Plans
 use Rattle.record.specs.declared.Run.{Run}
 use Rattle.rules.specs.Choice.{plan_of}
-use Rattle.rules.specs.Correct.{Correct}
 use Rattle.rules.specs.Judge.{judge_of}
 use Rattle.rules.specs.Numbers.{refusal_number, check_number, planned_number, rows_left, verdict_yes}
-use Rattle.rules.specs.Orders.{is_order, check_both}
-use Rattle.rules.specs.Tables.{check_table, Accepted, zero_table}
+use Rattle.rules.specs.Orders.{check_both}
+use Rattle.rules.specs.Tables.{check_table, Accepted}
 use Rattle.texts.specs.Sheets.{read_of}
 use Rattle.theory.specs.Facts.{both_pass}
 use Rattle.theory.specs.Tests.{by_bool}
 use Rattle.planner.specs.Promise.{refusal_number_lem, promised}
 use Rattle.judge.specs.Promise.{exactly}
 use Rattle.record.specs.Records.{state_of, is_sound}
-use Rattle.proposal.specs.declared.Asking.{Asking}
 use Rattle.proposal.specs.Proposals.{ask_planned, ask_read, ask_of, all_closed, released_from, check_turn, check_proposal}
 use Rattle.proposal.specs.Commits.{check_commit, commit_of}
 use Rattle.proposal.proofs.Passing.{by_check}
-
--- a proposal with which nothing is wrong
-pub record Good (t : Table) (o : List ℕ) : Type 0 where
-  pub accepted : Accepted t
-  pub passes : is_order t o ≡ true
-  pub correct : Correct t o
+use Rattle.proposal.specs.Asked.{Good, Answered, ForTheRecord}
 
 -- a table for which the planner makes an order is accepted
 planned_accepted : (t : Table) → planned_number (plan_of t).answer ≡ 0 → Accepted t
@@ -55,16 +48,6 @@ read_good (Checks.Refused w) t z = absurd ((refusal_number_lem w).0 z)
 pub asked_good : (bytes : List ℕ) → planned_number (ask_of bytes).answer ≡ 0 → Good (ask_of bytes).table (ask_of bytes).order
 unfolding ask_of
 asked_good bytes z = read_good (read_of bytes).check (read_of bytes).table z
-
--- the reader's number, or the planner's answer; with 0 the table is the one that was read and the order the one planned; with any other number table and order are zeros,
--- and with another than 7 no row is left (rule 22.2)
-pub record Answered (bytes : List ℕ) (a : Asking) : Type 0 where
-  pub reader : (check_number (read_of bytes).check ≡ 0 → ⊥) → planned_number a.answer ≡ check_number (read_of bytes).check
-  pub planner : check_number (read_of bytes).check ≡ 0 → a.answer ≡ (plan_of (read_of bytes).table).answer
-  pub made : planned_number a.answer ≡ 0 → a.order ≡ (plan_of (read_of bytes).table).order
-  pub read : planned_number a.answer ≡ 0 → a.table ≡ (read_of bytes).table
-  pub none : (planned_number a.answer ≡ 0 → ⊥) → (a.table ≡ zero_table) × (a.order ≡ replicate 64 0)
-  pub left : (planned_number a.answer ≡ 7 → ⊥) → rows_left a.answer ≡ 0
 
 module _ (bytes : List ℕ) where
   abbrev p : Planning
@@ -108,10 +91,6 @@ module _ (bytes : List ℕ) where
   pub answered : Answered bytes (ask_of bytes)
   unfolding ask_of
   answered = read_answered (read_of bytes).check refl
-
--- the numbers of a commit of such a proposal
-abbrev pub ForTheRecord : ℕ → Type 0
-ForTheRecord n = (n ≡ 0) ⊎ ((n ≡ 9) ⊎ ((n ≡ 17) ⊎ (n ≡ 18)))
 
 pub good_commits : (t : Table) (o : List ℕ) → Good t o → (r : Run) → ForTheRecord (check_number (commit_of r t o).check)
 unfolding commit_of check_commit check_proposal check_turn check_number refusal_number

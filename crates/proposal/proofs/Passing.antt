@@ -27,6 +27,7 @@ use Rattle.theory.specs.Tests.{by_bool, not_is}
 use Rattle.columns.specs.AllRows.{all_each, all_of}
 use Rattle.record.specs.Checked.{limits}
 use Rattle.judge.specs.Promise.{exactly}
+use Rattle.proposal.specs.Passing.{Turned}
 
 -- a check's answer: it passed, or was refused
 pub by_check : {P : Type 0} (c : Check) → (c ≡ Passed → P) → ((w : Refusal) → c ≡ Refused w → P) → P
@@ -41,14 +42,6 @@ refused_not w e = let z : ◌≡◌ {A = ℕ} 0 1 = cc in absurd (omega arith)
 above_least : (f : ℕ → ℕ) (u b : ℕ) (l : List ℕ) → u ≤ b → ((x : ℕ) → In x l → u ≤ f x) → u ≤ least f b l
 above_least f u b [] h q = h
 above_least f u b (x ∷ l) h q = above_least f u (min b (f x)) l (omega (arith, q x (in_head x l))) (λ y i. q y (in_tail y x l i))
-
--- Where the checks passed: the proposal is accepted and its order correct, every row of the sheet in hand is closed, and the clock is not after the
--- earliest release of the proposal.
-pub record Turned (t : Table) (s : State) (p : Table) (o : List ℕ) : Type 0 where
-  pub checked : check_both p o ≡ Passed
-  pub correct : Correct p o
-  pub closed : (i : ℕ) → is_row t i ≡ true → 1 ≤ at s.closing i
-  pub early : s.clock ≤ earliest p
 
 module _ (t : Table) (s : State) (p : Table) (o : List ℕ) where
   both_passed : check_proposal t s p o ≡ Passed → check_both p o ≡ Passed

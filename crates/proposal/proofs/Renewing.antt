@@ -12,16 +12,12 @@ use Rattle.theory.specs.Tests.{by_bool}
 use Rattle.columns.specs.Figures.{sound_facts}
 use Rattle.record.specs.Checked.{limits}
 use Rattle.record.proofs.FreshRuns.{start_sound}
-use Rattle.record.specs.Records.{state_of, start_run, is_sound}
+use Rattle.record.specs.Records.{state_of, is_sound}
 use Rattle.record.proofs.Sound.{sound_so, speeds}
 use Rattle.proposal.specs.Proposals.{check_proposal}
 use Rattle.proposal.specs.Commits.{check_commit, commit_of}
-use Rattle.proposal.proofs.Passing.{by_check, refused_not, Turned, turned}
-
-pub record Renewing (r : Run) (t : Table) (o : List ℕ) : Type 0 where
-  pub sound : is_sound r ≡ true
-  pub turn : Turned r.table (state_of r) t o
-  pub run : (commit_of r t o).run ≡ start_run t o r.clock
+use Rattle.proposal.proofs.Passing.{by_check, refused_not, turned}
+use Rattle.proposal.specs.Renewing.{Renewing}
 
 module _ (r : Run) (t : Table) (o : List ℕ) where
   passed_sound : check_commit r t o ≡ Passed → is_sound r ≡ true

@@ -18,8 +18,9 @@ use Rattle.theory.specs.Tests.{and_false}
 use Rattle.columns.specs.AllRows.{zeros_of}
 use Rattle.columns.specs.Figures.{over, sound_test, open_early}
 use Rattle.record.specs.Checked.{limits, works}
-use Rattle.record.proofs.Sound.{sound_row, is_sound_lem}
-use Rattle.record.proofs.Kept.{Sized}
+use Rattle.record.proofs.Sound.{is_sound_lem}
+use Rattle.record.specs.Sound.{sound_row}
+use Rattle.record.specs.Kept.{Sized}
 
 zero_at : (m i : ℕ) → ◌≡◌ {A = ℕ} (get_or (replicate m 0) i 0) 0
 zero_at zero i = refl

@@ -18,14 +18,10 @@ use Rattle.theory.specs.Tests.{by_bool, by_eqb}
 use Rattle.columns.specs.Entries.{put_same, put_other, put_after}
 use Rattle.columns.specs.Figures.{sound_at, looked, sound_test, sound_later, sound_run}
 use Rattle.record.specs.Checked.{limits}
-use Rattle.record.proofs.Sound.{IsSound, sound_so, is_sound_lem, Runs, runs}
+use Rattle.record.proofs.Sound.{sound_so, is_sound_lem, runs}
+use Rattle.record.specs.Sound.{IsSound, Runs}
 use Rattle.record.specs.Stepping.{got_next, closing_next, rested, served, worked_idle, worked_served, next_looks, closed_row, closed_size, closed_tail}
-
--- the columns that a slot writes hold sixty-four entries, as those of every record in the code do
-pub record Sized (r : Run) : Type 0 where
-  pub got : length r.got ≡ 64
-  pub used : length r.used ≡ 64
-  pub closing : length r.closing ≡ 64
+use Rattle.record.specs.Kept.{Sized}
 
 -- A sound record after a slot, in which no row runs or row i does, and the look at the clock after it.
 module _ (r : Run) (z : Sized r) (f : IsSound r) (early : r.clock < last_clock) where

@@ -1,12 +1,11 @@
 -- What check 9 says of a sound record (rules 8.3 to 8.8), as facts, and the facts of the row that its coming slot runs (rule 2.3).
-use Rattle.std.specs.Prelude.{ℕ, ◌≤◌, Bool, true, ◌&&◌, ◌≡◌, refl, leb}
+use Rattle.std.specs.Prelude.{ℕ, Bool, true, ◌&&◌, ◌≡◌, refl, leb}
 use Rattle.std.proofs.Math.Path.{sym}
 use Rattle.std.proofs.Common.{◌∙◌, arith}
 use borrow.Author.Tests.{leb-true, le-leb}
-use Rattle.rules.specs.declared.Check.TheVariants.{Passed}
 use Rattle.rules.specs.Calls.{last_clock}
 use Rattle.rules.specs.Lists.{all, first}
-use Rattle.rules.specs.Rows.{at, rows_of, work_of}
+use Rattle.rules.specs.Rows.{at, rows_of}
 use Rattle.rules.specs.Tables.{passed}
 use Rattle.rules.specs.Orders.{check_both}
 use Rattle.rules.specs.Slots.{is_pending, is_over}
@@ -17,26 +16,14 @@ use Rattle.columns.specs.AllRows.{all_each, all_of}
 use Rattle.theory.specs.Cells.{chosen_ready}
 use Rattle.theory.specs.Facts.{TableFacts, both_order}
 use Rattle.theory.proofs.Waiting.{chosen_pending}
-use Rattle.columns.specs.Figures.{over, sound_at, row_sound_at, pending_at, sound_facts}
+use Rattle.columns.specs.Figures.{over, sound_at, pending_at, sound_facts}
 use Rattle.columns.specs.Places.{Placed}
 use Rattle.record.specs.Checked.{passed_true, limits, places}
-
--- row i's soundness over the record's columns
-abbrev pub sound_row : Run → ℕ → Bool
-sound_row r i =
-    let t = r.table in
-    row_sound_at t.normal t.degraded t.loading r.clock t.work t.deadline t.level t.promised r.got r.used r.closing i
+use Rattle.record.specs.Sound.{sound_row, IsSound, Runs, Serving}
 
 row_figures : (r : Run) (i : ℕ) → row_sound r i ≡ sound_row r i
 unfolding row_sound sound_at is_over over
 row_figures r i = refl
-
--- check 9 as facts: the test `is_sound` passes exactly if they hold (`sound-so`, `is-sound`)
-pub record IsSound (r : Run) : Type 0 where
-  pub checked : check_both r.table r.order ≡ Passed
-  pub clock : r.clock ≤ last_clock
-  pub rows : (i : ℕ) → 1 ≤ i → i ≤ r.table.n → sound_row r i ≡ true
-  pub tail : tail_sound r ≡ true
 
 module _ (r : Run) where
   abbrev one : Bool
@@ -73,12 +60,6 @@ speeds r e = limits r.table r.order (sound_so r e).checked
 pub order_placed : (r : Run) → is_sound r ≡ true → Placed r.table.n r.order
 order_placed r e = places r.table r.order (sound_so r e).checked
 
--- the row that the coming slot runs, if any, is one of the table's, and open
-pub record Runs (r : Run) (i : ℕ) : Type 0 where
-  pub low : 1 ≤ i
-  pub high : i ≤ r.table.n
-  pub still : at r.closing i ≡ 0
-
 pub runs : (r : Run) → (chosen_row r ≡ 0 → ⊥) → Runs r (chosen_row r)
 unfolding chosen_row
 runs r h =
@@ -92,13 +73,6 @@ unfolding chosen_row is_pending
 chosen_first r e =
     let c = (sound_so r e).checked in
     chosen_pending r.table (limits r.table r.order c) r.order (both_order r.table r.order c) (state_of r)
-
--- what the code needs of that row: it stands in the columns, has got its work at most, and its slots used are at most the clock
-pub record Serving (r : Run) (i : ℕ) : Type 0 where
-  pub low : 1 ≤ i
-  pub high : i ≤ 64
-  pub most : at r.got i ≤ work_of r.table i
-  pub used_by : at r.used i ≤ r.clock
 
 pub serving : (r : Run) (i : ℕ) → is_sound r ≡ true → i ≡ chosen_row r → (i ≡ 0 → ⊥) → Serving r i
 serving r i e q h =

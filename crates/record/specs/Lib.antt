@@ -4,3 +4,5 @@ pub mod RecordCases
 pub mod Checked
 pub mod Stepping
 pub mod Coming
+pub mod Sound
+pub mod Kept

@@ -13,7 +13,8 @@ use Rattle.texts.specs.Reports.{figures, is_late, job_line}
 use Rattle.theory.specs.Caps.{slots_most}
 use Rattle.theory.specs.Facts.{Row, is_row_lem, facts, both_accepted, both_order}
 use Rattle.theory.specs.Places.{place_row}
-use Rattle.theory.proofs.Promised.{latest, slack_is}
+use Rattle.theory.proofs.Promised.{slack_is}
+use Rattle.theory.specs.Promised.{latest}
 use Rattle.theory.proofs.Results.{order_bound, latest_bound}
 use Rattle.theory.specs.Tests.{by_bool}
 use Rattle.sweep.specs.Padded.{padded_at}

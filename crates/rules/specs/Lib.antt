@@ -16,3 +16,4 @@ pub mod LoadingCases
 pub mod PromiseCases
 pub mod WaitCases
 pub mod LateCases
+pub mod Meaning

@@ -12,7 +12,8 @@ use Rattle.ceiling.specs.declared.Counted.{Counted}
 use Rattle.sentences.specs.declared.PlanAnswer.{PlanAnswer}
 use Rattle.sentences.specs.declared.JudgeAnswer.{JudgeAnswer}
 use Rattle.sentences.specs.Sentences.{plan_sentence, judge_sentence, plan_answer, judge_answer}
-use Rattle.sentences.proofs.RoundTrip.{PlanFits, JudgeFits, plans_differ, judges_differ}
+use Rattle.sentences.proofs.RoundTrip.{plans_differ, judges_differ}
+use Rattle.sentences.specs.RoundTrip.{PlanFits, JudgeFits}
 
 -- ---- the case, from the number and the values
 -- the refusals with their numbers

@@ -16,7 +16,8 @@ use Rattle.sentences.specs.declared.JudgeAnswer.{JudgeAnswer}
 use Rattle.sentences.specs.Sentences.{meanings, words_at, meaning, judged_meaning, counted, item, listed, enumerated, up_to_last, rows_in, plan_opening, plan_sentence, yes_or_no, minus_of, slack_words, judge_opening, judge_sentence}
 use Rattle.sentences.specs.Scanned.{powers_some}
 use Rattle.sentences.specs.Telling.{words_all, judged_all, yes_all}
-use Rattle.sentences.proofs.RoundTrip.{PlanFits, SlackFits, JudgeFits, last_all, last_within, rows_in_held}
+use Rattle.sentences.proofs.RoundTrip.{last_all, last_within, rows_in_held}
+use Rattle.sentences.specs.RoundTrip.{PlanFits, SlackFits, JudgeFits}
 
 -- ---- numbers
 digits_few : (v j : ℕ) → length (joined (digit_if v) (powers j)) ≤ j

@@ -1,7 +1,7 @@
 -- Back and there: what the reader takes is the sentence of the answer that it read, and that answer fits its fields; what it refuses is no answer's
 -- sentence (rules 24.11, 24.13).
-use Rattle.std.specs.Prelude.{ℕ, zero, suc, min, ◌+◌, ◌-◌, ◌*◌, ◌/◌, ◌%◌, ◌^◌, ◌≤◌, ◌<◌, Bool, true, false, cond, ◌&&◌, List, [], ◌∷◌, ◌++◌, map, ◌≡◌, refl, eqb, leb, ℤ, pos, negsuc, length, get_or, take, drop}
-use Rattle.std.proofs.Common.{true≢false, sym, ap, ap₂, subst, ◌∙◌, arith, length-take, le-leb, leb-true, eqb-true}
+use Rattle.std.specs.Prelude.{ℕ, zero, suc, min, ◌+◌, ◌-◌, ◌*◌, ◌/◌, ◌%◌, ◌^◌, ◌≤◌, ◌<◌, Bool, true, false, ◌&&◌, List, [], ◌∷◌, map, ◌≡◌, refl, eqb, leb, length, get_or, take, drop}
+use Rattle.std.proofs.Common.{sym, ap, ap₂, subst, ◌∙◌, arith, length-take, le-leb, leb-true, eqb-true}
 use Rattle.std.proofs.Math.Nat.{min-le_left, min-le_right}
 use Rattle.std.specs.Int.Bits.{bit_or}
 use Rattle.std.proofs.lemmas.Nat.{or_lt}
@@ -14,17 +14,17 @@ use Rattle.rules.specs.Lists.{all, same}
 use Rattle.rules.specs.Choice.{padded}
 use Rattle.texts.specs.Fields.{digit_of}
 use Rattle.checks.specs.RowLists.{all_append}
-use Rattle.theory.specs.Tests.{by_bool, by-leb, and_left, and_right, and_both}
+use Rattle.theory.specs.Tests.{by_bool, and_left, and_right, and_both}
 use Rattle.sweep.specs.Padded.{zeros, padded_zeros, padded_length}
 use Rattle.sweep.specs.Masks.{bit, or_pow}
-use Rattle.sentences.specs.declared.PlanAnswer.{PlanAnswer}
-use Rattle.sentences.specs.declared.JudgeAnswer.{JudgeAnswer}
-use Rattle.sentences.specs.declared.Kind.TheVariants.{Neither, Planner, Judge}
+use Rattle.sentences.specs.declared.Kind.TheVariants.{Neither}
 use Rattle.sentences.specs.declared.Told.{Told}
 use Rattle.sentences.specs.Sentences.{plan_sentence, judge_sentence}
 use Rattle.sentences.specs.Reading.{is_digit, grown, scan, figures_in, at_most, marked, word_of, small, plan_in, below, slack_of, judge_from, judge_in, no_plan, no_verdict, told_by, read_sentence}
 use Rattle.sentences.specs.Telling.{Held}
-use Rattle.sentences.proofs.RoundTrip.{has_minus, PlanFits, SlackFits, JudgeFits, same_equal, plan_there_back, judge_there_back}
+use Rattle.sentences.proofs.RoundTrip.{same_equal, plan_there_back, judge_there_back}
+use Rattle.sentences.specs.RoundTrip.{has_minus, PlanFits, SlackFits, JudgeFits}
+use Rattle.sentences.specs.ReadsBack.{Reads, planned, judged, neither}
 
 -- ---- what is read fits
 grown_held : (v b : ℕ) → grown v b ≤ 4294967295
@@ -141,17 +141,6 @@ told_slack_fits bytes =
     by_bool (same bytes (plan_sentence (plan_in (figures_in bytes))))
     (λ e. rw e (omega arith))
     (λ e. rw e (by_bool (same bytes (judge_sentence (judge_in bytes))) (λ g. rw g (judge_in_fits bytes).slack) (λ g. rw g (omega arith))))
-
--- ---- any bytes
--- what the reader answers, and why
-pub data Reads (bytes : List ℕ) : Type 0 where
-  -- they are the sentence of this planner's answer
-  planned : (a : PlanAnswer) → PlanFits a → plan_sentence a ≡ bytes → read_sentence bytes ≡ record { check = Passed; kind = Planner; plan = a; verdict = no_verdict } → Reads bytes
-  -- they are the sentence of this judge's answer
-  judged : (a : JudgeAnswer) → JudgeFits a → judge_sentence a ≡ bytes → read_sentence bytes ≡ record { check = Passed; kind = Judge; plan = no_plan; verdict = a } → Reads bytes
-  -- they are no answer's sentence
-  neither : ((a : PlanAnswer) → PlanFits a → plan_sentence a ≡ bytes → ⊥) → ((a : JudgeAnswer) → JudgeFits a → judge_sentence a ≡ bytes → ⊥)
-      → read_sentence bytes ≡ record { check = Refused Malformed; kind = Neither; plan = no_plan; verdict = no_verdict } → Reads bytes
 
 -- a check that passed is not one that refused
 abbrev passed_as : Check → ℕ

@@ -23,6 +23,7 @@ use Rattle.sentences.specs.Reading.{is_digit, figures_in, marked, word_of, small
 use Rattle.sentences.specs.Scanned.{tells_all}
 use Rattle.sentences.specs.Telling.{Held, yes_figures, plan_tells, judge_tells}
 use Rattle.sentences.specs.Minus.{judge_minus, letter_yes, letter_no, letter_digit}
+use Rattle.sentences.specs.RoundTrip.{PlanFits, SlackFits, JudgeFits, has_minus}
 
 all_zeros : (o : List ℕ) → all_zero o ≡ true → o ≡ zeros (length o)
 all_zeros [] e = refl
@@ -93,25 +94,6 @@ word_low left (suc k) h =
 word_back : (left : ℕ) → left < 2 ^ 64 → word_of 0 (rows_in left) ≡ left
 unfolding rows_in
 word_back left h = word_low left 64 (omega arith) ∙ mod-eq_of_lt h
-
--- ---- what fits the fields of an answer (rule 24.1)
-pub record PlanFits (a : PlanAnswer) : Type 0 where
-  pub number : a.number ≤ 4294967295
-  pub left : a.left < 2 ^ 64
-  pub long : length a.order ≡ 64
-  pub small : all (λ x. leb x 255) a.order ≡ true
-  pub trials : a.trials ≤ 4294967295
-
--- a slack from -2,147,483,648 to 2,147,483,647
-abbrev pub SlackFits : ℤ → Type 0
-SlackFits (pos v) = v ≤ 2147483647
-SlackFits (negsuc m) = m ≤ 2147483647
-
-pub record JudgeFits (a : JudgeAnswer) : Type 0 where
-  pub number : a.number ≤ 4294967295
-  pub yes : a.yes ≤ 4294967295
-  pub row : a.row ≤ 4294967295
-  pub slack : SlackFits a.slack
 
 -- ---- the planner's answer in its own sentence
 -- numbers of a list up to its last that is not 0 are numbers of the list
@@ -187,10 +169,6 @@ slack_size (negsuc m) f = omega arith
 slack_back : (z : ℤ) → SlackFits z → slack_of (not (eqb (count 45 (minus_of z)) 0)) (nat_abs z) ≡ z
 slack_back (pos v) f = ap pos (min-eq_left f)
 slack_back (negsuc m) f = let e : min (suc m) 2147483648 ≡ suc m = min-eq_left (omega arith) in ap below e
-
--- what byte 15 says
-abbrev pub has_minus : List ℕ → Bool
-has_minus bytes = not (eqb (count 45 bytes) 0)
 
 in_yes : (bytes : List ℕ) → get_or bytes 15 0 ≡ 121 → judge_in bytes ≡ judge_from (has_minus bytes) 1 (figures_in bytes)
 unfolding judge_in

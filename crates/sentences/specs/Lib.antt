@@ -4,3 +4,5 @@ pub mod Scanned
 pub mod Telling
 pub mod Minus
 pub mod SentenceCases
+pub mod ReadsBack
+pub mod RoundTrip

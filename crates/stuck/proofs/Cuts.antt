@@ -17,7 +17,8 @@ use Rattle.theory.specs.Tests.{by-leb}
 use Rattle.sweep.specs.Masks.{is_left}
 use Rattle.choices.specs.Choices.{rows_in, alone}
 use Rattle.lowest.proofs.Accepting.{alone_accepted}
-use Rattle.lowest.proofs.Alone.{Chosen, alone_table, every_row}
+use Rattle.lowest.proofs.Alone.{alone_table, every_row}
+use Rattle.lowest.specs.Alone.{Chosen}
 use Rattle.lowest.proofs.Counted.{rows_chosen}
 use Rattle.stuck.specs.Stuck.{left_rows, left_in, cut, remaining, left_after}
 use Rattle.stuck.specs.Sets.{chosen_rows, back_chosen, alone_twice}

@@ -14,12 +14,14 @@ use Rattle.rules.specs.Worst.{slack, meets}
 use Rattle.theory.specs.Counts.{In, Same, erase_last, in_some}
 use Rattle.theory.specs.Facts.{TableFacts, facts, rows_in_lem}
 use Rattle.theory.specs.Tests.{by_bool}
-use Rattle.theory.proofs.Waiting.{unbound, unbound_table}
+use Rattle.theory.proofs.Waiting.{unbound_table}
+use Rattle.theory.specs.Waiting.{unbound}
 use Rattle.theory.specs.Waits.{rows_closed}
 use Rattle.theory.proofs.Results.{trial_free}
 use Rattle.choices.specs.Choices.{renumbered, alone}
 use Rattle.lowest.proofs.Accepting.{alone_accepted}
-use Rattle.lowest.proofs.Alone.{Chosen, renumbered_row, new_number, unfollowed_alone, alone_table, single, numbers, image, every_row}
+use Rattle.lowest.proofs.Alone.{renumbered_row, new_number, unfollowed_alone, alone_table, single, numbers, image, every_row}
+use Rattle.lowest.specs.Alone.{Chosen}
 use Rattle.lowest.proofs.Counted.{lowest_slack}
 use Rattle.lowest.specs.Images.{erase_map, slack_image}
 use Rattle.lowest.specs.Standing.{may_stand}

@@ -25,12 +25,14 @@ use Rattle.theory.specs.Tests.{by_eqb, by-leb, and_left, and_right, and_both}
 use Rattle.theory.specs.Waits.{Closed}
 use Rattle.choices.specs.Choices.{rows_in, renumbered, alone}
 use Rattle.lowest.proofs.Accepting.{alone_accepted}
-use Rattle.lowest.proofs.Alone.{Chosen, renumbered_row, new_number}
+use Rattle.lowest.proofs.Alone.{renumbered_row, new_number}
+use Rattle.lowest.specs.Alone.{Chosen}
 use Rattle.lowest.proofs.Counted.{rows_chosen, chosen_keep, counted_correct}
 use Rattle.lowest.specs.Images.{in_map}
 use Rattle.stuck.specs.Stuck.{none_may, is_stuck, is_way, leaves, upward, left_rows, left_in, may_be_lowest, may_take}
 use Rattle.stuck.specs.Sets.{chosen_rows, chosen_same, word_rows, map_in, back_within, back_chosen, alone_twice, chosen_erase}
-use Rattle.stuck.proofs.Ways.{Largest, one_largest, way_largest, choice_chose, may_lowest, may_tried, take_in}
+use Rattle.stuck.proofs.Ways.{one_largest, way_largest, choice_chose, may_lowest, may_tried, take_in}
+use Rattle.stuck.specs.Ways.{Largest}
 
 -- the last row first, and again
 upward_back : (a b c : List ℕ) → upward (upward a b) c ≡ upward b (a ++ c)

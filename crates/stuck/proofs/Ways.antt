@@ -18,19 +18,14 @@ use Rattle.theory.specs.Places.{length_rows}
 use Rattle.theory.specs.Tests.{by_bool, by_eqb, by-leb, not_is, not_both, and_left, and_right, and_both}
 use Rattle.theory.specs.Waits.{Closed, rows_closed}
 use Rattle.choices.specs.Choices.{renumbered, alone}
-use Rattle.lowest.proofs.Alone.{Chosen, numbers, number_back, entry_in, new_number, unfollowed_alone, may_alone, waits_kept}
+use Rattle.lowest.proofs.Alone.{numbers, number_back, entry_in, new_number, unfollowed_alone, may_alone, waits_kept}
+use Rattle.lowest.specs.Alone.{Chosen}
 use Rattle.lowest.specs.Listed.{erase_within}
 use Rattle.lowest.specs.Standing.{may_stand}
 use Rattle.lowest.proofs.Standing.{may_fewer, may_same}
 use Rattle.stuck.specs.Stuck.{may_be_lowest, none_may, is_stuck, may_take, is_way, leaves, upward}
 use Rattle.stuck.specs.Sets.{chosen_rows, chosen_erase, chosen_same}
-
--- the largest stuck set inside a set of rows of a table
-pub record Largest (t : Table) (s l : List ℕ) : Type 0 where
-  pub set : Chosen t l
-  pub inside : Within l s
-  pub stuck : is_stuck t l ≡ true
-  pub largest : (r : List ℕ) → Chosen t r → Within r s → is_stuck t r ≡ true → Within r l
+use Rattle.stuck.specs.Ways.{Largest}
 
 -- there is but one
 pub one_largest : (t : Table) (s a b : List ℕ) → Largest t s a → Largest t s b → a ≡ b

@@ -1,3 +1,4 @@
 pub mod Stuck
 pub mod StuckCases
 pub mod Sets
+pub mod Ways

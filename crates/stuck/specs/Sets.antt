@@ -18,7 +18,8 @@ use Rattle.theory.specs.Tests.{by_bool, by_eqb, by-leb, both_ways}
 use Rattle.sweep.specs.Holds.{Holds, holds_empty, holds_with, keep_left, count_tail}
 use Rattle.trials.specs.Lines.{sorted_rising}
 use Rattle.choices.specs.Choices.{rows_in, renumbered, alone}
-use Rattle.lowest.proofs.Alone.{Chosen, in_number, renumbered_row, renumbered_none, entry_in, single, figure, numbers, followed, by-followed}
+use Rattle.lowest.proofs.Alone.{in_number, renumbered_row, renumbered_none, entry_in, single, figure, numbers, followed, by-followed}
+use Rattle.lowest.specs.Alone.{Chosen}
 use Rattle.lowest.specs.Images.{Single, in_map, once_map}
 use Rattle.lowest.proofs.Counted.{rows_rising}
 use Rattle.lowest.specs.Listed.{erase_within}

@@ -6,7 +6,7 @@ use Rattle.rules.specs.Choice.{choice, word, lowest, unfollowed}
 use Rattle.rules.specs.Lists.{all, count, erase}
 use Rattle.rules.specs.Rows.{at, is_row, rows_of, release_of, work_of, deadline_of, promised_of, follows_of}
 use Rattle.rules.specs.Worst.{slack, meets}
-use Rattle.theory.proofs.Waiting.{unbound}
+use Rattle.theory.specs.Waiting.{unbound}
 use Rattle.choices.specs.Choices.{rows_in, renumbered, alone}
 
 -- Row i may stand lowest in its table: no row of the table follows it and, with all the others above it, its slack is not below zero (rules 25.7, 26.1).

@@ -15,7 +15,8 @@ use Rattle.texts.specs.Fields.{line}
 use Rattle.texts.specs.Program.{place_line}
 use Rattle.theory.specs.Facts.{Row, facts}
 use Rattle.theory.specs.Places as Places
-use Rattle.theory.proofs.Promised.{latest, meets_is, natural, all_meet}
+use Rattle.theory.proofs.Promised.{meets_is, natural, all_meet}
+use Rattle.theory.specs.Promised.{latest}
 use Rattle.sweep.specs.Padded.{padded_at}
 use Rattle.planner.specs.Promise.{Promise}
 

@@ -25,9 +25,9 @@ use Rattle.theory.specs.Waits.{Closed, Stand, stand_same, rows_closed}
 use Rattle.theory.specs.Places.{lower_above, above_lower, in_above, stand_at, order_rows, rows_once, length_rows, count_zeros}
 use Rattle.theory.proofs.Finishes.{rows_of_lem}
 use Rattle.theory.proofs.Promised.{moved, all_meet, correct}
+use Rattle.theory.specs.Choosing.{Filling}
 
 -- the trial sequence holds the rows
-
 same_insert : (t : Table) (i : ℕ) (l : List ℕ) → Same (insert t i l) (i ∷ l)
 same_insert t i [] x = refl
 same_insert t i (j ∷ l) x =
@@ -111,14 +111,6 @@ in_keep p (y ∷ l) x i e =
     (λ d q. by_bool (p y)
     (λ z. rw z (in_tail x y (keep p l) (in_keep p l x (rw d at i) e)))
     (λ z. rw z (in_keep p l x (rw d at i) e)))
-
--- Some rows are placed, each meeting its deadline with all that are left above it. Whatever a row left follows is left, and whatever a placed row follows
--- is left or placed above it.
-pub record Filling (t : Table) (left placed : List ℕ) : Type 0 where
-  pub every : Same (left ++ placed) (rows_of t)
-  pub meet : (i : ℕ) → In i placed → meets t (left ++ placed) i ≡ true
-  pub closed : Closed t left
-  pub stand : (a b : List ℕ) (i : ℕ) → placed ≡ a ++ (i ∷ b) → Stand t (left ++ a) i
 
 -- the rows left are rows of the table
 pub filling_rows : (t : Table) (left placed : List ℕ) → Filling t left placed → (x : ℕ) → In x left → Row t x

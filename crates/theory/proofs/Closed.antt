@@ -1,33 +1,31 @@
 -- A row that is closed is settled (rule 9.20): whether it has kept its deadline, and whether it has got its promised part, rests on the slots of its
 -- window before its closing slot, since the run could go on from there with slots that supply enough, and a closed row stays as it is. Of these slots only
 -- those count in which a row works (rule 9.17).
-use Rattle.std.specs.Prelude.{ℕ, zero, suc, ◌+◌, ◌-◌, ◌≤◌, ◌<◌, true, false, cond, List, ◌⊎◌, ◌≡◌, refl, ltb, pos}
+use Rattle.std.specs.Prelude.{ℕ, zero, suc, ◌+◌, ◌-◌, ◌≤◌, true, false, cond, List, ◌⊎◌, ◌≡◌, ltb, pos}
 use Rattle.std.proofs.Math.Logic.{inl, inr}
 use Rattle.std.proofs.Common.{sym, subst, ◌∙◌, arith, lt-ltb}
 use Rattle.std.proofs.Math.Path.{ap}
 use Rattle.std.specs.Int.Signed.{lt_z}
 use Rattle.rules.specs.declared.Table.{Table}
-use Rattle.rules.specs.Correct.{KeptIn, earliest, Window, WindowTo}
+use Rattle.rules.specs.Correct.{KeptIn, Window, WindowTo}
 use Rattle.rules.specs.Orders.{is_order}
 use Rattle.rules.specs.Rows.{at, is_row, is_low, deadline_of, promised_of}
 use Rattle.rules.specs.Running.{run_after}
-use Rattle.rules.specs.Slots.{State, fresh, chosen, is_over}
+use Rattle.rules.specs.Slots.{State, chosen, is_over}
 use Rattle.rules.specs.Tables.{Accepted}
 use Rattle.rules.specs.Worst.{worst_speed, slack}
 use Rattle.theory.specs.Cells.{Cell, cell_at, grown, served, fresh_cell}
 use Rattle.theory.specs.Ends.{Rule, Shut, running, state_by, running_is}
 use Rattle.theory.specs.Facts.{Row, row_is, TableFacts, facts}
 use Rattle.theory.proofs.Invariant.{worked_by, cell_served, cell_other, clock_worked, looked}
-use Rattle.theory.proofs.Lost.{lost, run_lost}
+use Rattle.theory.proofs.Lost.{run_lost}
+use Rattle.theory.specs.Lost.{lost}
 use Rattle.theory.proofs.Results.{running_sustainable, running_promise}
 use Rattle.theory.proofs.Serving.{same_window, kept_later}
 use Rattle.theory.proofs.Sustain.{closed_slot, closed_stays}
 use Rattle.theory.specs.Tests.{by_bool, by_eqb, by-ltb}
-use Rattle.theory.proofs.Verdict.{KeptCell}
-
--- each slot of row i's window before clock k in which a row works supplies at least s work units (rules 9.17, 9.20)
-abbrev pub WorkWindowTo : Table → List ℕ → (ℕ → ℕ) → ℕ → ℕ → ℕ → Type 0
-WorkWindowTo t o σ k i s = (u : ℕ) → earliest t ≤ u → u < deadline_of t i → u < k → lost t o (run_after t o σ u) ≡ false → s ≤ σ u
+use Rattle.theory.specs.Verdict.{KeptCell}
+use Rattle.theory.specs.Closed.{WorkWindowTo}
 
 -- A row's closing slot is the clock at which it was closed: it is not after now, and at that clock the row had it.
 module _ (t : Table) (f : TableFacts t) (rule : Rule t) (o : List ℕ) (σ : ℕ → ℕ) (i : ℕ) (r : Row t i) where

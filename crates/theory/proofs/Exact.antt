@@ -16,8 +16,10 @@ use Rattle.theory.specs.Facts.{Row, TableFacts}
 use Rattle.theory.specs.Cells.{Cell, cell_at, grown, served, fresh_cell}
 use Rattle.theory.specs.Demand.{sum_both}
 use Rattle.theory.specs.Ends.{planning}
-use Rattle.theory.proofs.Invariant.{Held, Over, by-brought, none_beyond, cell_served, cell_other, ran, held, under}
-use Rattle.theory.proofs.Left.{left, bring, left_open, left_late, left_closed, left_waits, left_served_one}
+use Rattle.theory.proofs.Invariant.{by-brought, none_beyond, cell_served, cell_other, ran, held, under}
+use Rattle.theory.specs.Invariant.{Held, Over}
+use Rattle.theory.proofs.Left.{left_open, left_late, left_closed, left_waits, left_served_one}
+use Rattle.theory.specs.Left.{left, bring}
 use Rattle.theory.proofs.Sustain.{none_left}
 use Rattle.theory.specs.Waits.{Closed, Stand, stand_closed}
 

@@ -20,8 +20,10 @@ use Rattle.theory.specs.Facts.{Row, TableFacts, facts}
 use Rattle.theory.specs.Waits.{Stand}
 use Rattle.theory.specs.Places.{placed}
 use Rattle.theory.proofs.Finishes.{worst_runs, worst_finish_lem}
-use Rattle.theory.proofs.Part.{part_table, part_row}
-use Rattle.theory.proofs.Promised.{latest, latest_by, finish_latest, moment_latest, meets_is, part_of, part_known, moment_order, all_meet, correct}
+use Rattle.theory.proofs.Part.{part_row}
+use Rattle.theory.specs.Part.{part_table}
+use Rattle.theory.proofs.Promised.{latest_by, finish_latest, moment_latest, meets_is, part_of, part_known, moment_order, all_meet, correct}
+use Rattle.theory.specs.Promised.{latest}
 use Rattle.theory.proofs.Speeds.{caps_backlog, same_row, accepted_speeds, worst_faster, cap_falls, order_same}
 
 -- one table at two pairs of speeds, N of n and m and G of g and h work units per slot; neither falls

@@ -1,5 +1,5 @@
 -- The worst finish of a row is the finish of the set of rows down to it.
-use Rattle.std.specs.Prelude.{ℕ, ◌+◌, ◌≤◌, ◌<◌, min, Bool, true, ◌≡◌, leb}
+use Rattle.std.specs.Prelude.{ℕ, ◌+◌, ◌≤◌, min, true, ◌≡◌}
 use Rattle.std.proofs.Math.Path.{subst}
 use mathlib.Core.List.{List, [], ◌∷◌, ◌++◌, append_assoc}
 use native.Mathlib.Omega.{arith}
@@ -12,7 +12,7 @@ use Rattle.rules.specs.Correct.{earliest}
 use Rattle.rules.specs.Worst.{worst_speed, horizon, worst_finish}
 use Rattle.theory.specs.Tests.{by_bool, by-leb, by_eqb}
 use Rattle.theory.specs.Counts.{In, Once, Within, Same, in_last, sum_within, sum_le}
-use Rattle.theory.specs.Backlog.{backlog, arrivals, Finish, finish_first, finish_only, finish_set, arrivals_within}
+use Rattle.theory.specs.Backlog.{arrivals, Finish, finish_first, finish_only, finish_set, arrivals_within}
 use Rattle.theory.specs.Sorting.{Sorted}
 use Rattle.theory.specs.Sweep.{sweep}
 use Rattle.theory.proofs.Sweep.{sweep_finish, Ends, ends}
@@ -21,6 +21,7 @@ use Rattle.theory.specs.Facts.{Row, in_rows, rows_in_lem, TableFacts}
 use Rattle.theory.specs.Waits.{Stand}
 use Rattle.theory.specs.Places.{rows_once}
 use Rattle.theory.proofs.Exact.{closes_at}
+use Rattle.theory.specs.Finishes.{on_time, Clear}
 
 pub greatest_of : (f : ℕ → ℕ) (l : List ℕ) (x : ℕ) → In x l → f x ≤ greatest f l
 greatest_of f [] x i = absurd (omega arith)
@@ -48,17 +49,6 @@ once_of t l w x = omega (arith, w x, rows_once t.n x)
 pub earliest_first : (t : Table) (i : ℕ) → Row t i → earliest t ≤ release_of t i
 unfolding earliest
 earliest_first t i r = least_of (release_of t) (release_of t 1) (rows_of t) i (in_rows t i r)
-
--- row i's worst finish is not after its deadline
-abbrev pub on_time : Table → List ℕ → ℕ → Bool
-on_time t o i = leb (worst_finish t o i) (deadline_of t i)
-
--- at a clock after row i's release and by its deadline, nothing is left of the rows of l at i's worst speed
-pub record Clear (t : Table) (l : List ℕ) (i : ℕ) : Type 0 where
-  pub at : ℕ
-  pub after : release_of t i < at
-  pub by : at ≤ deadline_of t i
-  pub clear : backlog (arrivals (release_of t) (cap t (worst_speed t i)) l) at ≡ 0
 
 -- fewer rows have no more left
 pub clear_within : (t : Table) (a b : List ℕ) (i : ℕ) → Within a b → Clear t b i → Clear t a i

@@ -10,10 +10,7 @@ use Rattle.theory.specs.Caps.{cap, cap_above, slots_enough, slots_above}
 use Rattle.theory.specs.Facts.{Row, TableFacts}
 use Rattle.theory.specs.Cells.{Cell, cell_at, brought_none, brought_all, grown, served, fresh_cell, slot_served, slot_other, sized_slot, clock_slot, chosen_ready}
 use Rattle.theory.specs.Ends.{Rule, Shut, state_by, sized_by, clock_by}
-
--- done, or LO with its allowance used up
-abbrev pub Over : Table → ℕ → ℕ → ℕ → Type 0
-Over t i g u = (g ≡ work_of t i) ⊎ ((is_low t i ≡ true) × (allowance t i ≤ u))
+use Rattle.theory.specs.Invariant.{Over, Held}
 
 pub by_over {ℓ} : {P : Type ℓ} (t : Table) (i g u : ℕ)
     → (is_over t i g u ≡ true → Over t i g u → P)
@@ -27,18 +24,6 @@ by_over t i g u f k =
     (λ c q. f (rw (e, d, c)) (inr (d, q)))
     (λ c q. k (rw (e, d, c)) p (λ _. q)))
     (λ d. k (rw (e, d)) p (λ z. absurd (not_both (is_low t i) z d))))
-
--- row i with cell x at clock u; its slots supplied at least s work units each, which those beyond its loading brought; a closed row is over,
--- or its closing slot is a clock that may have closed it
-pub record Held (t : Table) (r : Rule t) (s u i : ℕ) (x : Cell) : Type 0 where
-  pub supplied : min (work_of t i) ((x.used - t.loading) * s) ≤ x.got
-  pub most : x.got ≤ work_of t i
-  pub short : x.closing ≡ 0 → x.got < work_of t i
-  pub slots : x.closing ≡ 0 → is_low t i ≡ true → x.used < allowance t i
-  pub past : x.closing ≤ u
-  pub ended : 0 < x.closing → Over t i x.got x.used ⊎ (r.may x.closing i ≡ true)
-  pub unused : u ≤ release_of t i → x.used ≡ 0
-  pub unclosed : u ≤ release_of t i → x.closing ≡ 0
 
 held_wait : (t : Table) (r : Rule t) (s u i : ℕ) (x : Cell) → Held t r s u i x → Held t r s (suc u) i x
 held_wait t r s u i x h =

@@ -6,20 +6,14 @@ use Rattle.std.proofs.Math.Dec.{eqb}
 use borrow.Author.Tests.{lt-ltb, le-ltb, eq-eqb, ne_eqb}
 use Rattle.rules.specs.declared.Table.{Table}
 use Rattle.rules.specs.Rows.{release_of}
-use Rattle.theory.specs.Tests.{gate, by_bool, by_eqb, by-ltb}
+use Rattle.theory.specs.Tests.{by_bool, by_eqb, by-ltb}
 use Rattle.theory.specs.Backlog.{brings}
 use Rattle.theory.specs.Caps.{cap}
 use Rattle.theory.specs.Cells.{Cell, grown, served}
 use Rattle.theory.specs.Ends.{Rule}
-use Rattle.theory.proofs.Invariant.{Held, Over, by_over}
-
--- in slots, at clock u, of row i with cell x
-unfoldable pub left : Table → ℕ → ℕ → ℕ → Cell → ℕ
-left t s u i x = gate (ltb (release_of t i) u && eqb x.closing 0) (cap t s i - x.used)
-
--- the slots that row i brings with slot u
-abbrev pub bring : Table → ℕ → ℕ → ℕ → ℕ
-bring t s u i = brings (release_of t) (cap t s) u i
+use Rattle.theory.proofs.Invariant.{by_over}
+use Rattle.theory.specs.Invariant.{Held, Over}
+use Rattle.theory.specs.Left.{left, bring}
 
 module _ (t : Table) (s u i : ℕ) (x : Cell) where
   pub left_open : x.closing ≡ 0 → release_of t i < u → left t s u i x ≡ cap t s i - x.used

@@ -2,7 +2,7 @@
 -- the moment at which the row has got that part, a run of the table and a run of this one go the same way, whatever the slots supply from G on;
 -- so what is known of HI rows holds of promised parts.
 use Prim.Native.Nat.{ℕ, zero, suc, ◌+◌, ◌-◌, ◌*◌, ◌≤◌, ◌<◌, min}
-use Rattle.std.specs.Prelude.{false, cond, ◌≡◌, List, [], ◌∷◌, ◌++◌, map, ◌⊎◌, eqb, length, get_or}
+use Rattle.std.specs.Prelude.{false, ◌≡◌, List, [], ◌∷◌, ◌++◌, map, ◌⊎◌, eqb, length, get_or}
 use Rattle.std.proofs.Math.Path.{refl, ap}
 use Rattle.std.proofs.Common.{subst, sym, ◌∙◌}
 use Rattle.std.proofs.lemmas.List.{map-append, length-map}
@@ -22,13 +22,11 @@ use Rattle.theory.specs.Facts.{Row, TableFacts}
 use Rattle.theory.specs.Places.{length_rows}
 use Rattle.theory.specs.Cells.{Cell, cell_at, grown, served, fresh_cell, chosen_ready}
 use Rattle.theory.specs.Ends.{Rule, Shut, state_by}
-use Rattle.theory.proofs.Invariant.{Held, worked_by, held, looked, cell_served, cell_other, ran, by-brought}
+use Rattle.theory.proofs.Invariant.{worked_by, held, looked, cell_served, cell_other, ran, by-brought}
+use Rattle.theory.specs.Invariant.{Held}
 use Rattle.theory.proofs.Sustain.{look_stays, closed_stays}
 use Rattle.theory.proofs.Finishes.{earliest_first}
-
--- one figure for each of sixty-four rows
-abbrev figures_of : (ℕ → ℕ) → List ℕ
-figures_of f = map f (rows_to 64)
+use Rattle.theory.specs.Part.{figures_of, besides, part_table}
 
 rows_entry : (f : ℕ → ℕ) (n k : ℕ) → k < n → get_or (map f (rows_to n)) k 0 ≡ f (suc k)
 rows_entry f zero k h = absurd (omega arith)
@@ -41,26 +39,6 @@ rows_entry f (suc n) k h =
 
 figures_at : (f : ℕ → ℕ) (i : ℕ) → 1 ≤ i → i ≤ 64 → at (figures_of f) i ≡ f i
 figures_at f i p q = let e : suc (i - 1) ≡ i = omega arith in rows_entry f 64 (i - 1) (omega arith) ∙ ap f e
-
--- the figure v in place of row i's
-abbrev besides : ℕ → ℕ → (ℕ → ℕ) → ℕ → ℕ
-besides i v f j = cond (eqb j i) v (f j)
-
--- the table in which row i is a HI job of its promised work
-abbrev pub part_table : Table → ℕ → Table
-part_table t i =
-    record {
-      n = t.n;
-      normal = t.normal;
-      degraded = t.degraded;
-      loading = t.loading;
-      release = t.release;
-      work = figures_of (besides i (promised_of t i) (work_of t));
-      deadline = t.deadline;
-      level = figures_of (besides i 1 (at t.level));
-      promised = figures_of (besides i 0 (promised_of t));
-      follows = t.follows;
-    }
 
 pub part_row : (t : Table) (i j : ℕ) → Row t j → Row (part_table t i) j
 part_row t i j r = record { from = r.from; up_to = r.up_to }

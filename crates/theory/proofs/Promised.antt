@@ -23,16 +23,20 @@ use Rattle.theory.specs.Caps.{cap, cap_need, slots_rise}
 use Rattle.theory.specs.Facts.{Row, row_is, is_row_lem, rows_in_lem, TableFacts}
 use Rattle.theory.specs.Cells.{cell_at}
 use Rattle.theory.specs.Ends.{Rule, planning, state_by}
-use Rattle.theory.proofs.Invariant.{Over, held, got_high}
+use Rattle.theory.proofs.Invariant.{held, got_high}
+use Rattle.theory.specs.Invariant.{Over}
 use Rattle.theory.proofs.Exact.{closes_at, closed_finish}
 use Rattle.theory.specs.Waits.{Stand}
 use Rattle.theory.specs.Places.{placed}
 use Rattle.theory.specs.Sorting.{Sorted}
 use Rattle.theory.specs.Sweep.{sweep}
 use Rattle.theory.proofs.Sweep.{sweep_same}
-use Rattle.theory.proofs.Finishes.{rows_of_lem, once_of, within_rows, worst_slower, worst_finish_lem, worst_bound, worst_sweep, on_time, time_moved}
+use Rattle.theory.proofs.Finishes.{rows_of_lem, once_of, within_rows, worst_slower, worst_finish_lem, worst_bound, worst_sweep, time_moved}
+use Rattle.theory.specs.Finishes.{on_time}
 use Rattle.theory.proofs.Verdict.{late_is, less_left, more_left, kept_by, kept, all_timely}
-use Rattle.theory.proofs.Part.{part_table, part_row, part_table_lem, part_work, part_high, other_work, other_low, other_promised, part_rule, got_grows, Together, Parted, together}
+use Rattle.theory.proofs.Part.{part_row, part_table_lem, part_work, part_high, other_work, other_low, other_promised, part_rule, got_grows, Together, Parted, together}
+use Rattle.theory.specs.Part.{part_table}
+use Rattle.theory.specs.Promised.{latest, Part}
 
 -- the first of the numbers 1, 2, .., n from k on
 first_on : (k n : ℕ) → 1 ≤ k → first (leb k) (rows_to n) ≡ cond (leb k n) k 0
@@ -61,10 +65,6 @@ lesser_is d k m =
     by-leb m k
     (λ _ h. let e : max k m ≡ k = omega arith in rw (e, less_left d m k h))
     (λ _ h. let e : max k m ≡ m = omega arith in rw (e, more_left d k m h))
-
--- the clock by which row i has finished and, where it is promised a part, has got that, in slots
-unfoldable pub latest : Table → List ℕ → ℕ → ℕ
-latest t o i = max (worst_finish t o i) (cond (is_promised t i) (promised_moment t o i) 0)
 
 module _ (t : Table) (o : List ℕ) (i : ℕ) where
   -- the slack is what is left from it to the deadline
@@ -114,11 +114,6 @@ module _ (t : Table) (o : List ℕ) (i : ℕ) where
   pub latest_by : (d : ℕ) → worst_finish t o i ≤ d → (is_promised t i ≡ true → promised_moment t o i ≤ d) → latest t o i ≤ d
   unfolding latest
   latest_by d h k = by_bool (is_promised t i) (λ e. rw e (omega (arith, k e))) (λ e. rw e (omega arith))
-
--- row i, LO, with a promised part
-pub record Part (t : Table) (i : ℕ) : Type 0 where
-  pub low : is_low t i ≡ true
-  pub some : 1 ≤ promised_of t i
 
 pub part_of : (t : Table) (i : ℕ) → is_promised t i ≡ true → Part t i
 part_of t i e = record { low = and_left (is_low t i) (ltb 0 (promised_of t i)) e; some = ltb-true 0 (promised_of t i) (and_right (is_low t i) (ltb 0 (promised_of t i)) e) }

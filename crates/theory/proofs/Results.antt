@@ -3,14 +3,14 @@
 -- stands in b; `Same a b`, the two hold the same rows. A list that is within the table's rows holds each row at most once. `Closed t l` says that l holds
 -- every row which one of its rows follows, and `Stand t a i` that a does so and holds the row which row i follows (Waits): every order that passes
 -- check 6 has such rows above each of its rows.
-use Rattle.std.specs.Prelude.{ℕ, ◌+◌, ◌-◌, ◌≤◌, ◌<◌, true, false, ◌≡◌, refl, ◌↔◌, ◌⊎◌, ℤ, pos, negsuc, nat_abs}
+use Rattle.std.specs.Prelude.{ℕ, ◌+◌, ◌-◌, ◌≤◌, ◌<◌, true, false, ◌≡◌, refl, ◌↔◌, ℤ, pos, negsuc, nat_abs}
 use Rattle.std.proofs.Common.{true≢false, sym, ap, subst, ◌∙◌}
 use mathlib.Core.List.{List, [], ◌∷◌, ◌++◌}
 use native.Mathlib.Omega.{arith}
 use Rattle.std.specs.Int.Signed.{lt_z}
 use Rattle.rules.specs.declared.Sought.{Sought}
 use Rattle.rules.specs.declared.Table.{Table}
-use Rattle.rules.specs.Lists.{first, sum, greatest, erase}
+use Rattle.rules.specs.Lists.{first, erase}
 use Rattle.rules.specs.Rows.{at, is_row, is_low, is_high, is_promised, rows_of, release_of, work_of, deadline_of, promised_of, follows_of, promise_need, need_for}
 use Rattle.rules.specs.Tables.{Accepted}
 use Rattle.rules.specs.Orders.{is_order}
@@ -21,35 +21,33 @@ use Rattle.rules.specs.Worst.{worst_speed, horizon, worst_finish, promised_momen
 use Rattle.rules.specs.Choice.{lowest, unfollowed, passes, choice, padded}
 use Rattle.searches.specs.Speeds.{with_speeds, at_speed, slowest, fastest, InRange, LeastSpeed}
 use Rattle.theory.specs.Tests.{by_bool, not_is}
-use Rattle.theory.specs.Counts.{In, Within, Same, in_head, in_tail, in_last, erase_last, count_append, sum_within, sum_most}
+use Rattle.theory.specs.Counts.{In, Within, Same, in_last, erase_last, count_append, sum_most}
 use Rattle.theory.specs.Sorting.{Sorted}
 use Rattle.theory.specs.Sweep.{sweep}
-use Rattle.theory.specs.Caps.{cap, cap_most, slots_most}
+use Rattle.theory.specs.Caps.{cap, slots_most}
 use Rattle.theory.specs.Cells.{cell_at}
 use Rattle.theory.specs.Ends.{running, running_is}
-use Rattle.theory.specs.Facts.{Row, TableFacts, row_is, is_row_lem, rows_in_lem, facts, follows, followed_row_lem}
-use Rattle.theory.proofs.Runs.{Timely, timely, high_done, dropped, one_run}
+use Rattle.theory.specs.Facts.{TableFacts, row_is, is_row_lem, rows_in_lem, facts, follows, followed_row_lem}
+use Rattle.theory.proofs.Runs.{timely, high_done, dropped, one_run}
+use Rattle.theory.specs.Runs.{Timely}
 use Rattle.theory.specs.Waits.{Closed, Stand, stand_same}
 use Rattle.theory.proofs.Waiting as Waiting
-use Rattle.theory.proofs.Waiting.{unbound}
+use Rattle.theory.specs.Waiting.{unbound}
 use Rattle.theory.specs.Places.{placed, length_rows}
 use Rattle.theory.proofs.Finishes.{rows_of_lem, once_of, worst_runs, worst_slower, worst_bound, within_rows}
 use Rattle.theory.proofs.Finishes as Finishes
-use Rattle.theory.proofs.Verdict.{Finished, finished, less_left, kept_by, kept}
-use Rattle.theory.proofs.Part.{part_table}
-use Rattle.theory.proofs.Promised.{latest, slack_is, slack_meets, meets_slack, latest_by, part_of, moved, meets_kept, meets_promise, all_meet, correct}
+use Rattle.theory.proofs.Verdict.{finished, less_left, kept_by, kept}
+use Rattle.theory.specs.Verdict.{Finished}
+use Rattle.theory.specs.Part.{part_table}
+use Rattle.theory.proofs.Promised.{slack_is, slack_meets, meets_slack, latest_by, part_of, moved, meets_kept, meets_promise, all_meet, correct}
+use Rattle.theory.specs.Promised.{latest}
 use Rattle.theory.proofs.Promised as Promises
 use Rattle.theory.proofs.Speeds.{accepted_speeds}
 use Rattle.theory.proofs.Faster.{finish_falls, moment_falls, latest_falls, correct_faster, correct_at, least_parts}
 use Rattle.theory.proofs.Choosing.{choice_filled, no_order, lowest_stands, unfollowed_within}
 use Rattle.theory.proofs.Choosing as Choosing
 use Rattle.theory.proofs.SumBound.{sum_bound, latest_release}
-
--- row i is LO and dropped in this state: with its allowance used up, at its deadline or before, or with slots left, at its deadline (rule 19.9)
-abbrev pub DroppedIn : Table → State → ℕ → Type 0
-DroppedIn t s i =
-    (is_low t i ≡ true)
-    × (((at s.used i ≡ allowance t i) × (at s.closing i ≤ deadline_of t i)) ⊎ ((at s.used i < allowance t i) × (at s.closing i ≡ deadline_of t i)))
+use Rattle.theory.specs.Results.{DroppedIn}
 
 module _ (t : Table) (accepted : Accepted t) where
   abbrev f : TableFacts t

@@ -18,11 +18,13 @@ use Rattle.theory.specs.Facts.{Row, row_is, is_row_lem, in_rows, rows_in_lem, co
 use Rattle.theory.specs.Cells.{Cell, cell_at, grown, served, fresh_cell, sized_slot, pending_is, is_pending_lem}
 use Rattle.theory.specs.Ends.{planning, running, state_by, sized_by, clock_by}
 use Rattle.theory.proofs.Finishes.{worst_slower}
-use Rattle.theory.proofs.Invariant.{Held, Over, worked_by, cell_served, cell_other, clock_worked, ran, held}
+use Rattle.theory.proofs.Invariant.{worked_by, cell_served, cell_other, clock_worked, ran, held}
+use Rattle.theory.specs.Invariant.{Held, Over}
 use Rattle.theory.specs.Late.{closed_at, closed_none}
 use Rattle.theory.specs.Waits.{chosen_above}
 use Rattle.theory.specs.Places.{order_rows, order_closed}
 use Rattle.theory.proofs.Verdict.{kept, all_timely}
+use Rattle.theory.specs.Runs.{Timely}
 
 -- no open row of the table is due: the look at the clock changes nothing
 pub close_none : (t : Table) (s : State) → ((i : ℕ) → is_row t i ≡ true → at s.closing i ≡ 0 → is_due t s.clock i ≡ false) → close_late t s ≡ s
@@ -70,12 +72,6 @@ module _ (t : Table) (high : (i : ℕ) → is_row t i ≡ true → is_low t i �
   pub high_run : (σ : ℕ → ℕ) (k : ℕ) → run_after t o σ k ≡ after t o σ k
   high_run σ zero = refl
   high_run σ (suc k) = high_step (σ k) (run_after t o σ k) ∙ ap (slot t o (σ k)) (high_run σ k)
-
--- a LO row at clock k: open only before its deadline, closed by it, and never beyond its allowance
-pub record Timely (t : Table) (k i : ℕ) (x : Cell) : Type 0 where
-  pub early : x.closing ≡ 0 → k < deadline_of t i
-  pub by : x.closing ≤ deadline_of t i
-  pub within : x.used ≤ allowance t i
 
 module _ (t : Table) (f : TableFacts t) (o : List ℕ) (σ : ℕ → ℕ) (i : ℕ) (r : Row t i) where
   abbrev now : ℕ → State

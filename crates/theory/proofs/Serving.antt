@@ -13,12 +13,13 @@ use Rattle.rules.specs.Worst.{worst_speed}
 use Rattle.theory.specs.Cells.{Cell, cell_at}
 use Rattle.theory.specs.Ends.{running, state_by, running_is, clock_run}
 use Rattle.theory.specs.Facts.{Row, row_is, TableFacts, facts}
-use Rattle.theory.proofs.Lost.{lost, slot_lost}
+use Rattle.theory.proofs.Lost.{slot_lost}
+use Rattle.theory.specs.Lost.{lost}
 use Rattle.theory.proofs.Part.{got_grows}
 use Rattle.theory.proofs.Starting.{early_idle}
 use Rattle.theory.proofs.Sustain.{closed_stays}
 use Rattle.theory.specs.Tests.{by_bool, by-leb, and_left, and_right}
-use Rattle.theory.proofs.Verdict.{KeptCell}
+use Rattle.theory.specs.Verdict.{KeptCell}
 
 -- before the earliest release every slot is idle, so that its supply is lost
 early_lost : (t : Table) (o : List ℕ) (s : State) → s.clock < earliest t → lost t o s ≡ true

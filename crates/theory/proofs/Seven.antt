@@ -20,6 +20,7 @@ use Rattle.theory.specs.Counts.{In}
 use Rattle.theory.specs.Facts.{row_is}
 use Rattle.theory.proofs.Results.{choice_none}
 use Rattle.theory.specs.Tests.{by_bool, by-leb, and_left, and_right}
+use Rattle.theory.specs.Seven.{order}
 
 -- every entry of a column is at most m
 bounded : (m : ℕ) (xs : List ℕ) → all (λ x. leb x m) xs ≡ true → (j : ℕ) → get_or xs j 0 ≤ m
@@ -60,9 +61,6 @@ kept_in t i s e =
       closed = leb-true 1 (at s.closing i) (and_right a b (and_left (a && b) c e));
       in_time = leb-true (at s.closing i) (deadline_of t i) (and_right (a && b) c e);
     }
-
-abbrev pub order : List ℕ
-order = padded (1 ∷ 2 ∷ 3 ∷ [])
 
 works_most : (i : ℕ) → work_of trouble i ≤ 3
 unfolding table_of

@@ -11,7 +11,7 @@ use Rattle.theory.specs.Sweep.{sweep}
 use Rattle.theory.specs.Caps.{cap, cap_most}
 use Rattle.theory.specs.Facts.{Row, TableFacts, rows_in_lem, facts}
 use Rattle.theory.specs.Places.{length_rows}
-use Rattle.theory.proofs.Promised.{latest}
+use Rattle.theory.specs.Promised.{latest}
 
 module _ (t : Table) (accepted : Accepted t) where
   abbrev f : TableFacts t

@@ -16,8 +16,10 @@ use Rattle.theory.specs.Waits.{Closed, chosen_above}
 use Rattle.theory.specs.Demand.{Served, served_less, served_sum}
 use Rattle.theory.proofs.Sustained.{sustained}
 use Rattle.theory.specs.Ends.{Rule, Shut, planning, running, state_by, clock_by}
-use Rattle.theory.proofs.Invariant.{Held, Over, by_over, worked_by, cell_served, cell_other, looked, clock_worked, ran, held, held_worked, under}
-use Rattle.theory.proofs.Left.{left, bring, left_open, left_late, left_closed, left_waits, left_served}
+use Rattle.theory.proofs.Invariant.{by_over, worked_by, cell_served, cell_other, looked, clock_worked, ran, held, held_worked, under}
+use Rattle.theory.specs.Invariant.{Held, Over}
+use Rattle.theory.proofs.Left.{left_open, left_late, left_closed, left_waits, left_served}
+use Rattle.theory.specs.Left.{left, bring}
 
 -- the slot goes to no row of a, the rows at the top of the order, which wait for none but rows of a: none of them has anything left after it
 pub none_left : (t : Table) (f : TableFacts t) (r : Rule t) (o a b : List ℕ) → o ≡ a ++ b → ((x : ℕ) → In x a → Row t x) → Closed t a → (σ : ℕ → ℕ) (s u x : ℕ)

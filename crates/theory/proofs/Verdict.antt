@@ -14,12 +14,15 @@ use Rattle.theory.specs.Counts.{In, in_last}
 use Rattle.theory.specs.Facts.{Row, is_row_lem, TableFacts}
 use Rattle.theory.specs.Cells.{Cell, cell_at}
 use Rattle.theory.specs.Ends.{Rule, planning, state_by}
-use Rattle.theory.proofs.Invariant.{Held, Over, worked_by, held, held_worked, got_high, got_normal}
+use Rattle.theory.proofs.Invariant.{worked_by, held, held_worked, got_high, got_normal}
+use Rattle.theory.specs.Invariant.{Held, Over}
 use Rattle.theory.proofs.Sustain.{closed_by, over_by, look_stays, closed_stays}
 use Rattle.theory.proofs.Exact.{closed_finish}
 use Rattle.theory.specs.Waits.{Closed, stand_closed}
 use Rattle.theory.specs.Places.{placed}
-use Rattle.theory.proofs.Finishes.{earliest_first, worst_runs, worst_slower, worst_finish_lem, worst_lasts, Clear, on_time, time_clear}
+use Rattle.theory.proofs.Finishes.{earliest_first, worst_runs, worst_slower, worst_finish_lem, worst_lasts, time_clear}
+use Rattle.theory.specs.Finishes.{Clear, on_time}
+use Rattle.theory.specs.Verdict.{KeptCell, Finished}
 
 -- a slack is below zero exactly if the finish is after the deadline
 pub late_is : (d k : ℕ) → lt_z (pos d -ℤ pos k) (pos 0) ≡ ltb d k
@@ -44,18 +47,6 @@ less_left d (suc k) (suc m) h =
     by-ltb d (suc k)
     (λ e p. rw (e, lt-ltb d (suc m) (omega arith)) (le-ltb (suc m - suc d) (suc k - suc d) (omega arith)))
     (λ e p. by_bool (ltb d (suc m)) (λ f. rw (e, f)) (λ f. rw (e, f) (le-ltb (d - suc k) (d - suc m) (omega arith))))
-
--- row i's cell shows that it has kept its deadline
-pub record KeptCell (t : Table) (i : ℕ) (x : Cell) : Type 0 where
-  pub done : x.got ≡ work_of t i
-  pub closed : 1 ≤ x.closing
-  pub in_time : x.closing ≤ deadline_of t i
-
--- Row i's worst run at clock k: it is closed, at its worst finish, which is at least 1 slot, and has got all its work units.
-pub record Finished (t : Table) (o : List ℕ) (i k : ℕ) : Type 0 where
-  pub closing : at (after t o (λ _. worst_speed t i) k).closing i ≡ worst_finish t o i
-  pub from : 1 ≤ worst_finish t o i
-  pub got : at (after t o (λ _. worst_speed t i) k).got i ≡ work_of t i
 
 module _ (t : Table) (f : TableFacts t) where
   -- a row that is over has got its work where its slots supplied its worst speed

@@ -28,24 +28,10 @@ use Rattle.theory.proofs.Sustain.{closed_stays}
 use Rattle.theory.specs.Waits.{Stand}
 use Rattle.theory.specs.Places.{placed}
 use Rattle.theory.proofs.Finishes.{worst_sweep}
-use Rattle.theory.proofs.Part.{part_table, part_row}
+use Rattle.theory.proofs.Part.{part_row}
+use Rattle.theory.specs.Part.{part_table}
 use Rattle.theory.proofs.Promised.{part_of, part_known, moment_is}
-
--- the table with every w at 0
-abbrev pub unbound : Table → Table
-unbound t =
-    record {
-      n = t.n;
-      normal = t.normal;
-      degraded = t.degraded;
-      loading = t.loading;
-      release = t.release;
-      work = t.work;
-      deadline = t.deadline;
-      level = t.level;
-      promised = t.promised;
-      follows = replicate 64 0;
-    }
+use Rattle.theory.specs.Waiting.{unbound, Later}
 
 zeros_at : (n k : ℕ) → get_or {A = ℕ} (replicate n 0) k 0 ≡ 0
 zeros_at zero k = refl
@@ -155,11 +141,6 @@ module _ (t : Table) (f : TableFacts t) (o : List ℕ) (e : is_order t o ≡ tru
   pub same_slack_lem : (i : ℕ) → slack t o i ≡ slack (unbound t) o i
   unfolding slack
   same_slack_lem i = rw (same_finish i, same_moment i)
-
--- A follower that has used a slot: the row that it follows is closed, its closing slot is at least 1, and all slots of the follower came after it.
-pub record Later (t : Table) (s : State) (i k : ℕ) : Type 0 where
-  pub closed : 1 ≤ at s.closing (follows_of t i)
-  pub after : at s.closing (follows_of t i) + at s.used i ≤ k
 
 module _ (t : Table) (f : TableFacts t) (rule : Rule t) (o : List ℕ) (σ : ℕ → ℕ) (i : ℕ) (r : Row t i) (some : 1 ≤ follows_of t i) where
   abbrev now : ℕ → State

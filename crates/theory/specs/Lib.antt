@@ -14,3 +14,16 @@ pub mod Late
 pub mod Ends
 pub mod Demand
 pub mod Places
+pub mod Choosing
+pub mod Closed
+pub mod Finishes
+pub mod Invariant
+pub mod Left
+pub mod Lost
+pub mod Part
+pub mod Promised
+pub mod Results
+pub mod Runs
+pub mod Seven
+pub mod Verdict
+pub mod Waiting

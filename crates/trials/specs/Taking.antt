@@ -24,7 +24,8 @@ use Rattle.theory.specs.Facts.{Row, TableFacts, facts, rows_in_lem, in_rows, fol
 use Rattle.theory.specs.Places.{rows_once}
 use Rattle.theory.specs.Waits.{Closed, Stand}
 use Rattle.theory.proofs.Choosing.{same_sequence, none_follow, follow_none, lowest_stands, keep_in, in_keep}
-use Rattle.theory.proofs.Promised.{latest, meets_is}
+use Rattle.theory.proofs.Promised.{meets_is}
+use Rattle.theory.specs.Promised.{latest}
 use Rattle.theory.proofs.Results.{worst_sweep}
 use Rattle.checks.specs.RowLists.{zero_at}
 use Rattle.sweep.specs.Masks.{bit, is_left, bit_lt, left_bit, bit_left, bit_not_left, cleared_same, cleared_other, full_bit, above}

@@ -27,7 +27,8 @@ use Rattle.theory.specs.Agree.{first_agree}
 use Rattle.theory.specs.Caps.{slots_below}
 use Rattle.theory.specs.Counts.{sum_eq}
 use Rattle.theory.specs.Facts.{in_all}
-use Rattle.theory.proofs.Promised.{latest, meets_is}
+use Rattle.theory.proofs.Promised.{meets_is}
+use Rattle.theory.specs.Promised.{latest}
 use Rattle.theory.specs.Tests.{by_bool, and_left, and_right, and_both, and_true}
 use Rattle.unwaited.specs.Unwaited as Then
 use Rattle.unwaited.specs.Unwaited.{Past, loading, with_promises, Before, CorrectThen, RunServesThen}

@@ -4,7 +4,7 @@ use Rattle.std.specs.Int.{w8, w32, w64}
 use Rattle.sentences.specs.declared.PlanAnswer.{PlanAnswer}
 use Rattle.sentences.specs.Sentences.{plan_sentence}
 use Rattle.sentences.proofs.Longest.{plan_longest}
-use Rattle.sentences.proofs.RoundTrip.{PlanFits}
+use Rattle.sentences.specs.RoundTrip.{PlanFits}
 use Rattle.composer.specs.Lists.{all_entries}
 use Rattle.conclusions.specs.Pasting.{composed_zero, line_within, line_front, line_long, plan_pasted}
 use Rattle.conclusions.proofs.plan_pasted.Goals as goal

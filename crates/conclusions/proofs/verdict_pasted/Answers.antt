@@ -5,7 +5,7 @@ use Rattle.std.specs.Int.{w32}
 use Rattle.sentences.specs.declared.JudgeAnswer.{JudgeAnswer}
 use Rattle.sentences.specs.Sentences.{judge_sentence}
 use Rattle.sentences.proofs.Longest.{judge_longest}
-use Rattle.sentences.proofs.RoundTrip.{SlackFits, JudgeFits}
+use Rattle.sentences.specs.RoundTrip.{SlackFits, JudgeFits}
 use Rattle.composer.specs.Fits.{slack_fits}
 use Rattle.conclusions.specs.Conclusions.{VerdictPasted}
 use Rattle.conclusions.specs.Pasting.{composed_zero, line_within, line_front, line_long, verdict_pasted}

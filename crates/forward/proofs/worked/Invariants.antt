@@ -3,7 +3,7 @@ use mathlib.Core.Bool.{true}
 use mathlib.Core.Path.{◌≡◌}
 use lib.ListN.{length, drop}
 use Rattle.record.specs.Records.{is_sound, due_of, work_on}
-use Rattle.record.proofs.Kept.{Sized}
+use Rattle.record.specs.Kept.{Sized}
 use Rattle.forward.proofs.worked.Given as goal
 
 abbrev pub invariant-loop-k : goal.invariant-loop-k

@@ -1,6 +1,6 @@
 -- The bytes are compared with the sentence of the planner's answer in them, and then with that of the judge's.
 use Rattle.std.proofs.Common.{sym, subst, ◌∙◌}
-use Rattle.sentences.proofs.RoundTrip.{PlanFits, JudgeFits}
+use Rattle.sentences.specs.RoundTrip.{PlanFits, JudgeFits}
 use Rattle.sentences.proofs.ReadsBack.{plan_in_fits, judge_in_fits}
 use Rattle.parser.specs.Told.{told_plan, told_judge, told_neither}
 use Rattle.parser.proofs.read.Goals as goal

@@ -194,7 +194,7 @@ pub returns-then-entry-eq0-2 : goal.returns-then-entry-eq0-2
 returns-then-entry-eq0-2 c =
     let j = (goal.at.returns-then-entry-eq0-2 c).Joined-entry-eq0 in
     let l = c.loop-place in
-    let none = (searched j).stuck c.if-entry-eq0-2.true c.if-allowed-tries.false in
+    let none = (searched j).stuck c.if-entry-eq0-2.true (omega arith) in
     counted_stuck c.args.t c.requires l.order l.left l.place l.invariant.1 c.loop-place-test.true c.args.ceiling
     l.made c.how_many-last.result l.invariant.5 none.0 (none.1 ∙ sym c.how_many-last.ensures)
     (omega (arith, c.how_many-last.ensures, c.first_entries-allowed.ensures.few, l.invariant.5.within))

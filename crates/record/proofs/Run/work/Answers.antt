@@ -4,7 +4,8 @@ use Rattle.rules.specs.Lists.{first}
 use Rattle.columns.specs.Figures.{pending_at}
 use Rattle.record.specs.declared.Run.{Run}
 use Rattle.record.specs.Records.{chosen_row, is_sound}
-use Rattle.record.proofs.Sound.{speeds, order_placed, chosen_first, Serving, serving}
+use Rattle.record.proofs.Sound.{speeds, order_placed, chosen_first, serving}
+use Rattle.record.specs.Sound.{Serving}
 use Rattle.record.specs.Stepping.{served_from, worked_idle, worked_served}
 use Rattle.record.proofs.Run.work.Goals as goal
 
