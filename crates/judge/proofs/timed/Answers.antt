@@ -6,7 +6,7 @@ use mathlib.Core.List.{List}
 use lib.ListN.{length, take, get_or, length-set}
 use Rattle.rules.specs.declared.Table.{Table}
 use Rattle.rules.specs.Worst.{worst_finish}
-use Rattle.theory.proofs.Promised as Promised
+use Rattle.theory.specs.Promised as PromisedDefs
 use Rattle.sweep.specs.CapColumn.{limited, limited_parts, caps_normal, caps_degraded}
 use Rattle.sweep.specs.Holds.{Holds, holds_empty}
 use Rattle.judge.specs.Checked.{Checked, checked}
@@ -30,7 +30,7 @@ degraded_caps-degraded-requires c = limited c.args.t (checked c.args.t c.args.or
 pub loop-k-init : goal.loop-k-init
 loop-k-init c =
     let a = c.args in
-    (omega arith, refl, refl, holds_empty, stored_none (worst_finish a.t a.order) a.order, stored_none (Promised.latest a.t a.order) a.order)
+    (omega arith, refl, refl, holds_empty, stored_none (worst_finish a.t a.order) a.order, stored_none (PromisedDefs.latest a.t a.order) a.order)
 
 -- what a turn knows: the columns made before the loop, and the row at its place
 module _ (c : In-loop-k) where
@@ -133,7 +133,7 @@ loop-k-preserved c =
     let finish : c.swept-end.result ≡ worst_finish (t i) (o i) (row i) =
     c.swept-end.ensures
     ∙ place_finish (t i) (o i) (passes i) (long i) l.k k c.with-upto.result down (queue i) (normal i) (part i) (degraded i) (ready i) in
-    let latest : c.counted.result ≡ Promised.latest (t i) (o i) (row i) =
+    let latest : c.counted.result ≡ PromisedDefs.latest (t i) (o i) (row i) =
     c.counted.ensures
     ∙ place_latest (t i) (o i) (passes i) (long i) l.k k c.with-upto.result down (queue i) (normal i) (part i) (degraded i) (ready i)
     c.swept-end.result finish in (
@@ -142,7 +142,7 @@ loop-k-preserved c =
       length-set l.latest (row i - 1) c.counted.result ∙ l.invariant.2,
       down,
       stored_more (t i) (o i) (passes i) (long i) l.k k (worst_finish (t i) (o i)) l.finish c.swept-end.result l.invariant.1 finish l.invariant.4,
-      stored_more (t i) (o i) (passes i) (long i) l.k k (Promised.latest (t i) (o i)) l.latest c.counted.result l.invariant.2 latest l.invariant.5,
+      stored_more (t i) (o i) (passes i) (long i) l.k k (PromisedDefs.latest (t i) (o i)) l.latest c.counted.result l.invariant.2 latest l.invariant.5,
     )
 
 pub returns : goal.returns
@@ -155,5 +155,5 @@ returns c =
     let e : l.k ≡ t.n = omega arith in (
       c.needs-normal.ensures,
       stored_all t o ok wide (worst_finish t o) l.finish l.invariant.1 (subst (λ (k : ℕ). Stored (worst_finish t o) o k l.finish) e l.invariant.4),
-      stored_all t o ok wide (Promised.latest t o) l.latest l.invariant.2 (subst (λ (k : ℕ). Stored (Promised.latest t o) o k l.latest) e l.invariant.5),
+      stored_all t o ok wide (PromisedDefs.latest t o) l.latest l.invariant.2 (subst (λ (k : ℕ). Stored (PromisedDefs.latest t o) o k l.latest) e l.invariant.5),
     )

@@ -4,7 +4,7 @@ use Prim.Native.Nat.{◌≤◌, ◌-◌}
 use mathlib.Core.Path.{◌≡◌}
 use lib.ListN.{length, take}
 use Rattle.rules.specs.Worst.{worst_finish}
-use Rattle.theory.proofs.Promised as Promised
+use Rattle.theory.specs.Promised as PromisedDefs
 use Rattle.sweep.specs.Holds.{Holds}
 use Rattle.judge.specs.Stored.{Stored}
 use Rattle.judge.proofs.timed.Given as goal
@@ -15,7 +15,7 @@ invariant-loop-k l = (l.k ≤ l.n)
     × (length l.latest ≡ 64)
     × Holds l.down (take l.k l.order)
     × Stored (worst_finish l.t l.order) l.order l.k l.finish
-    × Stored (Promised.latest l.t l.order) l.order l.k l.latest
+    × Stored (PromisedDefs.latest l.t l.order) l.order l.k l.latest
 
 abbrev pub decreases-loop-k : goal.decreases-loop-k
 decreases-loop-k l = l.n - l.k
