@@ -27,7 +27,7 @@ SAYS = re.compile(r"^(?:note: )?\S+:\d+:\d+: (?:error: )?(?:`[^`]*`: )*")
 # An error that follows from another one: what it needs was refused.
 FOLLOWS = re.compile(r"was not admitted|\d+ declarations? that depends? on")
 FACTS = re.compile(
-    r"expected type|computed as far as they go|(?:`(?:omega|grind)`: )?the goal does not follow|(?:`omega`: )?the part `[^`]*` of the goal does not follow"
+    r"expected type|computed as far as they go|as printed, the two types|no occurrence of the path's left endpoint|(?:`(?:omega|grind)`: )?the goal does not follow|(?:`omega`: )?the part `[^`]*` of the goal does not follow"
     r"|give a proof of that|no proof of|it is not proved that"
 )
 
@@ -63,6 +63,8 @@ SAMPLES = {
     "goal": (f"{REFUSED}: proofs/f/Answers.antt:4:1: error: `returns`: `omega`: the goal does not follow from what it read.", True),
     "part": (f"{REFUSED}: proofs/f/Answers.antt:4:1: error: `returns`: `omega`: the part `a ≤ b` of the goal does not follow from what it read.", True),
     "types": (f"{REFUSED}: ./specs/P.antt:4:1: error: `again`: expected type `A`, found `B`", True),
+    "printed": (f"{REFUSED}: proofs/P.antt:4:1: error: `held`: as printed, the two types first differ where one has `t` (expected)", True),
+    "rewritten": (f"{REFUSED}: proofs/P.antt:4:1: error: `held`: `rw`: no occurrence of the path's left endpoint in the goal", True),
     "contract": (f"{REFUSED}: note: src/lib.rt:9:1: it is not proved that what the function ensures holds when it returns (`returns`)", True),
     "field": (f"{REFUSED}: proofs/W.antt:2:1: error: `worst`: missing field(s) of `Table`: follows", False),
     "need": (f"{REFUSED}: proofs/P.antt:4:1: error: `Goals`: module `Goals` has no `returns` that can be named from here", False),
