@@ -11,8 +11,8 @@ use Rattle.sentences.specs.declared.Kind.TheVariants.{Planner, Judge}
 use Rattle.sentences.specs.declared.Told.{Told}
 use Rattle.sentences.specs.Sentences.{plan_sentence, judge_sentence, compose_of}
 use Rattle.sentences.specs.Reading.{read_sentence, kind_number, number_told, no_plan, no_verdict}
-use Rattle.sentences.proofs.ReadsBack.{planned, judged, neither, reads}
-use Rattle.sentences.specs.ReadsBack.{Reads}
+use Rattle.sentences.proofs.ReadsBack.{reads}
+use Rattle.sentences.specs.ReadsBack.{Reads, planned, judged, neither}
 use Rattle.sentences.proofs.RoundTrip.{plan_there_back, judge_there_back}
 use Rattle.sentences.specs.RoundTrip.{PlanFits, SlackFits, JudgeFits}
 use Rattle.parser.specs.Composed.{made_within, made_front, made_long}
