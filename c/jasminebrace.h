@@ -100,27 +100,27 @@
  * Stack, in bytes, without what the caller lends. It is measured, over tables of
  * 1 and 64 rows, for jb_count of 12 rows too, and not proved: the most that each
  * call took, and some bytes more (512 stands for less); docs/BENCHMARKS.md says how:
- *     jb_read                  9,728
- *     jb_write                 5,120
+ *     jb_read                  8,448
+ *     jb_write                 3,584
  *     jb_field                   512
- *     jb_plan                 13,056
- *     jb_plan_within          13,056
- *     jb_ask                  14,592
- *     jb_least_degraded       16,640
- *     jb_least_normal         16,640
- *     jb_read_least_degraded  16,640
- *     jb_read_least_normal    16,640
- *     jb_judge                10,240
- *     jb_judge_rows           11,520
- *     jb_finishes              7,936
- *     jb_report                9,216
- *     jb_count                10,240
- *     jb_fresh                11,520
- *     jb_coming               14,848
- *     jb_slot                 16,128
- *     jb_forward              20,224
- *     jb_commit               38,144
- *     jb_program              17,408
+ *     jb_plan                 13,824
+ *     jb_plan_within          13,824
+ *     jb_ask                  15,360
+ *     jb_least_degraded       17,408
+ *     jb_least_normal         17,408
+ *     jb_read_least_degraded  17,408
+ *     jb_read_least_normal    17,408
+ *     jb_judge                11,264
+ *     jb_judge_rows           12,800
+ *     jb_finishes              8,192
+ *     jb_report                9,728
+ *     jb_count                12,544
+ *     jb_fresh                 6,912
+ *     jb_coming                3,072
+ *     jb_slot                  8,704
+ *     jb_forward               9,984
+ *     jb_commit               17,920
+ *     jb_program              16,384
  *     jb_plan_sentence         1,792
  *     jb_judge_sentence          512
  *     jb_read_sentence         3,072
@@ -128,7 +128,7 @@
  * The functions of the last part add the few words of their own frame. But jb_need,
  * jb_allowance and jb_is_dropped_for_deadline call jb_finishes on a table of their
  * own. Measured likewise, by tools/firmware_test.c as gcc compiles it with -O2:
- * count on 9,728 bytes.
+ * count on 9,984 bytes.
  *
  * Bare boards. The archive's code uses xmm registers by SSE and SSE2
  * instructions, and no x87, MMX or AVX. Of later instructions it has tzcnt,

@@ -15,7 +15,7 @@ sys.dont_write_bytecode = True  # of the module beside this file
 
 from machine_code import functions_of, reached, with_call, with_instruction
 
-KEEPS = "periods::renew"
+KEEPS = "periods::AtSpeed::renew"
 PLAN = {"jb_plan", "jb_plan_within", "jb_ask", "jb_least_degraded", "jb_least_normal", "jb_read_least_degraded", "jb_read_least_normal",
         "jb_program", "jb_count"}
 BELOW = re.compile(r"-0x([0-9a-f]+)\(%rsp|^mov +%rsp,%rbp")

@@ -8,12 +8,15 @@ that counts the words of a table, and from the whole planning and the whole coun
 
 Contracts, comments and texts are no code. A name leads to every function and constant that it may be: to all of that name in the crate and
 in what `use` brings, and that of a method to all in every crate. One that is not called leads nowhere if it is a field before its value, or a
-variable that a `let` of the block around it has made. So more is looked through than is called, never less. It is a fault if
+variable that a `let` of the block around it has made; one that is called leads nowhere if it is a closure that the function is handed, since what
+a closure does stands where it is made, and is looked through there. So more is looked through than is called, never less. What is handed to ROWS is
+done once for each row, as in a loop. It is a fault if
 
   - what a trial, the filling of a place or the loop of WORDS comes to divides, takes a remainder or names NEED;
   - a name that is called, or a path, there or in what PLAN or COUNT comes to, leads to nothing in these sources and is not among the operations
     built into the language, or leads to a function without a body;
   - one of NAMED is not one function, or TRIAL, LOW, PLACES, WORDS or STANDING has no loop;
+  - ROWS has not one loop, or does not call what it is handed just once, in that loop;
   - the loop of TRIAL calls nothing; LOW is called outside of the loops of PLACES, TRIAL outside of those of PLACES and LOW, PART outside of
     those of LOW and outside of STANDS, SWEEP outside of TRIAL and ALL, ALL or STANDING outside of the loops of WORDS, or STANDS outside of those of
     STANDING; or one of these is not called in each of the places named; or PART does not call MOMENT;
@@ -45,9 +48,9 @@ from entries import after_group, blanked, copied, functions_of
 
 # The loop of the first tries the rows of a place at one speed; that of the second tries the LO rows and asks each for its promised part, by the
 # third; the loop of the fourth fills the places; the fifth is the whole planning.
-TRIAL = "periods::first_in_time"
-LOW = "periods::first_low"
-PART = "periods::part_in_time"
+TRIAL = "BusyPeriods::first_in_time"
+LOW = "BusyPeriods::first_low"
+PART = "Promises::part_in_time"
 PLACES = "planner::choose"
 PLAN = "planner::plan"
 # The first is the whole counting of choices; the loop of the second counts the words of a table; there all rows of a word share the sweep of the third,
@@ -65,16 +68,18 @@ CUT = re.compile(r"\blet allowed = trials::first_entries\(tries, ceiling - made\
 SEARCHED = re.compile(r"allowed & w\.\w+")
 SET = re.compile(r"\b(?:let\s+(?:mut\s+)?)?(?:allowed|ceiling)\s*(?:[-+*/%&|^]|<<|>>)?=(?!=)")
 # The passes over the rows left that find finishes and a promised moment, and the need of a job.
-SWEEP = "periods::renew"
-MOMENT = "sweep::part_finish"
+SWEEP = "AtSpeed::renew"
+MOMENT = "Workload::part_finish"
 NEED = "checks::need"
-NAMED = (TRIAL, LOW, PART, PLACES, PLAN, COUNT, WORDS, ALL, STANDING, STANDS, WITHIN, BOUNDARY, EXPORTED, SWEEP, MOMENT, NEED)
-# Where a planning and a counting work out needs, and what is handed over there to have its need worked out: each row's work (at N), each row's promised part
-# (at G), and a HI row's work (at G).
-ASKING = (("sweep::needs", "&t.work"), ("sweep::needs", "&t.promised"), ("sweep::degraded_cap", "work[i]"))
+# What goes over the rows of a table with a closure.
+ROWS = "sweep::by_row"
+NAMED = (TRIAL, LOW, PART, PLACES, PLAN, COUNT, WORDS, ALL, STANDING, STANDS, WITHIN, BOUNDARY, EXPORTED, SWEEP, MOMENT, NEED, ROWS)
+# Where a planning and a counting work out needs, and what is handed over to have its need worked out: each row's work (at N) and each row's promised part
+# (at G), to the function that asks for the need, and a HI row's work (at G), with the question itself.
+ASKING = (("sweep::needs", "&t.work", -2), ("sweep::needs", "&t.promised", -2), ("sweep::degraded_caps", "t.work[i]", -1))
 
 # All that the language has besides functions of its crates; none of it divides.
-BUILT_IN = re.compile(r"[iu](8|16|32|64|size)::(MAX|MIN|leading_zeros|trailing_zeros|count_ones)|\.len")
+BUILT_IN = re.compile(r"[iu](8|16|32|64|size)::(MAX|MIN|leading_zeros|trailing_zeros|count_ones)|\.(all|and|count_ones|is_sorted|iter|len|max|min|rev|skip|trailing_zeros)|Err|Ok|Some")
 KEYWORDS = {"as", "break", "else", "for", "if", "in", "let", "loop", "match", "mut", "return", "while"}
 
 DIVIDES = re.compile(r"[/%]=?")
@@ -88,6 +93,8 @@ LET = re.compile(r"[{};]\s*let\s+(?:mut\s+)?([a-z_]\w*)\s*[:=](?![:=])")
 # A call of something that has no name, or whose name goes on in a way that the language does not have.
 NAMELESS = re.compile(r"[)\]]\s*\(|::\s*<")
 LOOP = re.compile(r"\b(?:while|loop|for)\b")
+# In what stands before a function's body: the type of a closure that it is handed.
+CLOSURE = re.compile(r"\b(\w+)\s*:\s*(?:impl\s+)?Fn(?:Mut|Once)?\s*\(")
 GOES_ON = re.compile(r"\s*(?:(?:else\b|[-=<>!&|^+*/%.])[^{};]*)?(?=\{)")
 AFTER_ITEM = re.compile(r"\s*(?:$|[}#]|(?:pub|fn|const|struct|enum|type|impl|mod|use|ghost|extern)\b)")
 
@@ -134,6 +141,12 @@ class Part:
                 at = after_group(self.code, more.end())
             loops.append(Part(self.name, self.path, self.code, head.start(), at))
         return loops
+
+    def closures(self):
+        """The closures that the function around this part is handed, by their names."""
+        before_body = self.code[self.code.rfind("fn ", 0, self.start) : self.start].partition("{")[0]
+        types = CLOSURE.findall(before_body)
+        return {*types, *re.findall(rf"\b(\w+)\s*:\s*(?:&\s*)?(?:mut\s+)?(?:{'|'.join(types)})\b", before_body)} if types else set()
 
     def variables(self):
         """The variables that statements make here, each with where it is made, where it is known from and where its block ends."""
@@ -187,16 +200,16 @@ def said(asking):
     return f"{asking[0]} for {asking[1]}"
 
 
-def handed(way):
-    """What the last but one call of a way hands over to the function that calls the need."""
-    if len(way) < 2:
+def handed(way, call):
+    """What this call of a way hands over, counted from the last, which asks for the need."""
+    if len(way) < -call:
         return []
-    return arguments(*way[-2])
+    return arguments(*way[call])
 
 
 def asking(way):
     """Which of ASKING a way comes to, if any."""
-    return [(name, column) for name, column in ASKING if way[-1][0].name == name and column in handed(way)]
+    return [each for each in ASKING if way[-1][0].name == each[0] and each[1] in handed(way, each[2])]
 
 
 def arguments(part, at):
@@ -242,6 +255,7 @@ class Trials:
         named = {name: self.named(name) for name in NAMED}
         if None not in named.values():
             self.check_starts(named)
+            self.check_rows(named[ROWS])
             self.check_dividing("a trial", [named[TRIAL], named[LOW], named[PART], *named[PLACES].loops()])
             self.check_dividing("counting a word", named[WORDS].loops())
             self.check_whole("planning", named[PLAN], named[PLACES])
@@ -269,6 +283,18 @@ class Trials:
         self.check_callers(named[STANDS], looping=[standing])
         if not self.calls(part, named[MOMENT]):
             self.fault(part.where(part.start), f"{MOMENT} is not called in {PART}")
+
+    def check_rows(self, rows):
+        """What goes over the rows with a closure has one loop, and asks the closure once in each turn."""
+        loops = rows.loops()
+        asked = [[mark for mark in part.found(PATH) if mark.group() in rows.closures() and CALLED.match(part.code, mark.end())] for part in (rows, *loops)]
+        if len(loops) != 1 or [len(each) for each in asked] != [1, 1]:
+            self.fault(rows.where(rows.start), f"{ROWS} does not ask what it is handed once for each row")
+
+    def over_rows(self, part):
+        """What this part hands to ROWS: it is done once for each row."""
+        handed_over = [(at, part.code.index("(", at)) for at in self.calls(part, self.named(ROWS))]
+        return [Part(part.name, part.path, part.code, at, after_group(part.code, opened)) for at, opened in handed_over]
 
     def check_callers(self, called, looping=(), anywhere=()):
         """A function is called in the loops of each of some functions, anywhere in each of others, and nowhere else."""
@@ -349,7 +375,7 @@ class Trials:
             if not asking(way):
                 known = ", ".join(said(each) for each in ASKING)
                 self.fault(part.where(at), f"{part.name} works out needs of a {what} besides {known}: {shown(way)}")
-            loops = sum(loop.start <= at < loop.end for part, at in way for loop in part.loops())
+            loops = sum(loop.start <= at < loop.end for part, at in way for loop in (*part.loops(), *self.over_rows(part)))
             if loops != 1:
                 self.fault(part.where(at), f"{loops} loops, not one, are around a need: {shown(way)}")
         for each in ASKING:
@@ -408,6 +434,8 @@ class Trials:
         else:
             # A field.
             return None
+        if len(path) == 1 and not targets and path[0] in part.closures():
+            return None
         leads = called or len(path) > 1
         return (found.start(), written, targets) if targets or (leads and not BUILT_IN.fullmatch(written)) else None
 
@@ -428,6 +456,8 @@ class Trials:
 
 # ---- self-test
 
+# The crate whose methods the trials are.
+TRYING = "periods"
 # What a planning works out before its trials, and a counting before its words; and the sum for one word.
 PREPARE = "trials::prepare"
 TOTAL = "counter::total"
@@ -482,10 +512,10 @@ def added(crate, code, file="lib.rt"):
 
 def edits():
     """Name of a fault, what puts it into a copy, and the pieces of what must be said of it."""
-    crate, sweep = SWEEP.split("::")
-    tries, trial = TRIAL.split("::")
+    crate, sweep = TRYING, SWEEP.split("::")[1]
+    whose, trial = TRIAL.split("::")
     counts, words = WORDS.split("::")
-    (rows, _), _, (high, _) = ASKING
+    (rows, *_), _, (high, *_) = ASKING
     works, parts, highs = map(said, ASKING)
     hidden = "fn hidden(work: u32) -> u32\n    ensures { result ≡ result }\n{\n    checks::need(0, work, 1)\n}"
     halved = "impl Table { fn halved(self) -> u32 { self.n / 2 } }"
@@ -524,7 +554,7 @@ def edits():
         ("an unknown call in planning", [first(PLAN, "unknown(1);")], f"planning uses unknown, which cannot be followed: {PLAN}"),
         ("the trial under another name", [changed(TRIAL, lambda a, body, b: a.replace(f"fn {trial}", "fn other") + body + b)],
          f"there are 0 functions {TRIAL}, not one"),
-        ("two trials of one name", [added(tries, f"mod more {{ fn {trial}() {{}} }}")], f"there are 2 functions {TRIAL}, not one"),
+        ("two trials of one name", [added(crate, f"impl {whose} {{ fn {trial}() {{}} }}")], f"there are 2 functions {TRIAL}, not one"),
         ("a need in the question for a part", [first(PART, "checks::need(0, 1, 1);")],
          f"a trial works out a need (checks::need): {PART}"),
         ("a division in the pass for a moment", [first(MOMENT, "let a = 7 / 2;")], f"a trial divides (/): .. > {MOMENT}"),
@@ -532,16 +562,16 @@ def edits():
         ("needs of all parts in a trial", [looped(LOW, "sweep::needs(n, 0, promised, 1);")],
          f"a trial works out a need (checks::need): {LOW} > {rows}"),
         ("parts that no pass is made for", [becomes(PART, "{ true }")], f"{MOMENT} is not called in {PART}"),
-        ("parts that are not asked for", [becomes(LOW, "{ while true { first_in_time(t); } }")], f"{PART} is not called in the loops of {LOW}"),
-        ("a part asked for elsewhere", [looped(PLACES, f"{PART}(t);")], f"{PLACES} calls {PART} outside of the loops of {LOW} and {STANDS}"),
+        ("parts that are not asked for", [becomes(LOW, "{ while true { self.first_in_time(t); } }")], f"{PART} is not called in the loops of {LOW}"),
+        ("a part asked for elsewhere", [looped(PLACES, "parts.part_in_time(t);")], f"{PLACES} calls {PART} outside of the loops of {LOW} and {STANDS}"),
         ("LO rows tried elsewhere", [first(PLAN, f"{LOW}(t);")], f"{PLAN} calls {LOW} outside of the loops of {PLACES}"),
         ("LO rows without a loop", [becomes(LOW, "{ }")], f"{LOW} has no loop"),
-        ("LO rows that are not tried", [becomes(LOW, "{ while true { part_in_time(t); } }")], f"{TRIAL} is not called in the loops of {LOW}"),
+        ("LO rows that are not tried", [becomes(LOW, "{ while true { parts.part_in_time(t); } }")], f"{TRIAL} is not called in the loops of {LOW}"),
         ("a trial without a loop", [becomes(TRIAL, "{ checks::and_then() }")], f"{TRIAL} has no loop"),
-        ("a trial that calls nothing", [becomes(TRIAL, "{ while true { rules::Check::Passed; } }")], f"the loop of {TRIAL} calls nothing"),
+        ("a trial that calls nothing", [becomes(TRIAL, "{ while true { rules::Refusal::NoRoom; } }")], f"the loop of {TRIAL} calls nothing"),
         ("a trial that does not sweep", [becomes(TRIAL, "{ while true { checks::and_then(); } }")], f"{SWEEP} is not called in {TRIAL}"),
         ("a sweep elsewhere", [looped(LOW, f"{sweep}(t);")], f"{LOW} calls {SWEEP} outside of {TRIAL} and {ALL}"),
-        ("a sweep from another crate", [first("judge::timed", f"{SWEEP}(t);")], f"judge::timed calls {SWEEP} outside of {TRIAL} and {ALL}"),
+        ("a sweep from another crate", [first("judge::timed", f"{crate}::{SWEEP}(t);")], f"judge::timed calls {SWEEP} outside of {TRIAL} and {ALL}"),
         ("a trial elsewhere", [first(PLAN, f"{TRIAL}(t);")], f"{PLAN} calls {TRIAL} outside of the loops of {PLACES} and the loops of {LOW}"),
         ("a trial before the places", [first(PLACES, f"{TRIAL}(t);")], f"{PLACES} calls {TRIAL} outside of the loops of {PLACES} and the loops of {LOW}"),
         ("places without trials", [becomes(PLACES, "{ while true {} }")], f"{TRIAL} is not called in the loops of {PLACES}"),
@@ -557,24 +587,41 @@ def edits():
         ("needs of another column", [first(PREPARE, "let a = sweep::needs(t.n, t.loading, &t.deadline, t.normal);")],
          f"{rows} works out needs of a planning besides {works}, {parts}, {highs}: {PLAN}"),
         ("a preparation twice", [first(PLACES, f"let a = {PREPARE}(t);")], f"2 ways, not one, lead from {PLAN} to {NEED} in {highs}"),
-        ("a row's need twice", [looped(rows, "checks::need(0, 1, 1);")], f"2 ways, not one, lead from {PLAN} to {NEED} in {works}"),
-        ("a HI row's need twice", [first(high, "checks::need(0, 1, 1);")], f"2 ways, not one, lead from {PLAN} to {NEED} in {highs}"),
+        ("a row's need twice", [instead(rows, "checks::need(", "checks::need(0, 1, 1) + checks::need(")],
+         f"2 ways, not one, lead from {PLAN} to {NEED} in {works}"),
+        ("a HI row's need twice", [instead(high, "checks::need(", "checks::need(t.loading, t.work[i], 1) + checks::need(")],
+         f"2 ways, not one, lead from {PLAN} to {NEED} in {highs}"),
+        ("a HI row's need of its part", [instead(high, "t.work[i]", "t.promised[i]")],
+         f"{high} works out needs of a planning besides {works}, {parts}, {highs}: {PLAN}"),
+        ("a HI row's need beside the rows", [first(high, "checks::need(t.loading, t.work[i], 1);")], f"0 loops, not one, are around a need: {PLAN} .. {high}"),
         ("a need in the preparation", [first(PREPARE, "checks::need(0, 1, 1);")],
          f"{PREPARE} works out needs of a planning besides {works}, {parts}, {highs}: {PLAN}"),
         ("needs of works in a loop", [becomes(PREPARE, "{ while true { sweep::needs(1, 0, &t.work, 1); } sweep::degraded_caps(1) }")],
          f"2 loops, not one, are around a need: {PLAN} .. {rows}"),
+        ("a need beside the rows", [first(rows, "checks::need(loading, work[0], speed);")], f"0 loops, not one, are around a need: {PLAN} .. {rows}"),
+        ("rows gone through twice", [instead(rows, "by_row(", "by_row(n, |j| by_row(n, |i| checks::need(0, 1, 1))[j]); by_row(")],
+         f"2 loops, not one, are around a need: {PLAN} .. {rows}"),
+        ("a row asked twice", [instead(ROWS, "figure(i)", "figure(i) + figure(i)")], f"{ROWS} does not ask what it is handed once for each row"),
+        ("one row asked", [becomes(ROWS, "{ [figure(0); 64] }")], f"{ROWS} does not ask what it is handed once for each row"),
+        ("a row asked beside the loop", [first(ROWS, "figure(0);")], f"{ROWS} does not ask what it is handed once for each row"),
+        ("a closure that divides", [first(SWEEP, "let a = sweep::by_row(n, |i| 7 / i);")], f"a trial divides (/): .. > {SWEEP}"),
+        ("a function handed on that divides", [first(SWEEP, "let a = sweep::by_row(n, half);"), added(crate, "fn half(a: usize) -> u32 { 7 / 2 }")],
+         f"a trial divides (/): .. > {SWEEP} > {crate}::half"),
+        ("a function handed on that asks for the need", [first(SWEEP, "let a = sweep::by_row(n, hidden);"), added(crate, hidden)],
+         f"a trial works out a need (checks::need): .. > {SWEEP} > {crate}::hidden"),
+        ("an unknown call beside a closure", [first(ROWS, "unknown(1);")], f"planning uses unknown, which cannot be followed: {PLAN} > .. > {ROWS}"),
         ("a need of one row", [becomes(rows, "{ checks::need(0, 1, 1) }")], f"0 loops, not one, are around a need: {PLAN} .. {rows}"),
         ("a planning that calls itself", [first(PREPARE, f"{PLAN}(t);")], f"{PLAN} comes back to {PLAN}: {PLAN} .. {PREPARE}"),
         ("a sweep without a body", [becomes(SWEEP, ";")], f"{SWEEP} has no body: {PLAN}"),
         ("all LO entries searched", [instead(PLACES, "allowed & w.low", "tries & w.low")], f"searches by {LOW} more than the ceiling allows"),
         ("all HI entries searched", [instead(PLACES, "allowed & w.high", "tries & w.high")], f"searches by {TRIAL} more than the ceiling allows"),
         ("a ceiling for each place", [instead(PLACES, "ceiling - made", "ceiling - 0")], f"{PLACES} cuts the entries of a place 0 times"),
-        ("entries allowed again", [instead(PLACES, "let low =", "let allowed = tries; let low =")], f"{PLACES} sets what it has of the ceiling"),
+        ("entries allowed again", [instead(PLACES, "let found =", "let allowed = tries; let found =")], f"{PLACES} sets what it has of the ceiling"),
         ("a ceiling that grows", [looped(PLACES, "ceiling += 1;")], f"{PLACES} sets what it has of the ceiling"),
         ("all trials made first", [instead(WITHIN, "choose(t, ceiling)", "choose(t, most_trials(t.n))")], f"{WITHIN} hands {PLACES} another ceiling"),
         ("a whole planning before", [first(EXPORTED, "let whole = planner::plan(t);")], f"2 ways, not one, lead from {EXPORTED} to {PLACES}"),
         ("a whole planning before, over words", [first(BOUNDARY, "let whole = planner::plan(t);")], f"2 ways, not one, lead from {BOUNDARY} to {PLACES}"),
-        ("all trials over words made first", [instead(BOUNDARY, "plan_within(t, ceiling)", "plan_within(t, 2080)")], f"{BOUNDARY} hands {WITHIN} another"),
+        ("all trials over words made first", [instead(BOUNDARY, "table_in(table), ceiling)", "table_in(table), 2080)")], f"{BOUNDARY} hands {WITHIN} another"),
         ("all trials for C made first", [instead(EXPORTED, "(table, ceiling,", "(table, 2080,")], f"{EXPORTED} hands {BOUNDARY} another ceiling"),
         ("another ceiling that is enough", [instead(PLAN, "most_trials(t.n)", "2080")], f"{PLAN} hands {WITHIN} another ceiling"),
         ("a ceiling raised before", [first(WITHIN, "let ceiling = ceiling | 4095;")], f"{WITHIN} hands {PLACES} another ceiling"),
@@ -585,7 +632,7 @@ def edits():
         ("the need beside a variable of its name", [first(SWEEP, "let need = 7; let a = need(0, 1, 1);"), added(crate, "use checks::*;")],
          f"a trial works out a need (need): .. > {SWEEP}"),
         ("a division in the loop of counting", [looped(WORDS, "let a = 7 / 2;")], f"counting a word divides (/): {WORDS}"),
-        ("a division in the head of that loop", [instead(WORDS, "word <= all", "word <= all / 1")], f"counting a word divides (/): {WORDS}"),
+        ("a division in the head of that loop", [instead(WORDS, "1..all + 1", "1..all / 1")], f"counting a word divides (/): {WORDS}"),
         ("a division in a word's sum", [first(TOTAL, "let a = 7 / 2;")], f"counting a word divides (/): {WORDS} > {TOTAL}"),
         ("a remainder in the question for standing", [first(STANDS, "let mut a = 7; a %= 2;")], f"counting a word divides (%=): .. > {STANDS}"),
         ("a remainder beside the shared sweep", [first(ALL, "let a = 7 % 2;")], f"counting a word divides (%): {WORDS} > {ALL}"),
@@ -619,7 +666,8 @@ def edits():
         ("a row of a word asked elsewhere", [looped(TOTAL, "stands(t);")], f"{TOTAL} calls {STANDS} outside of the loops of {STANDING}"),
         ("parts of a word that are not asked for", [becomes(STANDS, "{ true }")], f"{PART} is not called in {STANDS}"),
         ("a part asked for in the loop of counting", [looped(WORDS, f"{PART}(t);")], f"{WORDS} calls {PART} outside of the loops of {LOW} and {STANDS}"),
-        ("a trial in the loop of counting", [looped(WORDS, f"{TRIAL}(t);")], f"{WORDS} calls {TRIAL} outside of"),
+        ("a trial in the loop of counting", [looped(WORDS, f"{crate}::{TRIAL}(t);")], f"{WORDS} calls {TRIAL} outside of"),
+        ("a trial in the loop of counting, as a method", [looped(WORDS, f"t.{trial}(&normal, word, all);")], f"{WORDS} calls {TRIAL} outside of"),
         ("the words under another name", [changed(WORDS, lambda a, body, b: a.replace(f"fn {words}", "fn other") + body + b)],
          f"there are 0 functions {WORDS}, not one"),
         ("two countings of one name", [added(counts, f"mod more {{ fn {words}() {{}} }}")], f"there are 2 functions {WORDS}, not one"),
@@ -631,7 +679,7 @@ def edits():
 
 def no_faults():
     """What is no fault, and what puts it into a copy."""
-    crate = SWEEP.split("::")[0]
+    crate = TRYING
     clauses = "ghost { 7 / 2 } requires { checks::need 7 } ensures named { ⟦checks::need(0, 1, 1)⟧ { 7 % 2 } }"
     return [
         ("nothing", []),
@@ -639,7 +687,7 @@ def no_faults():
         ("contracts", [with_clause(SWEEP, clauses)]),
         ("built-in operations", [first(SWEEP, "let a = u64::trailing_zeros(left) >> u32::MIN; let b = queue.len();")]),
         ("brackets after words of the language", [first(SWEEP, "if (n > 0) & !(n > 64) { return (n); }")]),
-        ("a value of an enum", [first(SWEEP, "let a = C::Refused(rules::Refusal::NoRoom);"), added(crate, "use rules::Check as C;")]),
+        ("a value of an enum", [first(SWEEP, "let a = C::NoOrder(left);"), added(crate, "use rules::Plan as C;")]),
         ("fields and variables named as a function",
          [first(SWEEP, "let need = 7; let mut a = S { need: need }; a.need = need;"), added(crate, "use checks::*;")]),
         ("divisions outside of the loop of counting", [first(WORDS, "let a = 7 / 2;"), first(COUNT, "let a = 7 % 2;")]),

@@ -1,10 +1,9 @@
 -- What is so of the count of trials and of every ceiling (rules 23.3 to 23.10).
-use Rattle.std.specs.Prelude.{ℕ, zero, suc, ◌+◌, ◌*◌, ◌≤◌, ◌<◌, Bool, ◌≡◌, refl, List, [], ◌∷◌, length}
+use Rattle.std.specs.Prelude.{ℕ, zero, suc, ◌+◌, ◌*◌, ◌≤◌, ◌<◌, Bool, ◌≡◌, refl, List, [], ◌∷◌, length, Ok, Err}
 use Rattle.std.proofs.Common.{sym, ap, ◌∙◌, suc-mul, mul-suc, arith}
 use borrow.Author.Tests.{eq-eqb, ne_eqb, le-ltb, lt-ltb}
 use Rattle.rules.specs.declared.Table.{Table}
-use Rattle.rules.specs.declared.Check.{Check}
-use Rattle.rules.specs.declared.Check.TheVariants.{Passed, Refused}
+use Rattle.rules.specs.Checks.{Check, Passed}
 use Rattle.rules.specs.Lists.{keep, erase}
 use Rattle.rules.specs.Rows.{rows_of}
 use Rattle.rules.specs.Numbers.{refusal_number, planned_number}
@@ -84,8 +83,8 @@ pub by_accepted : {P : Type 0} (t : Table) → (Accepted t → P) → ((Accepted
 by_accepted {P} t f g = go (check_table t) refl
   where
     go : (c : Check) → check_table t ≡ c → P
-    go Passed e = f e
-    go (Refused r) e = g (λ z. let w : ◌≡◌ {A = ℕ} 0 1 = cc in absurd (omega arith))
+    go (Ok tt) e = f e
+    go (Err r) e = g (λ z. let w : ◌≡◌ {A = ℕ} 0 1 = cc in absurd (omega arith))
 
 module _ (t : Table) (accepted : Accepted t) where
   -- what is planned without a ceiling
@@ -109,8 +108,8 @@ unfolding plan_within plan_of
 refused_count_lem t n c = checked (check_table t) n
   where
     checked : (k : Check) → (k ≡ Passed → ⊥) → counted_checked k c t ≡ record { planning = plan_checked k t; trials = 0 }
-    checked Passed m = absurd (m refl)
-    checked (Refused r) m = refl
+    checked (Ok tt) m = absurd (m refl)
+    checked (Err r) m = refl
 
 -- a ceiling that is not below the count of an accepted table changes nothing of what is planned (rules 23.9, 23.10)
 pub planned_within : (t : Table) (c : ℕ) → (Accepted t → trial_count t ≤ c) → (plan_within c t).planning ≡ plan_of t

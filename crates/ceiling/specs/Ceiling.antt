@@ -1,10 +1,9 @@
 -- The count of trials, and the planner's answer at a ceiling (section 23 of the rules).
-use Rattle.std.specs.Prelude.{ℕ, zero, suc, ◌+◌, ◌*◌, ◌/◌, Bool, cond, List, [], ◌∷◌, eqb, ltb, replicate}
+use Rattle.std.specs.Prelude.{ℕ, zero, suc, ◌+◌, ◌*◌, ◌/◌, Bool, cond, List, [], ◌∷◌, eqb, ltb, replicate, Ok, Err}
 use Rattle.rules.specs.declared.Table.{Table}
-use Rattle.rules.specs.declared.Check.{Check}
-use Rattle.rules.specs.declared.Check.TheVariants as Checks
-use Rattle.rules.specs.declared.Planned.TheVariants.{Refused}
+use Rattle.rules.specs.Plans.{Refused}
 use Rattle.rules.specs.declared.Refusal.TheVariants.{TrialsOver}
+use Rattle.rules.specs.Checks.{Check}
 use Rattle.rules.specs.Lists.{erase}
 use Rattle.rules.specs.Tables.{check_table}
 use Rattle.rules.specs.Choice.{sequence, tried, passes, taker, choice, plan_from, plan_checked}
@@ -45,8 +44,8 @@ counted_from ceiling t =
 
 -- a refused table is answered as without a ceiling, with no trial (rule 23.7)
 abbrev pub counted_checked : Check → ℕ → Table → Counted
-counted_checked Checks.Passed ceiling t = counted_from ceiling t
-counted_checked (Checks.Refused r) ceiling t = record { planning = plan_checked (Checks.Refused r) t; trials = 0 }
+counted_checked (Ok tt) ceiling t = counted_from ceiling t
+counted_checked (Err r) ceiling t = record { planning = plan_checked (Err r) t; trials = 0 }
 
 -- the planner's answer for any table at any ceiling: checks 3, 4, 11, 5, 12, 13 to 15, then 19, 7 or 0 (rule 11.11)
 unfoldable pub plan_within : ℕ → Table → Counted

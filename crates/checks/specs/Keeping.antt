@@ -1,13 +1,12 @@
 -- Waits kept by an order (rule 5.11): going down its places, every row that one of them follows has been seen.
-use Rattle.std.specs.Prelude.{ℕ, zero, suc, ◌+◌, ◌-◌, ◌≤◌, ◌<◌, Bool, true, false, cond, not, ◌&&◌, ◌||◌, List, [], ◌∷◌, ◌++◌, ◌≡◌, refl, eqb, ltb, leb, length, get_or, take, drop, set, replicate}
+use Rattle.std.specs.Prelude.{ℕ, zero, suc, ◌+◌, ◌-◌, ◌≤◌, ◌<◌, Bool, true, false, cond, not, ◌&&◌, ◌||◌, List, [], ◌∷◌, ◌++◌, ◌≡◌, refl, eqb, ltb, leb, length, get_or, take, drop, set, replicate, Ok, Err}
 use Rattle.std.proofs.Common.{append_assoc, sym, ap, subst, ◌∙◌, add-one, arith, le-leb, leb-true, lt-ltb, ltb-true, take-append-drop, length-append, length-take, take_at, take-suc, drop-cons, get_or-set_same, get_or-set_other}
 use Rattle.std.proofs.lemmas.List.{get_or-replicate}
 use Rattle.std.proofs.Math.Seq.{get_or-append_seam}
 use Rattle.rules.specs.declared.Table.{Table}
-use Rattle.rules.specs.declared.Check.{Check}
-use Rattle.rules.specs.declared.Check.TheVariants.{Passed, Refused}
 use Rattle.rules.specs.declared.Refusal.{Refusal}
 use Rattle.rules.specs.declared.Refusal.TheVariants.{NotAnOrder}
+use Rattle.rules.specs.Checks.{Check, Passed, Refused}
 use Rattle.rules.specs.Lists.{all, all_zero, rows_to, count}
 use Rattle.rules.specs.Orders.{is_arrangement, is_above, keeps_wait, is_order, check_order}
 use Rattle.rules.specs.Rows.{at, rows_of, follows_of, is_follower}
@@ -25,12 +24,12 @@ module _ (t : Table) where
   waits_append (i ∷ a) b = ap (and_then (check_wait t i)) (waits_append a b) ∙ then_assoc (check_wait t i) (check_waits t a) (check_waits t b)
     where
       then_assoc : (x y z : Check) → and_then x (and_then y z) ≡ and_then (and_then x y) z
-      then_assoc Passed y z = refl
-      then_assoc (Refused r) y z = refl
+      then_assoc (Ok tt) y z = refl
+      then_assoc (Err r) y z = refl
 
   then_passed : (c : Check) → and_then c Passed ≡ c
-  then_passed Passed = refl
-  then_passed (Refused r) = refl
+  then_passed (Ok tt) = refl
+  then_passed (Err r) = refl
 
   -- one row more
   waits_next : (k : ℕ) → check_waits t (rows_to (suc k)) ≡ and_then (check_waits t (rows_to k)) (check_wait t (suc k))

@@ -3,3 +3,4 @@ pub mod RowLists
 pub mod Limits
 pub mod Counts
 pub mod Keeping
+pub mod Both

@@ -4,8 +4,7 @@ use Rattle.std.proofs.Common.{arith, lt-ltb, le-ltb, le-leb, eq-eqb, ne_eqb}
 use Rattle.std.proofs.lemmas.Bool.{lt-leb}
 use Rattle.rules.specs.declared.Table.{Table}
 use Rattle.rules.specs.declared.Refusal.TheVariants.{NotLower, ReleasedLater, FollowsLow}
-use Rattle.rules.specs.declared.Check.{Check}
-use Rattle.rules.specs.declared.Check.TheVariants.{Passed, Refused}
+use Rattle.rules.specs.Checks.{Check, Passed, Refused}
 use Rattle.rules.specs.Rows.{at}
 use Rattle.rules.specs.Lists.{all, all_zero}
 use Rattle.rules.specs.Tables.{row_ok, promise_ok, tail_ok, check_wait}

@@ -2,14 +2,15 @@
 // (rule 10.10).
 #![tactic(auto)]
 
-ghost use Rattle.std.specs.Prelude.{◌≡◌, true, ◌&&◌, ℕ, ◌≤◌, ◌<◌, eqb, length, get_or, drop};
+ghost use Rattle.std.specs.Prelude.{◌≡◌, true, ◌&&◌, ℕ, ◌+◌, ◌≤◌, ◌<◌, eqb, length, get_or, drop};
 ghost use Rattle.rules.specs.Lists.{all, all_zero, count, rows_to};
+ghost use Rattle.rules.specs.Rows.{rows_of};
 ghost use Rattle.rules.specs.Need.{work_slots, need};
-ghost use Rattle.rules.specs.Tables.{count_ok, speeds_ok, loading_ok, and_then, check_table};
+ghost use Rattle.rules.specs.Tables.{count_ok, speeds_ok, loading_ok, row_ok, promise_ok, tail_ok, and_then, check_wait, check_waits, check_table};
 ghost use Rattle.rules.specs.Orders.{check_both};
 ghost use Rattle.texts.specs.Lent.{check_room};
-ghost use Rattle.checks.specs.Limits.{limits_ok, limits_in, part_ok, part_in, tail_in, wait_at};
-ghost use Rattle.checks.specs.Keeping.{waits_to, Numbered, kept_to, arranged, order_at};
+ghost use Rattle.checks.specs.Limits.{limits_ok, part_ok};
+ghost use Rattle.checks.specs.Keeping.{Numbered, kept_to, arranged, order_at};
 
 use rules::{Check, Refusal, Table};
 
@@ -18,10 +19,7 @@ use rules::{Check, Refusal, Table};
 fn work_slots(work: u32, speed: u32) -> u32
     ensures { result ≡ work_slots work speed }
 {
-    if speed == 0 {
-        return 0;
-    }
-    if work == 0 {
+    if speed == 0 || work == 0 {
         return 0;
     }
     if work % speed == 0 {
@@ -67,23 +65,15 @@ fn row_ok(release: u32, work: u32, deadline: u32, level: u32) -> bool
     1 <= work && work <= 1000000 && deadline <= 1000000 && release < deadline && level <= 1
 }
 
-// Each of the first n rows is within its limits. Here and below columns are lent, so that no table is copied.
-fn rows_ok<'a>(
-    release: &'a [u32; 64],
-    work: &'a [u32; 64],
-    deadline: &'a [u32; 64],
-    level: &'a [u32; 64],
-    n: usize,
-) -> bool
-    requires { n ≤ 64 }
-    ensures { result ≡ all (limits_in release.now work.now deadline.now level.now) (rows_to n) }
+// Each row is within its limits.
+fn rows_ok(t: &Table) -> bool
+    requires { t.now.n ≤ 64 }
+    ensures { result ≡ all (row_ok t.now) (rows_of t.now) }
 {
-    let mut k: usize = 0;
-    while k < n {
-        if !row_ok(release[k], work[k], deadline[k], level[k]) {
+    for k in 0..t.n as usize {
+        if !row_ok(t.release[k], t.work[k], t.deadline[k], t.level[k]) {
             return false;
         }
-        k += 1;
     }
     true
 }
@@ -92,86 +82,57 @@ fn rows_ok<'a>(
 fn promise_ok(work: u32, level: u32, promised: u32) -> bool
     ensures { result ≡ part_ok work level promised }
 {
-    if work < promised {
-        return false;
-    }
-    if level == 0 { true } else { promised == 0 }
+    promised <= work && (level == 0 || promised == 0)
 }
 
-// Each of the first n rows promises what it may.
-fn promises_ok<'a>(
-    work: &'a [u32; 64],
-    level: &'a [u32; 64],
-    promised: &'a [u32; 64],
-    n: usize,
-) -> bool
-    requires { n ≤ 64 }
-    ensures { result ≡ all (part_in work.now level.now promised.now) (rows_to n) }
+// Each row promises what it may. A loop beside `rows_ok`: the contract of a closure for the row's test would be longer than the loop.
+fn promises_ok(t: &Table) -> bool
+    requires { t.now.n ≤ 64 }
+    ensures { result ≡ all (promise_ok t.now) (rows_of t.now) }
 {
-    let mut k: usize = 0;
-    while k < n {
-        if !promise_ok(work[k], level[k], promised[k]) {
+    for k in 0..t.n as usize {
+        if !promise_ok(t.work[k], t.level[k], t.promised[k]) {
             return false;
         }
-        k += 1;
     }
     true
 }
 
 // The wait of the row at index k, if it follows a row: that has a lower number, is released no later, and is HI if the row is.
-fn check_wait<'a>(
-    follows: &'a [u32; 64],
-    release: &'a [u32; 64],
-    level: &'a [u32; 64],
-    k: u32,
-) -> Check
+fn check_wait(t: &Table, k: u32) -> Check
     requires { k < 64 }
-    ensures { result ≡ wait_at follows.now release.now level.now k }
+    ensures { result ≡ check_wait t.now (k + 1) }
 {
     let i = k as usize;
-    let w = follows[i];
+    let w = t.follows[i];
     if w == 0 {
-        return Check::Passed;
+        return Ok(());
     }
     if k < w {
-        return Check::Refused(Refusal::NotLower);
+        return Err(Refusal::NotLower);
     }
     let above = (w - 1) as usize;
-    if release[i] < release[above] {
-        return Check::Refused(Refusal::ReleasedLater);
+    if t.release[i] < t.release[above] {
+        return Err(Refusal::ReleasedLater);
     }
-    if level[i] == 0 {
-        return Check::Passed;
+    if t.level[i] == 0 {
+        return Ok(());
     }
-    if level[above] == 0 {
-        return Check::Refused(Refusal::FollowsLow);
+    if t.level[above] == 0 {
+        return Err(Refusal::FollowsLow);
     }
-    Check::Passed
+    Ok(())
 }
 
-// The waits of the first n rows, one row after the other. The columns are lent, so that no table is copied.
-fn check_waits<'a>(
-    follows: &'a [u32; 64],
-    release: &'a [u32; 64],
-    level: &'a [u32; 64],
-    n: u32,
-) -> Check
-    requires { n ≤ 64 }
-    ensures { result ≡ waits_to follows.now release.now level.now n }
+// The waits of all rows, one row after the other.
+fn check_waits(t: &Table) -> Check
+    requires { t.now.n ≤ 64 }
+    ensures { result ≡ check_waits t.now (rows_of t.now) }
 {
-    let mut k: u32 = 0;
-    while k < n {
-        let check = check_wait(follows, release, level, k);
-        match check {
-            Check::Refused(why) => {
-                return Check::Refused(why);
-            }
-            Check::Passed => {
-                k += 1;
-            }
-        }
+    for k in 0..t.n {
+        check_wait(t, k)?;
     }
-    Check::Passed
+    Ok(())
 }
 
 // Whether the column's entries after row n are all zero.
@@ -179,81 +140,45 @@ pub fn zero_after(n: u32, column: &[u32; 64]) -> bool
     requires { length column.now ≡ 64 }
     ensures { result ≡ all_zero (drop n column.now) }
 {
-    let mut i = n;
-    while i < 64 {
-        if column[i as usize] != 0 {
-            return false;
-        }
-        i = i + 1;
-    }
-    true
+    column.iter().skip(n as usize).all(|figure| *figure == 0)
 }
 
 // No figure stands after row n (rule 5.4).
-fn tail_ok<'a>(
-    release: &'a [u32; 64],
-    work: &'a [u32; 64],
-    deadline: &'a [u32; 64],
-    level: &'a [u32; 64],
-    promised: &'a [u32; 64],
-    follows: &'a [u32; 64],
-    n: u32,
-) -> bool
-    requires { (length release.now ≡ 64) × (length work.now ≡ 64) × (length deadline.now ≡ 64) × (length level.now ≡ 64)
-        × (length promised.now ≡ 64) × (length follows.now ≡ 64) }
-    ensures { result ≡ tail_in release.now work.now deadline.now level.now promised.now
-        follows.now n }
+#[tactic(auto, unfolding(rules::specs::Tables::tail_ok))]
+fn tail_ok(t: &Table) -> bool
+    ensures { result ≡ tail_ok t.now }
 {
-    if !zero_after(n, release) {
-        return false;
-    }
-    if !zero_after(n, work) {
-        return false;
-    }
-    if !zero_after(n, deadline) {
-        return false;
-    }
-    if !zero_after(n, level) {
-        return false;
-    }
-    if !zero_after(n, promised) {
-        return false;
-    }
-    zero_after(n, follows)
+    zero_after(t.n, &t.release)
+        && zero_after(t.n, &t.work)
+        && zero_after(t.n, &t.deadline)
+        && zero_after(t.n, &t.level)
+        && zero_after(t.n, &t.promised)
+        && zero_after(t.n, &t.follows)
 }
 
 // Checks 3, 4, 11, 5, 12 and 13 to 15 on any table.
-pub fn check_table(t: Table) -> Check
-    ensures { result ≡ check_table t }
+pub fn check_table(t: &Table) -> Check
+    ensures { result ≡ check_table t.now }
 {
     if !count_ok(t.n) {
-        return Check::Refused(Refusal::RowCount);
+        return Err(Refusal::RowCount);
     }
     if !speeds_ok(t.normal, t.degraded) {
-        return Check::Refused(Refusal::Speeds);
+        return Err(Refusal::Speeds);
     }
     if !loading_ok(t.loading) {
-        return Check::Refused(Refusal::Loading);
+        return Err(Refusal::Loading);
     }
-    let n = t.n as usize;
-    if !rows_ok(&t.release, &t.work, &t.deadline, &t.level, n) {
-        return Check::Refused(Refusal::RowLimits);
+    if !rows_ok(t) {
+        return Err(Refusal::RowLimits);
     }
-    if !tail_ok(
-        &t.release,
-        &t.work,
-        &t.deadline,
-        &t.level,
-        &t.promised,
-        &t.follows,
-        t.n,
-    ) {
-        return Check::Refused(Refusal::RowLimits);
+    if !tail_ok(t) {
+        return Err(Refusal::RowLimits);
     }
-    if !promises_ok(&t.work, &t.level, &t.promised, n) {
-        return Check::Refused(Refusal::Promised);
+    if !promises_ok(t) {
+        return Err(Refusal::Promised);
     }
-    check_waits(&t.follows, &t.release, &t.level, t.n)
+    check_waits(t)
 }
 
 // How often each number from 0 to 64 stands in the order.
@@ -261,13 +186,11 @@ fn tally(order: [u8; 64]) -> [u8; 65]
     ensures { (i : ℕ) → i ≤ 64 → get_or result i 0 ≡ count i order }
 {
     let mut times = [0u8; 65];
-    let mut k: usize = 0;
-    while k < 64 {
+    for k in 0..64 {
         let row = order[k] as usize;
         if row <= 64 {
             times[row] += 1;
         }
-        k += 1;
     }
     times
 }
@@ -278,29 +201,20 @@ fn each_once(order: [u8; 64], n: usize) -> bool
     ensures { result ≡ all (λ i. eqb (count i order) 1) (rows_to n) }
 {
     let times = tally(order);
-    let mut k: usize = 0;
-    while k < n {
+    for k in 0..n {
         if times[k + 1] != 1 {
             return false;
         }
-        k += 1;
     }
     true
 }
 
-// The order's places from index k on are all zero.
+// The order's places from index k on are all zero. Beside `zero_after`, a line each: a generic one would need a trait for the zero.
 fn empty_from(order: [u8; 64], k: usize) -> bool
     requires { k ≤ 64 }
     ensures { result ≡ all_zero (drop k order) }
 {
-    let mut i: usize = k;
-    while i < 64 {
-        if order[i] != 0 {
-            return false;
-        }
-        i += 1;
-    }
-    true
+    order.iter().skip(k).all(|row| *row == 0)
 }
 
 // Each row at the first n places follows none, or one at a place above it.
@@ -309,8 +223,7 @@ fn keeps_waits(follows: &[u32; 64], order: [u8; 64], n: usize) -> bool
     ensures { result ≡ kept_to follows.now order n }
 {
     let mut seen = [0u8; 65];
-    let mut k: usize = 0;
-    while k < n {
+    for k in 0..n {
         let row = order[k] as usize;
         let w = follows[row - 1] as usize;
         if w != 0 {
@@ -319,7 +232,6 @@ fn keeps_waits(follows: &[u32; 64], order: [u8; 64], n: usize) -> bool
             }
         }
         seen[row] = 1;
-        k += 1;
     }
     true
 }
@@ -330,26 +242,23 @@ fn check_order(follows: &[u32; 64], order: [u8; 64], n: usize) -> Check
     ensures { result ≡ order_at follows.now order n }
 {
     if !each_once(order, n) {
-        return Check::Refused(Refusal::NotAnOrder);
+        return Err(Refusal::NotAnOrder);
     }
     if !empty_from(order, n) {
-        return Check::Refused(Refusal::NotAnOrder);
+        return Err(Refusal::NotAnOrder);
     }
     if !keeps_waits(follows, order, n) {
-        return Check::Refused(Refusal::NotAnOrder);
+        return Err(Refusal::NotAnOrder);
     }
-    Check::Passed
+    Ok(())
 }
 
 // The checks of the table, then 6, on any table and any sixty-four numbers.
-pub fn check_both(t: Table, order: [u8; 64]) -> Check
-    ensures { result ≡ check_both t order }
+pub fn check_both(t: &Table, order: [u8; 64]) -> Check
+    ensures { result ≡ check_both t.now order }
 {
-    let table = check_table(t);
-    match table {
-        Check::Refused(why) => Check::Refused(why),
-        Check::Passed => check_order(&t.follows, order, t.n as usize),
-    }
+    check_table(t)?;
+    check_order(&t.follows, order, t.n as usize)
 }
 
 // Check 10: room bytes are enough for a text of size bytes.
@@ -357,17 +266,14 @@ pub fn check_room(size: usize, room: usize) -> Check
     ensures { result ≡ check_room size room }
 {
     if room < size {
-        return Check::Refused(Refusal::NoRoom);
+        return Err(Refusal::NoRoom);
     }
-    Check::Passed
+    Ok(())
 }
 
 // The second check where the first passed.
 pub fn and_then(first: Check, second: Check) -> Check
     ensures { result ≡ and_then first second }
 {
-    match first {
-        Check::Refused(why) => Check::Refused(why),
-        Check::Passed => second,
-    }
+    first.and(second)
 }

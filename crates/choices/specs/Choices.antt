@@ -1,10 +1,9 @@
 -- How many orders of a table are correct, of all its rows and of the rows of every word alone (section 25 of the rules). Everything here goes through
 -- the arrangements one by one; that they can be counted by their lowest rows is proved (crate `lowest`).
-use Rattle.std.specs.Prelude.{ℕ, zero, suc, ◌^◌, Bool, cond, ◌&&◌, List, [], ◌∷◌, ◌++◌, map, eqb, leb, length, drop, replicate}
+use Rattle.std.specs.Prelude.{ℕ, zero, suc, ◌^◌, Bool, cond, ◌&&◌, List, [], ◌∷◌, ◌++◌, map, eqb, leb, length, drop, replicate, Ok, Err}
 use Rattle.rules.specs.declared.Table.{Table}
 use Rattle.rules.specs.declared.Refusal.TheVariants.{NoRoom, TooManyRows}
-use Rattle.rules.specs.declared.Check.{Check}
-use Rattle.rules.specs.declared.Check.TheVariants as Checks
+use Rattle.rules.specs.Checks.{Check, Passed, Refused}
 use Rattle.rules.specs.Choice.{padded}
 use Rattle.rules.specs.Lists.{all, first, erase, keep, rows_to}
 use Rattle.rules.specs.Orders.{is_order}
@@ -90,11 +89,11 @@ pub record Counting : Type 0 where
 
 -- 20 refuses more than 12 rows (rules 10.20, 25.4)
 abbrev pub check_few : Table → Check
-check_few t = cond (leb t.n 12) Checks.Passed (Checks.Refused TooManyRows)
+check_few t = cond (leb t.n 12) Passed (Refused TooManyRows)
 
 -- 10 refuses fewer than 4,096 numbers (rules 10.10, 25.4)
 abbrev pub check_scratch : List ℕ → Check
-check_scratch scratch = cond (leb 4096 (length scratch)) Checks.Passed (Checks.Refused NoRoom)
+check_scratch scratch = cond (leb 4096 (length scratch)) Passed (Refused NoRoom)
 
 -- the scratch after counting: entry m holds the choices of m for the first 2 to the n words, and every later entry is as it was (rule 25.5)
 abbrev pub counted : Table → List ℕ → List ℕ
@@ -102,12 +101,12 @@ counted t scratch = map (choices_of t) (words_to (2 ^ t.n)) ++ drop (2 ^ t.n) sc
 
 -- the counts and the scratch where no check refuses; else counts of 0 and the scratch as it was (rules 25.5, 25.6)
 abbrev pub count_checked : Check → Table → List ℕ → Counting
-count_checked Checks.Passed t scratch =
+count_checked (Ok tt) t scratch =
     record {
-      said = record { check = Checks.Passed; count = choices t; lowest = padded (map (choices_lowest t) (rows_of t)) };
+      said = record { check = Passed; count = choices t; lowest = padded (map (choices_lowest t) (rows_of t)) };
       scratch = counted t scratch;
     }
-count_checked (Checks.Refused r) t scratch = record { said = record { check = Checks.Refused r; count = 0; lowest = replicate 64 0 }; scratch = scratch }
+count_checked (Err r) t scratch = record { said = record { check = Refused r; count = 0; lowest = replicate 64 0 }; scratch = scratch }
 
 -- the answer for any table and any scratch: checks 3, 4, 11, 5, 12, 13 to 15, then 20, then 10 (rule 11.13)
 unfoldable pub count_of : Table → List ℕ → Counting

@@ -5,7 +5,7 @@
 use rules::Check;
 
 // What counting answers: passed or why not, the count of correct orders, and for each row in how many of them it stands lowest, zeros after the last
-// (rules 25.4 to 25.6).
+// (rules 25.4 to 25.6). No `Result`, since counts of 0 are promised with a refusal.
 #[derive(Clone, Copy)]
 pub struct Choices {
     pub check: Check,

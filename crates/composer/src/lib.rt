@@ -1,13 +1,14 @@
 // The composer: a planner's or a judge's answer as one English sentence, written into lent bytes (section 24 of the rules). Each function that puts
-// something writes from a byte on and answers the byte after what it wrote; what it needs room for is what it writes.
+// something writes where the text goes on, and the text goes on after it; what it needs room for is what it writes.
 #![tactic(auto)]
 
 ghost use Rattle.std.specs.Prelude.{◌≡◌, ◌+◌, ◌≤◌, length, take};
-ghost use Rattle.fields.specs.Wrote.{Wrote};
+ghost use Rattle.fields.specs.Texts.{Puts};
 ghost use Rattle.sentences.specs.Sentences.{judged_words, judged_meaning, up_to_last, rows_in, plan_opening, plan_sentence, yes_or_no, slack_words, judge_opening, judge_sentence, compose_of};
 ghost use Rattle.composer.specs.Lists.{RowsOf};
 
-use rules::{Check, Writing};
+use fields::Text;
+use rules::Writing;
 use sentences::{JudgeAnswer, PlanAnswer};
 
 // The bytes of the longest sentence, and of the longest of a judge's answer (rule 24.10).
@@ -20,17 +21,15 @@ fn places(order: [u8; 64]) -> usize
     ensures { (result ≤ 64) × (take result order ≡ up_to_last order) }
 {
     let mut last: usize = 0;
-    let mut i: usize = 0;
-    while i < 64 {
+    for i in 0..64 {
         if order[i] != 0 {
             last = i + 1;
         }
-        i += 1;
     }
     last
 }
 
-// Rows of a word: how many there are, and their numbers, zeros after the last.
+// Rows of a word: how many there are, and their numbers, zeros after the last. The numbers have sixty-four places, since no memory is asked for.
 #[derive(Clone, Copy)]
 struct Rows {
     many: usize,
@@ -43,142 +42,129 @@ fn rows_of(word: u64) -> Rows
 {
     let mut rows = [0u8; 64];
     let mut many: usize = 0;
-    let mut row: u8 = 1;
-    while row <= 64 {
+    for row in 1..=64u8 {
         if sweep::has(word, row) {
             rows[many] = row;
             many += 1;
         }
-        row += 1;
     }
     Rows { many, rows }
 }
 
 // What stands before the trials in the planner's sentence.
-fn put_plan_opening(out: &mut [u8], number: u32) -> usize
-    requires { length (plan_opening number) ≤ length out.old }
-    ensures { Wrote out.old 0 out.new result (plan_opening number) }
+#[tactic(auto, using(crate::proofs::Parts::plan_opening_long))]
+fn put_plan_opening(text: &mut Text, number: u32)
+    requires { text.old.at + length (plan_opening number) ≤ length text.old.out.now }
+    ensures { Puts text.old text.new (plan_opening number) }
 {
-    let begun = phrases::put_words(out, 0, b"The planner answers number ");
-    let after_number = decimals::put_decimal(out, begun, number);
-    let after_bracket = phrases::put_words(out, after_number, b" (");
-    let after_meaning = phrases::put_meaning(out, after_bracket, number);
-    phrases::put_words(out, after_meaning, b"): ")
+    text.put_bytes(b"The planner answers number ");
+    decimals::put_decimal(text, number);
+    text.put_bytes(b" (");
+    phrases::put_meaning(text, number);
+    text.put_bytes(b"): ");
 }
 
-// The planner's sentence, from byte 0 on.
-fn put_plan(out: &mut [u8], answer: PlanAnswer) -> usize
-    requires { length (plan_sentence answer) ≤ length out.old }
-    ensures { Wrote out.old 0 out.new result (plan_sentence answer) }
+// The planner's sentence.
+#[tactic(auto, using(crate::proofs::Parts::plan_long))]
+fn put_plan(text: &mut Text, answer: PlanAnswer)
+    requires { text.old.at + length (plan_sentence answer) ≤ length text.old.out.now }
+    ensures { Puts text.old text.new (plan_sentence answer) }
 {
-    let order = answer.order;
-    let placed = places(order);
+    let placed = places(answer.order);
     let left = rows_of(answer.left);
-    let rows = left.rows;
-    let opened = put_plan_opening(out, answer.number);
-    let after_trials = phrases::put_counted(out, opened, answer.trials, b" trial");
-    let before_places = phrases::put_words(out, after_trials, b", ");
-    let after_places = phrases::put_enumerated(
-        out,
-        before_places,
+    put_plan_opening(text, answer.number);
+    phrases::put_counted(text, answer.trials, b" trial");
+    text.put_bytes(b", ");
+    phrases::put_enumerated(
+        text,
         b" row",
         b" in the order",
         b" (highest first: ",
-        order,
-        placed,
+        &answer.order[..placed],
     );
-    let before_rows = phrases::put_words(out, after_places, b", ");
-    let after_rows = phrases::put_enumerated(
-        out,
-        before_rows,
-        b" row",
-        b" left",
-        b" (",
-        rows,
-        left.many,
-    );
-    fields::put_byte(out, after_rows, b'.')
+    text.put_bytes(b", ");
+    phrases::put_enumerated(text, b" row", b" left", b" (", &left.rows[..left.many]);
+    text.put_byte(b'.');
 }
 
 // Yes, no, or another value.
-fn put_yes_or_no(out: &mut [u8], at: usize, yes: u32) -> usize
-    requires { at + length (yes_or_no yes) ≤ length out.old }
-    ensures { Wrote out.old at out.new result (yes_or_no yes) }
+#[tactic(auto, unfolding(sentences::specs::Sentences::yes_or_no))]
+fn put_yes_or_no(text: &mut Text, yes: u32)
+    requires { text.old.at + length (yes_or_no yes) ≤ length text.old.out.now }
+    ensures { Puts text.old text.new (yes_or_no yes) }
 {
-    if yes == 1 {
-        return phrases::put_words(out, at, b"yes");
+    match yes {
+        1 => text.put_bytes(b"yes"),
+        0 => text.put_bytes(b"no"),
+        _ => {
+            decimals::put_decimal(text, yes);
+            text.put_bytes(b", neither yes nor no");
+        }
     }
-    if yes == 0 {
-        return phrases::put_words(out, at, b"no");
-    }
-    let after_value = decimals::put_decimal(out, at, yes);
-    phrases::put_words(out, after_value, b", neither yes nor no")
 }
 
 // What 0 of the judge means, with its yes or no.
-fn put_judged(out: &mut [u8], at: usize, yes: u32) -> usize
-    requires { at + length (judged_words yes) ≤ length out.old }
-    ensures { Wrote out.old at out.new result (judged_words yes) }
+fn judged_words(yes: u32) -> &'static [u8]
+    ensures { result.now ≡ judged_words yes }
 {
-    if yes == 1 {
-        return phrases::put_words(out, at, b"the order is correct");
+    match yes {
+        1 => b"the order is correct",
+        0 => b"the order is not correct",
+        _ => b"an order was judged",
     }
-    if yes == 0 {
-        return phrases::put_words(out, at, b"the order is not correct");
-    }
-    phrases::put_words(out, at, b"an order was judged")
 }
 
 // What a number of the judge means, with its yes or no.
-fn put_judged_meaning(out: &mut [u8], at: usize, number: u32, yes: u32) -> usize
-    requires { at + length (judged_meaning number yes) ≤ length out.old }
-    ensures { Wrote out.old at out.new result (judged_meaning number yes) }
+#[tactic(auto, unfolding(sentences::specs::Sentences::judged_meaning))]
+fn put_judged_meaning(text: &mut Text, number: u32, yes: u32)
+    requires { text.old.at + length (judged_meaning number yes) ≤ length text.old.out.now }
+    ensures { Puts text.old text.new (judged_meaning number yes) }
 {
     if number == 0 {
-        return put_judged(out, at, yes);
+        text.put_bytes(judged_words(yes));
+    } else {
+        phrases::put_meaning(text, number);
     }
-    phrases::put_meaning(out, at, number)
 }
 
 // What stands before the row in the judge's sentence.
-fn put_judge_opening(out: &mut [u8], number: u32, yes: u32) -> usize
-    requires { length (judge_opening number yes) ≤ length out.old }
-    ensures { Wrote out.old 0 out.new result (judge_opening number yes) }
+#[tactic(auto, using(crate::proofs::Parts::judge_opening_long))]
+fn put_judge_opening(text: &mut Text, number: u32, yes: u32)
+    requires { text.old.at + length (judge_opening number yes) ≤ length text.old.out.now }
+    ensures { Puts text.old text.new (judge_opening number yes) }
 {
-    let begun = phrases::put_words(out, 0, b"The judge says ");
-    let after_yes = put_yes_or_no(out, begun, yes);
-    let before_number = phrases::put_words(out, after_yes, b" (number ");
-    let after_number = decimals::put_decimal(out, before_number, number);
-    let before_meaning = phrases::put_words(out, after_number, b", ");
-    let after_meaning = put_judged_meaning(out, before_meaning, number, yes);
-    phrases::put_words(out, after_meaning, b"): ")
+    text.put_bytes(b"The judge says ");
+    put_yes_or_no(text, yes);
+    text.put_bytes(b" (number ");
+    decimals::put_decimal(text, number);
+    text.put_bytes(b", ");
+    put_judged_meaning(text, number, yes);
+    text.put_bytes(b"): ");
 }
 
 // A slack in slots: a minus if it is below 0, and its size with its noun.
-fn put_slack(out: &mut [u8], at: usize, slack: i32) -> usize
-    requires { at + length (slack_words slack) ≤ length out.old }
-    ensures { Wrote out.old at out.new result (slack_words slack) }
+fn put_slack(text: &mut Text, slack: i32)
+    requires { text.old.at + length (slack_words slack) ≤ length text.old.out.now }
+    ensures { Puts text.old text.new (slack_words slack) }
 {
-    let size = fields::size_of(slack);
     if slack < 0 {
-        let after_minus = fields::put_byte(out, at, b'-');
-        return phrases::put_counted(out, after_minus, size, b" slot");
+        text.put_byte(b'-');
     }
-    phrases::put_counted(out, at, size, b" slot")
+    phrases::put_counted(text, slack.unsigned_abs(), b" slot");
 }
 
-// The judge's sentence, from byte 0 on.
-fn put_judge(out: &mut [u8], answer: JudgeAnswer) -> usize
-    requires { length (judge_sentence answer) ≤ length out.old }
-    ensures { Wrote out.old 0 out.new result (judge_sentence answer) }
+// The judge's sentence.
+#[tactic(auto, using(crate::proofs::Parts::judge_long))]
+fn put_judge(text: &mut Text, answer: JudgeAnswer)
+    requires { text.old.at + length (judge_sentence answer) ≤ length text.old.out.now }
+    ensures { Puts text.old text.new (judge_sentence answer) }
 {
-    let slack = answer.slack;
-    let opened = put_judge_opening(out, answer.number, answer.yes);
-    let before_row = phrases::put_words(out, opened, b"tightest row ");
-    let after_row = decimals::put_decimal(out, before_row, answer.row);
-    let before_slack = phrases::put_words(out, after_row, b", slack ");
-    let after_slack = put_slack(out, before_slack, slack);
-    fields::put_byte(out, after_slack, b'.')
+    put_judge_opening(text, answer.number, answer.yes);
+    text.put_bytes(b"tightest row ");
+    decimals::put_decimal(text, answer.row);
+    text.put_bytes(b", slack ");
+    put_slack(text, answer.slack);
+    text.put_byte(b'.');
 }
 
 // A sentence that is made, copied to the start of lent bytes if there are enough.
@@ -186,17 +172,17 @@ fn hand_over(sentence: &[u8], out: &mut [u8]) -> Writing
     requires { length sentence.now ≤ 739 }
     ensures { let back = compose_of sentence.now out.old in (result ≡ back.said) × (out.new ≡ back.bytes) }
 {
-    let check = checks::check_room(sentence.len(), out.len());
-    match check {
-        Check::Refused(why) => Writing {
-            check: Check::Refused(why),
+    match checks::check_room(sentence.len(), out.len()) {
+        Err(why) => Writing {
+            check: Err(why),
             size: 0,
         },
-        Check::Passed => {
-            let size = phrases::put_words(out, 0, sentence);
+        Ok(()) => {
+            let mut text = Text { out, at: 0 };
+            text.put_bytes(sentence);
             Writing {
-                check: Check::Passed,
-                size: size as u32,
+                check: Ok(()),
+                size: text.at as u32,
             }
         }
     }
@@ -208,15 +194,26 @@ pub fn plan_sentence(answer: PlanAnswer, out: &mut [u8]) -> Writing
     ensures { let back = compose_of (plan_sentence answer) out.old in (result ≡ back.said) × (out.new ≡ back.bytes) }
 {
     let mut made = [0u8; LONGEST];
-    let size = put_plan(&mut made, answer);
+    let mut text = Text {
+        out: &mut made,
+        at: 0,
+    };
+    put_plan(&mut text, answer);
+    let size = text.at;
     hand_over(&made[..size], out)
 }
 
-// The same for a judge's answer.
+// The same for a judge's answer. (Its sentence and its bytes are others: a function for both would take them as a closure and a const parameter, and
+// be no shorter.)
 pub fn judge_sentence(answer: JudgeAnswer, out: &mut [u8]) -> Writing
     ensures { let back = compose_of (judge_sentence answer) out.old in (result ≡ back.said) × (out.new ≡ back.bytes) }
 {
     let mut made = [0u8; LONGEST_VERDICT];
-    let size = put_judge(&mut made, answer);
+    let mut text = Text {
+        out: &mut made,
+        at: 0,
+    };
+    put_judge(&mut text, answer);
+    let size = text.at;
     hand_over(&made[..size], out)
 }

@@ -1,5 +1,5 @@
 -- The table author's conclusion, from the reader's definition, check by check.
-use Rattle.std.specs.Prelude.{ℕ, ◌+◌, ◌-◌, ◌*◌, ◌≤◌, ◌<◌, Bool, false, cond, ◌&&◌, List, ◌⊎◌, ◌≡◌, ltb, leb, eqb, drop, replicate}
+use Rattle.std.specs.Prelude.{ℕ, ◌+◌, ◌-◌, ◌*◌, ◌≤◌, ◌<◌, Bool, false, cond, ◌&&◌, List, ◌⊎◌, ◌≡◌, ltb, leb, eqb, drop, replicate, Ok, Err}
 use Rattle.std.proofs.Math.Bool.{true}
 use Rattle.std.proofs.Math.Logic.{inl, inr, ⊎_elim}
 use Rattle.std.proofs.Math.Path.{refl}
@@ -8,8 +8,7 @@ use native.Mathlib.Omega.{arith}
 use borrow.Author.Tests.{le-ltb, eq-eqb, ne_eqb, le-leb, leb-true, eqb-true}
 use Rattle.std.proofs.Math.ListN.{length}
 use Rattle.rules.specs.declared.Table.{Table}
-use Rattle.rules.specs.declared.Check.{Check}
-use Rattle.rules.specs.declared.Check.TheVariants.{Passed, Refused}
+use Rattle.rules.specs.Checks.{Check, Passed}
 use Rattle.rules.specs.Lists.{all, all_zero, rows_to}
 use Rattle.rules.specs.Numbers.{refusal_number, check_number}
 use Rattle.rules.specs.Rows.{at, follows_of, is_high}
@@ -89,8 +88,8 @@ column_tail sheet j n = each_tail (column_of sheet n j) n (column_long sheet n j
 -- only a check that passed has the number 0
 pub passed_check : (c : Check) → check_number c ≡ 0 → c ≡ Passed
 unfolding check_number refusal_number
-passed_check Passed e = refl
-passed_check (Refused r) e = absurd ((refusal_number_lem r).0 e)
+passed_check (Ok tt) e = refl
+passed_check (Err r) e = absurd ((refusal_number_lem r).0 e)
 
 module _ (sheet : List ℕ) where
   abbrev n : ℕ
@@ -249,16 +248,16 @@ module _ (sheet : List ℕ) where
 
   refused_words : (c : Check) → (check_number c ≡ 0 → ⊥) → words_of (read_checked c t).table ≡ replicate 388 0
   unfolding words_of check_number
-  refused_words Passed m = absurd (m refl)
-  refused_words (Refused r) m = refl
+  refused_words (Ok tt) m = absurd (m refl)
+  refused_words (Err r) m = refl
 
   read_number : check_number (read_of sheet).check ≡ check_number (check_sheet sheet)
   unfolding read_of
   read_number = same (check_sheet sheet)
     where
       same : (c : Check) → check_number (read_checked c t).check ≡ check_number c
-      same Passed = refl
-      same (Refused r) = refl
+      same (Ok tt) = refl
+      same (Err r) = refl
 
   -- the reader's number as the chain of its tests
   chain : check_number (read_of sheet).check ≡ sheet_number short first (count_ok n) long lines of_table

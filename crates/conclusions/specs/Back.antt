@@ -1,5 +1,5 @@
 -- The table author's conclusions about the writer, from its definition and the theorems on reading and writing.
-use Rattle.std.specs.Prelude.{ℕ, List, ◌++◌, ◌≡◌, length, get_or}
+use Rattle.std.specs.Prelude.{ℕ, List, ◌++◌, ◌≡◌, length, get_or, Ok, Err}
 use Rattle.std.proofs.Math.Path.{refl, sym, ap}
 use Rattle.std.proofs.Common.{◌∙◌, arith}
 use Rattle.std.proofs.Math.ListN.{take, drop, length-append, length-drop}
@@ -7,9 +7,8 @@ use Rattle.std.proofs.Math.Seq.{take_at, drop_at}
 use Rattle.rules.specs.declared.Table.{Table}
 use Rattle.rules.specs.declared.Refusal.{Refusal}
 use Rattle.rules.specs.declared.Refusal.TheVariants.{RowCount}
-use Rattle.rules.specs.declared.Check.{Check}
-use Rattle.rules.specs.declared.Check.TheVariants.{Passed, Refused}
 use Rattle.rules.specs.declared.Reading.{Reading}
+use Rattle.rules.specs.Checks.{Check, Passed, Refused}
 use Rattle.rules.specs.Numbers.{refusal_number, check_number}
 use Rattle.rules.specs.Tables.{check_table, Accepted, FullTable, zero_table}
 use Rattle.texts.specs.Fields.{fits_field, written}
@@ -49,8 +48,8 @@ unfolding read_of
 read_full bytes = go (check_sheet bytes)
   where
     go : (c : Check) → FullTable (read_checked c (Sheets.table_in bytes)).table
-    go Passed = table_full bytes
-    go (Refused r) = record { release = refl; work = refl; deadline = refl; level = refl; promised = refl; follows = refl }
+    go (Ok tt) = table_full bytes
+    go (Err r) = record { release = refl; work = refl; deadline = refl; level = refl; promised = refl; follows = refl }
 
 -- an answer by its two parts
 both_parts : (r : Reading) (t : Table) → r.check ≡ Passed → r.table ≡ t → r ≡ record { check = Passed; table = t }
@@ -88,7 +87,7 @@ module _ (table lent : List ℕ) (words : length table ≡ 388) where
 
   by_check : (c : Check) → check_write u (length lent) ≡ c → Back (write_checked c (sheet_of u) lent)
   unfolding check_number check_write
-  by_check Passed e =
+  by_check (Ok tt) e =
       let f = fits u (length lent) e in
       let sheet = sheet_of u in
       let rest = drop (length sheet) lent in
@@ -106,7 +105,7 @@ module _ (table lent : List ℕ) (words : length table ≡ 388) where
         ten = λ z. absurd (omega arith);
         own = λ _. sym (ap check_number f.0);
       }
-  by_check (Refused r) e =
+  by_check (Err r) e =
       record {
         accepted = λ z. absurd (not_passed r z);
         fits = λ z. absurd (not_passed r z);
@@ -158,7 +157,7 @@ module _ (sheet lent : List ℕ) (long : length lent ≡ 3169) where
       let b = write_of (table_in (words_of r.table)) lent in
       SheetAgain sheet lent (record { read = check_number r.check; written = check_number b.said.check; size = b.said.size }) b.bytes
   unfolding check_number refusal_number
-  by_sheet Passed e =
+  by_sheet (Ok tt) e =
       let t = Sheets.table_in sheet in
       let a = accepts sheet e in
       let fit = passes t (length lent) a.accepted (omega (arith, a.few, table_count)) in
@@ -169,7 +168,7 @@ module _ (sheet lent : List ℕ) (long : length lent ≡ 3169) where
             (ap (λ (b : WrittenBack). check_number b.said.check) w, ap (λ (b : WrittenBack). b.said.size) w, ap (λ (b : WrittenBack). b.bytes) w);
         none = λ n. absurd (n refl);
       }
-  by_sheet (Refused r) e =
+  by_sheet (Err r) e =
       let w : write_of (table_in (words_of zero_table)) lent ≡ write_checked (Refused RowCount) (sheet_of zero_table) lent =
       ap (λ (x : Table). write_of x lent) (table_in_words_of zero_table zeros_full) ∙ back_refused zero_table lent RowCount zeros_refused in
       record {

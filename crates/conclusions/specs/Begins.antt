@@ -1,10 +1,9 @@
 -- The conclusion for a fresh record, from its definition.
-use Rattle.std.specs.Prelude.{ℕ, true, List, ◌≡◌, refl, length}
+use Rattle.std.specs.Prelude.{ℕ, true, List, ◌≡◌, refl, length, Ok, Err}
 use Rattle.std.proofs.Common.{sym, ◌∙◌, arith}
 use Rattle.std.proofs.Math.Path.{ap}
 use Rattle.rules.specs.declared.Refusal.{Refusal}
-use Rattle.rules.specs.declared.Check.{Check}
-use Rattle.rules.specs.declared.Check.TheVariants.{Passed, Refused}
+use Rattle.rules.specs.Checks.{Check, Passed, Refused}
 use Rattle.rules.specs.Numbers.{check_number}
 use Rattle.rules.specs.Orders.{is_order, check_both}
 use Rattle.rules.specs.Slots.{fresh}
@@ -68,8 +67,8 @@ module _ (table order : List ℕ) (tables : length table ≡ 388) where
       })
 
   by_check : (c : Check) → check_both (table_in table) order ≡ c → Begins
-  by_check Passed e = begun_passed e
-  by_check (Refused r) e = begun_refused r e
+  by_check (Ok tt) e = begun_passed e
+  by_check (Err r) e = begun_refused r e
 
   pub begun : Begins
   begun = by_check (check_both (table_in table) order) refl

@@ -1,11 +1,10 @@
 -- What a planner at a ceiling may conclude, from what it answers without one.
-use Rattle.std.specs.Prelude.{ℕ, ◌≤◌, ◌<◌, ◌≡◌, List}
+use Rattle.std.specs.Prelude.{ℕ, ◌≤◌, ◌<◌, ◌≡◌, List, Ok, Err}
 use Rattle.std.proofs.Math.Logic.{⊎_elim}
 use Rattle.std.proofs.Math.Path.{refl, ap}
 use Rattle.std.proofs.Common.{sym, ◌∙◌, arith}
 use Rattle.rules.specs.declared.Table.{Table}
-use Rattle.rules.specs.declared.Check.{Check}
-use Rattle.rules.specs.declared.Check.TheVariants.{Passed, Refused}
+use Rattle.rules.specs.Checks.{Check, Passed}
 use Rattle.rules.specs.Choice.{plan_checked, plan_of}
 use Rattle.rules.specs.Numbers.{refusal_number, check_number, planned_number, rows_left}
 use Rattle.rules.specs.Tables.{check_table, Accepted}
@@ -26,8 +25,8 @@ module _ (t : Table) where
       (λ n. go (check_table t) refl n z)
     where
       go : (k : Check) → check_table t ≡ k → (k ≡ Passed → ⊥) → planned_number (plan_checked k t).answer ≡ 19 → ⊥
-      go Passed e n y = n refl
-      go (Refused r) e n y =
+      go (Ok tt) e n y = n refl
+      go (Err r) e n y =
           let k : check_number (check_table t) ≡ 19 = ap check_number e ∙ y in
           ⊎_elim (λ w. omega arith) (⊎_elim (λ w. omega (arith, w.1)) (λ w. omega (arith, w.1))) (table_says t).known
 

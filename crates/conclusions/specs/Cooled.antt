@@ -1,12 +1,11 @@
 -- The conclusion about least workable speeds, from what a search promises.
-use Rattle.std.specs.Prelude.{ℕ, ◌<◌, true, ◌⊎◌, ◌≡◌, refl, List, ◌++◌, length, get_or, set, replicate}
+use Rattle.std.specs.Prelude.{ℕ, ◌<◌, true, ◌⊎◌, ◌≡◌, refl, List, ◌++◌, length, get_or, set, replicate, Ok, Err}
 use Rattle.std.proofs.Common.{inl, inr, ⊎_elim, sym, ap, subst, ◌∙◌, arith, length-append, get_or-set_same, get_or-set_other, drop-set-lt}
 use Rattle.rules.specs.declared.Table.{Table}
 use Rattle.rules.specs.declared.Sought.{Sought}
 use Rattle.rules.specs.declared.Sought.TheVariants.{Degraded, Normal}
-use Rattle.rules.specs.declared.Check.{Check}
-use Rattle.rules.specs.declared.Check.TheVariants.{Passed, Refused}
 use Rattle.rules.specs.declared.Searching.{Searching}
+use Rattle.rules.specs.Checks.{Check, Passed}
 use Rattle.rules.specs.Choice.{choice, padded, plan_of}
 use Rattle.rules.specs.Correct.{CorrectOrder}
 use Rattle.rules.proofs.Meaning.{correct_serves, serves_correct}
@@ -92,8 +91,8 @@ number_zeros f t = go (check_table t)
   where
     go : (c : Check) → (searched_number (search_checked c f t).answer ≡ 0 → ⊥)
         → (searched_speed (search_checked c f t).answer ≡ 0) × ((search_checked c f t).order ≡ replicate 64 0)
-    go Passed = by_eqb (least_speed f t) 0 (λ e _. rw e (λ n. (refl, refl))) (λ e _. rw e (λ n. absurd (n refl)))
-    go (Refused why) = λ n. (refl, refl)
+    go (Ok tt) = by_eqb (least_speed f t) 0 (λ e _. rw e (λ n. (refl, refl))) (λ e _. rw e (λ n. absurd (n refl)))
+    go (Err why) = λ n. (refl, refl)
 
 -- any other number is that of the table's check, and the table was refused
 number_own : (f : Sought) (t : Table) → (searched_number (search_of f t).answer ≡ 0 → ⊥) → (searched_number (search_of f t).answer ≡ 7 → ⊥)
@@ -103,16 +102,16 @@ number_own f t = go (check_table t)
   where
     go : (c : Check) → (searched_number (search_checked c f t).answer ≡ 0 → ⊥) → (searched_number (search_checked c f t).answer ≡ 7 → ⊥)
         → searched_number (search_checked c f t).answer ≡ check_number c
-    go Passed = by_eqb (least_speed f t) 0 (λ e _. rw e (λ n m. absurd (m refl))) (λ e _. rw e (λ n m. absurd (n refl)))
-    go (Refused why) = λ n m. refl
+    go (Ok tt) = by_eqb (least_speed f t) 0 (λ e _. rw e (λ n m. absurd (m refl))) (λ e _. rw e (λ n m. absurd (n refl)))
+    go (Err why) = λ n m. refl
 
 number_accepted : (f : Sought) (t : Table) → (searched_number (search_of f t).answer ≡ 0) ⊎ (searched_number (search_of f t).answer ≡ 7) → Accepted t
 unfolding search_of searched_number
 number_accepted f t = go (check_table t)
   where
     go : (c : Check) → (searched_number (search_checked c f t).answer ≡ 0) ⊎ (searched_number (search_checked c f t).answer ≡ 7) → c ≡ Passed
-    go Passed h = refl
-    go (Refused why) h = absurd (⊎_elim (λ n. (refusal_number_lem why).0 n) (λ n. (refusal_number_lem why).1 n) h)
+    go (Ok tt) h = refl
+    go (Err why) h = absurd (⊎_elim (λ n. (refusal_number_lem why).0 n) (λ n. (refusal_number_lem why).1 n) h)
 
 -- whatever a search promises of its answer, as numbers over the words
 module _ (f : Sought) (table : List ℕ) (long : length table ≡ 388) (r : Searching) (p : Promise f (table_in table) r) where
@@ -184,8 +183,8 @@ read_refused f bytes = go (read_of bytes).check
     go : (c : Check) → (check_number c ≡ 0 → ⊥)
         → let r = search_read c f (read_of bytes).table in
         (searched_number r.answer ≡ check_number c) × (searched_speed r.answer ≡ 0) × (r.order ≡ replicate 64 0)
-    go Passed n = absurd (n refl)
-    go (Refused why) n = (refl, refl, refl)
+    go (Ok tt) n = absurd (n refl)
+    go (Err why) n = (refl, refl, refl)
 
 -- a sheet that was read is searched as its table in words
 read_promise : (f : Sought) (bytes : List ℕ) → check_number (read_of bytes).check ≡ 0 → Promise f (table_in (words_of (read_of bytes).table)) (search_sheet f bytes)

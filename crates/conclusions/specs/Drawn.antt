@@ -4,6 +4,7 @@ use Rattle.std.proofs.Common.{inl, sym, ◌∙◌, arith, eq-eqb, ne_eqb}
 use mathlib.Core.List.{List, [], ◌∷◌}
 use Rattle.std.proofs.Math.Path.{refl, ap}
 use Rattle.rules.specs.declared.Table.{Table}
+use Rattle.rules.specs.Checks.{Passed}
 use Rattle.rules.specs.Calls.{last_clock, Call, one, forward, supply_from}
 use Rattle.rules.specs.Correct.{earliest}
 use Rattle.proposal.specs.Days.{just_runs}
@@ -16,7 +17,6 @@ use Rattle.rules.specs.Tables.{Accepted}
 use Rattle.theory.specs.Facts.{Row, facts, is_row_lem, followed_row_lem}
 use Rattle.theory.proofs.Results.{running_low, running_high}
 use Rattle.theory.specs.Tests.{by_bool, by_eqb}
-use Rattle.rules.specs.declared.Check.TheVariants.{Passed}
 use Rattle.rules.specs.Choice.{plan_of}
 use Rattle.rules.specs.Numbers.{check_number, planned_number}
 use Rattle.record.specs.Answers.{forward_said}

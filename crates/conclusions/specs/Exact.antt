@@ -1,6 +1,6 @@
 -- The conclusions about the writer leave nothing open: whatever meets them is what the archive answers. So a conclusion that loses a clause
 -- which does not follow from its others is noticed here.
-use Rattle.std.specs.Prelude.{ℕ, ◌≡◌, get_or}
+use Rattle.std.specs.Prelude.{ℕ, ◌≡◌, get_or, Ok, Err}
 use mathlib.Core.List.{List, ◌++◌}
 use Rattle.std.proofs.Math.Path.{refl, sym, ap}
 use Rattle.std.proofs.Common.{◌∙◌, arith, take-append-drop, ext_get_or}
@@ -8,9 +8,8 @@ use Rattle.std.proofs.Math.ListN.{length, take, drop}
 use Rattle.rules.specs.declared.Table.{Table}
 use Rattle.rules.specs.declared.Refusal.{Refusal}
 use Rattle.rules.specs.declared.Refusal.TheVariants.{NoRoom}
-use Rattle.rules.specs.declared.Check.{Check}
-use Rattle.rules.specs.declared.Check.TheVariants.{Passed, Refused}
 use Rattle.rules.specs.declared.Reading.{Reading}
+use Rattle.rules.specs.Checks.{Check, Refused}
 use Rattle.rules.specs.Numbers.{refusal_number, check_number}
 use Rattle.rules.specs.Tables.{check_table}
 use Rattle.texts.specs.Fields.{fits_field, written, value_of, is_field}
@@ -71,8 +70,8 @@ module _ (table lent : List ℕ) (number size : ℕ) (after : List ℕ) (words :
 
   own_check : (c : Check) → check_table u ≡ c → number ≡ check_number c → (number ≡ 0 → ⊥) → Same (write_of u lent)
   unfolding check_number check_write
-  own_check Passed e q n = absurd (n q)
-  own_check (Refused r) e q n = refused r (rw e) q n
+  own_check (Ok tt) e q n = absurd (n q)
+  own_check (Err r) e q n = refused r (rw e) q n
 
   pub back_exact : let b = write_of u lent in (number ≡ check_number b.said.check) × (size ≡ b.said.size) × (after ≡ b.bytes)
   unfolding refusal_number

@@ -1,5 +1,5 @@
 -- The sales desk's conclusion, from what the judge promises and the worst runs that last.
-use Rattle.std.specs.Prelude.{ℕ, zero, suc, ◌≤◌, ◌<◌, max, Bool, false, cond, ◌⊎◌, List, [], ◌∷◌, ◌++◌, ℤ, pos, negsuc}
+use Rattle.std.specs.Prelude.{ℕ, zero, suc, ◌≤◌, ◌<◌, max, Bool, false, cond, ◌⊎◌, List, [], ◌∷◌, ◌++◌, ℤ, pos, negsuc, Ok, Err}
 use Rattle.std.proofs.Math.Bool.{true}
 use Rattle.std.proofs.Math.Logic.{inl}
 use Rattle.std.proofs.Common.{inr, sym, ◌∙◌, ltb-true, ltb-false, lt-ltb, le-ltb}
@@ -8,8 +8,7 @@ use native.Mathlib.Omega.{arith}
 use Rattle.std.specs.Int.Signed.{lt_z}
 use Rattle.rules.specs.declared.Table.{Table}
 use Rattle.rules.specs.declared.Refusal.{Refusal}
-use Rattle.rules.specs.declared.Check.{Check}
-use Rattle.rules.specs.declared.Check.TheVariants.{Passed, Refused}
+use Rattle.rules.specs.Checks.{Check, Passed, Refused}
 use Rattle.rules.specs.Lists.{rows_to}
 use Rattle.rules.specs.Judge.{least_slack, tightest, judge_of}
 use Rattle.rules.proofs.Meaning.{correct_serves, serves_correct}
@@ -238,5 +237,5 @@ module _ (t : Table) (o : List ℕ) where
   opinion = by_check (check_both t o) refl
     where
       by_check : (c : Check) → check_both t o ≡ c → SalesDesk t o said (verdict_slack (judge_of t o)) (finishes_of t o)
-      by_check Passed e = judged e
-      by_check (Refused r) e = turned_away r e
+      by_check (Ok tt) e = judged e
+      by_check (Err r) e = turned_away r e

@@ -1,6 +1,6 @@
 -- The sales desk's conclusion about the report, from its definition.
 use Prim.Native.Nat.{ℕ, zero, suc, ◌+◌, ◌-◌, ◌*◌, ◌≤◌, ◌<◌}
-use Rattle.std.specs.Prelude.{true, false, ◌≡◌, ℤ, pos, nat_abs, length, get_or, take}
+use Rattle.std.specs.Prelude.{true, false, ◌≡◌, ℤ, pos, nat_abs, length, get_or, take, Ok, Err}
 use mathlib.Core.List.{List, [], ◌∷◌, ◌++◌, append_assoc, append-nil}
 use Rattle.std.proofs.Math.Path.{refl, sym, ap}
 use Rattle.std.proofs.Common.{subst, ◌∙◌, add-one, drop-drop, get_or-drop, get_or-take}
@@ -9,8 +9,7 @@ use Rattle.std.proofs.Math.ListN.{drop, length-append, length-drop}
 use Rattle.std.proofs.Math.Seq.{drop_at}
 use Rattle.std.specs.Int.Signed.{lt_z}
 use Rattle.rules.specs.declared.Table.{Table}
-use Rattle.rules.specs.declared.Check.{Check}
-use Rattle.rules.specs.declared.Check.TheVariants.{Passed, Refused}
+use Rattle.rules.specs.Checks.{Check, Passed}
 use Rattle.rules.specs.Judge.{tightest, judge_of}
 use Rattle.rules.specs.Lists.{rows_to, joined}
 use Rattle.rules.proofs.Meaning.{correct_serves, serves_correct}
@@ -157,8 +156,8 @@ unfolding check_both check_order check_number refusal_number
 both_not_ten t o e = go (check_table t) refl e
   where
     go : (c : Check) → check_table t ≡ c → check_number (and_then c (check_order t o)) ≡ 10 → ⊥
-    go Passed q h = by_bool (is_order t o) (λ d. let z : ◌≡◌ {A = ℕ} 0 10 = rw d at h in omega arith) (λ d. let z : ◌≡◌ {A = ℕ} 6 10 = rw d at h in omega arith)
-    go (Refused r) q h = table_not_ten t (ap check_number q ∙ h)
+    go (Ok tt) q h = by_bool (is_order t o) (λ d. let z : ◌≡◌ {A = ℕ} 0 10 = rw d at h in omega arith) (λ d. let z : ◌≡◌ {A = ℕ} 6 10 = rw d at h in omega arith)
+    go (Err r) q h = table_not_ten t (ap check_number q ∙ h)
 
 module _ (t : Table) (o lent : List ℕ) where
   abbrev Listed : WrittenBack → Type 0
@@ -166,7 +165,7 @@ module _ (t : Table) (o lent : List ℕ) where
 
   by_check : (c : Check) → check_report t o (length lent) ≡ c → Listed (write_checked c (report_text t o) lent)
   unfolding check_number check_report needs_of late_rows
-  by_check Passed e =
+  by_check (Ok tt) e =
       let f = fits t o (length lent) e in
       let ok = f.0 in
       let report = report_text t o in
@@ -196,7 +195,7 @@ module _ (t : Table) (o lent : List ℕ) where
         ten = λ z. absurd (omega arith);
         own = λ _. sym (ap check_number ok);
       }
-  by_check (Refused r) e =
+  by_check (Err r) e =
       let n = (refusal_number_lem r).0 in
       record {
         passed = λ z. absurd (n z);

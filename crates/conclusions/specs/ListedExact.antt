@@ -2,7 +2,7 @@
 -- not follow from its others, this is noticed here.
 use Prim.Native.Nat.{ℕ, zero, suc, ◌+◌, ◌-◌, ◌*◌, ◌≤◌, ◌<◌}
 use mathlib.Core.List.{List, [], ◌∷◌, ◌++◌}
-use Rattle.std.specs.Prelude.{◌≡◌, ℤ, pos, get_or}
+use Rattle.std.specs.Prelude.{◌≡◌, ℤ, pos, get_or, Ok, Err}
 use Rattle.std.proofs.Math.Path.{refl, sym, ap, ap₂}
 use Rattle.std.proofs.Common.{◌∙◌, add-one, mul-suc, take-append-drop, drop-drop, drop-cons}
 use native.Mathlib.Omega.{arith}
@@ -11,8 +11,7 @@ use Rattle.std.proofs.Math.Seq.{take-add}
 use Rattle.rules.specs.declared.Table.{Table}
 use Rattle.rules.specs.declared.Refusal.{Refusal}
 use Rattle.rules.specs.declared.Refusal.TheVariants.{NoRoom}
-use Rattle.rules.specs.declared.Check.{Check}
-use Rattle.rules.specs.declared.Check.TheVariants.{Passed, Refused}
+use Rattle.rules.specs.Checks.{Check, Passed, Refused}
 use Rattle.rules.specs.Lists.{rows_to, joined}
 use Rattle.rules.specs.Numbers.{refusal_number, check_number}
 use Rattle.rules.specs.Orders.{check_both}
@@ -143,8 +142,8 @@ module _ (t : Table) (o lent : List ℕ) (number size : ℕ) (after : List ℕ) 
 
   own_check : (c : Check) → check_both t o ≡ c → number ≡ check_number c → (number ≡ 0 → ⊥) → Same (report_of t o lent)
   unfolding check_number check_report
-  own_check Passed e q n = absurd (n q)
-  own_check (Refused r) e q n = turned_away r (rw e) q n
+  own_check (Ok tt) e q n = absurd (n q)
+  own_check (Err r) e q n = turned_away r (rw e) q n
 
   pub listing_exact : let b = report_of t o lent in (number ≡ check_number b.said.check) × (size ≡ b.said.size) × (after ≡ b.bytes)
   unfolding refusal_number

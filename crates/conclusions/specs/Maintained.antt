@@ -1,12 +1,11 @@
 -- What a maintainer may conclude from the counts, from the theorems on choices.
-use Rattle.std.specs.Prelude.{ℕ, ◌-◌, ◌^◌, ◌≤◌, ◌<◌, List, map, ◌⊎◌, ◌↔◌, ◌≡◌, length, get_or, drop, replicate}
+use Rattle.std.specs.Prelude.{ℕ, ◌-◌, ◌^◌, ◌≤◌, ◌<◌, List, map, ◌⊎◌, ◌↔◌, ◌≡◌, length, get_or, drop, replicate, Ok, Err}
 use Rattle.std.proofs.Common.{inl, inr, ⊎_elim, ◌∙◌, arith, pow_mono}
 use Rattle.std.proofs.Math.Path.{refl, sym, ap, subst}
 use Rattle.std.proofs.Math.Pow.{pow_pos}
 use Rattle.std.proofs.Math.Seq.{drop_at}
 use Rattle.rules.specs.declared.Table.{Table}
-use Rattle.rules.specs.declared.Check.{Check}
-use Rattle.rules.specs.declared.Check.TheVariants.{Passed, Refused}
+use Rattle.rules.specs.Checks.{Check}
 use Rattle.rules.specs.Choice.{padded}
 use Rattle.rules.proofs.Meaning.{correct_serves, serves_correct}
 use Rattle.rules.specs.Numbers.{refusal_number, check_number}
@@ -79,8 +78,8 @@ module _ (t : Table) (lent : List ℕ) where
   own_told n = go (check_table t) refl
     where
       go : (c : Check) → check_table t ≡ c → Told (count_of t lent)
-      go Passed e = absurd (n e)
-      go (Refused r) e =
+      go (Ok tt) e = absurd (n e)
+      go (Err r) e =
           let mine : check_number (check_table t) ≡ refusal_number r = ap check_number e in
           rw (refused_table t lent r e)
           (refused_told (refusal_number r) (refusal_number_lem r).0 (λ h. n h.0)

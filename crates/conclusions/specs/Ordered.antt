@@ -1,5 +1,5 @@
 -- Orders in plain terms: what check 6 lets through, place by place, and when 6 is said.
-use Rattle.std.specs.Prelude.{ℕ, ◌+◌, ◌-◌, ◌≤◌, ◌<◌, Bool, true, ◌&&◌, ◌||◌, List, get_or, take, drop}
+use Rattle.std.specs.Prelude.{ℕ, ◌+◌, ◌-◌, ◌≤◌, ◌<◌, Bool, true, ◌&&◌, ◌||◌, List, get_or, take, drop, Ok, Err}
 use Rattle.std.proofs.Math.Path.{◌≡◌, refl}
 use Rattle.std.proofs.Common.{sym, ap, ◌∙◌, take-append-drop}
 use native.Mathlib.Omega.{arith}
@@ -7,8 +7,7 @@ use borrow.Author.Tests.{eq-eqb, eqb-true, lt-ltb, ltb-true}
 use Rattle.std.proofs.Math.Dec.{eqb}
 use Rattle.std.proofs.Math.Seq.{get_or-drop}
 use Rattle.rules.specs.declared.Table.{Table}
-use Rattle.rules.specs.declared.Check.{Check}
-use Rattle.rules.specs.declared.Check.TheVariants.{Passed, Refused}
+use Rattle.rules.specs.Checks.{Check}
 use Rattle.rules.specs.Lists.{all, all_zero, count, first, rows_to}
 use Rattle.rules.specs.Numbers.{refusal_number, check_number}
 use Rattle.rules.specs.Orders.{is_arrangement, is_above, keeps_wait, is_order, check_order, check_both}
@@ -129,11 +128,11 @@ module _ (t : Table) (o : List ℕ) (follows : ℕ → ℕ) (same : Accepted t �
   six_said = by_check (check_table t) refl
     where
       by_check : (c : Check) → check_table t ≡ c → check_number (and_then c (check_order t o)) ≡ 6 → Accepted t × (AnOrder t.n follows o → ⊥)
-      by_check Passed e h = (
+      by_check (Ok tt) e h = (
         e,
         λ a. let z : ◌≡◌ {A = ℕ} 0 6 = rw (plain_order t e o follows (same e) a) at h in omega arith,
       )
-      by_check (Refused r) e h = absurd (not_later t 6 (omega arith) (omega arith) (ap check_number e ∙ h))
+      by_check (Err r) e h = absurd (not_later t 6 (omega arith) (omega arith) (ap check_number e ∙ h))
 
   pub say_six : Accepted t → (AnOrder t.n follows o → ⊥) → check_number (check_both t o) ≡ 6
   unfolding check_both check_order check_number refusal_number

@@ -2,7 +2,6 @@
 use Rattle.std.specs.Prelude.{ℕ, ◌≤◌, List, ◌≡◌, refl, ℤ, pos, negsuc, length, take}
 use Rattle.std.proofs.Common.{inl, inr, ap, ◌∙◌, le-ltb, arith, SFits}
 use Rattle.std.specs.Int.{w32}
-use Rattle.rules.specs.declared.Check.TheVariants.{Passed}
 use Rattle.rules.specs.Numbers.{refusal_number, check_number}
 use Rattle.texts.specs.Lent.{check_room}
 use Rattle.sentences.specs.declared.PlanAnswer.{PlanAnswer}
@@ -18,6 +17,7 @@ use Rattle.sentences.specs.RoundTrip.{PlanFits, SlackFits, JudgeFits}
 use Rattle.parser.specs.Composed.{made_within, made_front, made_long}
 use Rattle.conclusions.specs.declared.Pasted.{Pasted}
 use Rattle.conclusions.specs.Conclusions.{LineTold, LineRead, plan_back, verdict_back, PlanPasted, VerdictPasted}
+use Rattle.rules.specs.Checks.{Passed}
 
 -- ---- a slack that fits its field is one of 32 bits
 pub slack_held : (z : ℤ) → SlackFits z → SFits w32 z

@@ -1,12 +1,11 @@
 -- The planner's conclusion, from what the planner promises.
-use Rattle.std.specs.Prelude.{ℕ, List, [], ◌∷◌, true, pos, nat_abs}
+use Rattle.std.specs.Prelude.{ℕ, List, [], ◌∷◌, true, pos, nat_abs, Ok, Err}
 use Rattle.std.proofs.Math.Logic.{inl, inr, ⊎_elim}
 use Rattle.std.proofs.Math.Path.{◌≡◌, refl}
 use Rattle.std.proofs.Common.{ap, arith}
 use Rattle.std.proofs.Math.ListN.{length}
 use Rattle.rules.specs.declared.Table.{Table}
-use Rattle.rules.specs.declared.Check.{Check}
-use Rattle.rules.specs.declared.Check.TheVariants.{Passed, Refused}
+use Rattle.rules.specs.Checks.{Check, Passed}
 use Rattle.rules.specs.Choice.{choice, plan_from, plan_checked, plan_of}
 use Rattle.rules.proofs.Meaning.{correct_serves, serves_correct}
 use Rattle.rules.specs.Numbers.{planned_number, rows_left}
@@ -54,8 +53,8 @@ module _ (t : Table) where
 
   checked : (c : Check) → check_table t ≡ c → Answered t c
   unfolding planned_number rows_left
-  checked Passed e = chosen e
-  checked (Refused why) e =
+  checked (Ok tt) e = chosen e
+  checked (Err why) e =
       let r = refusal_number_lem why in
       record {
         either = λ a. let z : ◌≡◌ {A = ℕ} 0 1 = cc in absurd (omega arith);

@@ -1,13 +1,12 @@
 -- What each number that a table's checks answer says of the table, one check after another, and the first row whose wait is refused (rules 5.10, 11.3).
-use Rattle.std.specs.Prelude.{ℕ, zero, suc, ◌≤◌, ◌<◌, Bool, true, false, cond, not, ◌&&◌, List, [], ◌∷◌, ◌++◌, ◌⊎◌, ◌≡◌, refl, ltb, leb, eqb}
+use Rattle.std.specs.Prelude.{ℕ, zero, suc, ◌≤◌, ◌<◌, Bool, true, false, cond, not, ◌&&◌, List, [], ◌∷◌, ◌++◌, ◌⊎◌, ◌≡◌, refl, ltb, leb, eqb, Ok, Err}
 use Rattle.std.proofs.Math.Logic.{inl, inr, ⊎_elim}
 use Rattle.std.proofs.Math.Path.{ap}
 use Rattle.std.proofs.Common.{◌∙◌}
 use native.Mathlib.Omega.{arith}
 use Rattle.rules.specs.declared.Table.{Table}
 use Rattle.rules.specs.declared.Refusal.{Refusal}
-use Rattle.rules.specs.declared.Check.{Check}
-use Rattle.rules.specs.declared.Check.TheVariants.{Passed, Refused}
+use Rattle.rules.specs.Checks.{Check, Passed, Refused}
 use Rattle.rules.specs.Lists.{all, rows_to}
 use Rattle.rules.specs.Numbers.{refusal_number, check_number}
 use Rattle.rules.specs.Rows.{at, rows_of, release_of, follows_of}
@@ -114,14 +113,14 @@ module _ (t : Table) where
   waits_last [] i = go (check_wait t i)
     where
       go : (c : Check) → and_then c Passed ≡ c
-      go Passed = refl
-      go (Refused r) = refl
+      go (Ok tt) = refl
+      go (Err r) = refl
   waits_last (j ∷ a) i = go (check_wait t j) (waits_last a i)
     where
       go : (c : Check) → check_waits t (a ++ (i ∷ [])) ≡ and_then (check_waits t a) (check_wait t i)
           → and_then c (check_waits t (a ++ (i ∷ []))) ≡ and_then (and_then c (check_waits t a)) (check_wait t i)
-      go Passed e = e
-      go (Refused r) e = refl
+      go (Ok tt) e = e
+      go (Err r) e = refl
 
   waits_say : (n : ℕ) → Passing n ⊎ Refusing n
   waits_say zero = inl (record { each = λ j l h. absurd (omega arith); whole = refl })
@@ -131,12 +130,12 @@ module _ (t : Table) where
       more p = waits_last (rows_to n) (suc n) ∙ ap (λ (c : Check). and_then c (check_wait t (suc n))) p.whole
 
       one_more : Passing n → (c : Check) → check_wait t (suc n) ≡ c → Passing (suc n) ⊎ Refusing (suc n)
-      one_more p Passed e =
+      one_more p (Ok tt) e =
           inl (record {
             each = λ j l h. by_eqb j (suc n) (λ _ q. rw q e) (λ _ q. p.each j l (omega arith));
             whole = more p ∙ e;
           })
-      one_more p (Refused r) e =
+      one_more p (Err r) e =
           inr (record {
             row = suc n;
             why = r;

@@ -6,7 +6,7 @@ use native.Mathlib.Omega.{arith}
 use Rattle.rules.specs.declared.Table.{Table}
 use Rattle.rules.specs.declared.Refusal.{Refusal}
 use Rattle.rules.specs.declared.Refusal.TheVariants.{Unsound, NotCorrect, RowOpen, ReleasedBefore}
-use Rattle.rules.specs.declared.Check.TheVariants.{Passed, Refused}
+use Rattle.rules.specs.Checks.{Passed, Refused}
 use Rattle.record.specs.declared.Run.{Run}
 use Rattle.proposal.specs.declared.Asking.{Asking}
 use Rattle.proposal.specs.declared.Committed.{Committed}

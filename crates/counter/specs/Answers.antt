@@ -4,7 +4,7 @@ use borrow.Author.Tests.{le-leb, lt-leb}
 use Rattle.rules.specs.declared.Table.{Table}
 use Rattle.rules.specs.declared.Refusal.{Refusal}
 use Rattle.rules.specs.declared.Refusal.TheVariants.{NoRoom, TooManyRows}
-use Rattle.rules.specs.declared.Check.TheVariants.{Passed, Refused}
+use Rattle.rules.specs.Checks.{Passed, Refused}
 use Rattle.rules.specs.Tables.{check_table, Accepted}
 use Rattle.choices.specs.Choices.{Counting, count_of, count_checked}
 use Rattle.counter.specs.Summing.{refused_count}

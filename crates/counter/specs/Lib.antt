@@ -1,5 +1,6 @@
 pub mod Summing
 pub mod Testing
+pub mod Lent
 pub mod Lowest
 pub mod Words
 pub mod Turns

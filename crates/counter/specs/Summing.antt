@@ -2,7 +2,7 @@
 use Rattle.std.specs.Prelude.{ℕ, zero, suc, ◌+◌, ◌-◌, ◌^◌, ◌≤◌, cond, List, [], ◌∷◌, ◌≡◌, get_or, replicate}
 use Rattle.std.proofs.Common.{ap, ◌∙◌, add-one, arith}
 use Rattle.rules.specs.declared.Refusal.{Refusal}
-use Rattle.rules.specs.declared.Check.TheVariants.{Refused}
+use Rattle.rules.specs.Checks.{Refused}
 use Rattle.rules.specs.Lists.{rows_to, sum}
 use Rattle.theory.specs.Counts.{sum_append}
 use Rattle.sweep.specs.Masks.{is_left}

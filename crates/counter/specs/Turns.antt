@@ -3,10 +3,10 @@ use Rattle.std.specs.Prelude.{ℕ, ◌+◌, ◌-◌, ◌^◌, ◌≤◌, Bool, c
 use Rattle.std.proofs.Common.{◌∙◌, ap, arith, length-set, pow_mono, pow_pos}
 use Rattle.std.specs.Int.Bits.{bit_and, bit_or}
 use Rattle.rules.specs.declared.Table.{Table}
+use Rattle.rules.specs.Checks.{Passed}
 use Rattle.rules.specs.Lists.{all_zero}
 use Rattle.rules.specs.Tables.{Accepted}
 use Rattle.theory.specs.Facts.{facts}
-use Rattle.rules.specs.declared.Check.TheVariants.{Passed}
 use Rattle.choices.specs.declared.Choices.{Choices}
 use Rattle.trials.specs.declared.Trials.{Trials}
 use Rattle.trials.specs.Opening.{open_to}

@@ -8,115 +8,61 @@ ghost use Rattle.rules.specs.Choice.{padded};
 ghost use Rattle.rules.specs.Lists.{rows_to, sum};
 ghost use Rattle.rules.specs.Tables.{Accepted};
 ghost use Rattle.sweep.specs.Masks.{bit, is_left};
-ghost use Rattle.sweep.specs.Trials.{Columns};
 ghost use Rattle.periods.specs.Entries.{Entries};
-ghost use Rattle.periods.specs.Trying.{Speed, Small};
+ghost use Rattle.periods.specs.Lent.{Tried, Parted};
 ghost use Rattle.choices.specs.Choices.{count_of, count_checked, counted};
 ghost use Rattle.choices.specs.declared.Choices.{Choices};
-ghost use Rattle.rules.specs.declared.Check.TheVariants.{Passed, Refused};
+ghost use Rattle.rules.specs.Checks.{Passed, Refused};
 ghost use Rattle.counter.specs.Summing.{without_row, refused_count};
-ghost use Rattle.counter.specs.Testing.{AllIn, stands_in, standing_to};
+ghost use Rattle.counter.specs.Testing.{standing_to};
+ghost use Rattle.counter.specs.Lent.{AllInTime, stands_at};
 
 use choices::Choices;
-use rules::{Check, Refusal, Table};
+use periods::{AtSpeed, Promises};
+use rules::{Refusal, Table};
 
 // A refusal: counts of 0 (rule 25.6).
 fn refused(why: Refusal) -> Choices
     ensures { result ≡ refused_count why }
 {
-    let none: [u32; 64] = [0; 64];
     Choices {
-        check: Check::Refused(why),
+        check: Err(why),
         count: 0,
-        lowest: none,
+        lowest: [0; 64],
     }
 }
 
-// The entries of all rows of a word that, each below all the others, finish by their deadlines where every supply is at least the speed of these caps: one
-// sweep at this speed for all of them. What it says of entries of other rows is not told. Releases, deadlines and caps in slots.
-fn all_in_time<'a>(
-    queue: &'a [u8; 64],
-    n: u32,
-    release: &'a [u32; 64],
-    deadline: &'a [u32; 64],
-    cap: &'a [u32; 64],
-    entry: &'a [u8; 64],
-    left: u64,
-) -> u64
-    requires { Speed queue.now n release.now cap.now entry.now × (1 ≤ n) }
-    ensures { AllIn queue.now n release.now deadline.now cap.now entry.now left result }
+// The entries of all rows of a word that, each below all the others, finish by their deadlines at one speed: one sweep at this speed for all of them. What it
+// says of entries of other rows is not told.
+fn all_in_time(speed: &AtSpeed, left: u64) -> u64
+    requires { Tried speed.now × (1 ≤ speed.now.load.n) }
+    ensures { AllInTime speed.now left result }
 {
     let mut period: [u8; 64] = [0; 64];
-    periods::renew(
-        queue,
-        n,
-        release,
-        deadline,
-        cap,
-        entry,
-        left,
-        0,
-        &mut period,
-    )
+    speed.renew(left, 0, &mut period)
 }
 
-// Whether a row is in the word of rows left, its entry in the word of entries that finish in time, and its promised part in time too. Caps and needs at the
-// degraded speed, releases and deadlines in slots.
-fn stands<'a>(
-    queue: &'a [u8; 64],
-    n: u32,
-    release: &'a [u32; 64],
-    deadline: &'a [u32; 64],
-    cap: &'a [u32; 64],
-    promised: &'a [u32; 64],
-    part: &'a [u32; 64],
-    entry: &'a [u8; 64],
-    left: u64,
-    word: u64,
-    row: u8,
-) -> bool
-    requires { Columns queue.now n release.now cap.now × Small part.now × Entries entry.now × (1 ≤ row) × (row ≤ 64) }
-    ensures { result ≡ stands_in queue.now n release.now deadline.now cap.now promised.now
-        part.now entry.now left word row }
+// Whether a row is in the word of rows left, its entry in the word of entries that finish in time, and its promised part in time too.
+fn stands(parts: &Promises, left: u64, word: u64, row: u8) -> bool
+    requires { Parted parts.now × Entries parts.now.slow.entry.now × (1 ≤ row) × (row ≤ 64) }
+    ensures { result ≡ stands_at parts.now left word row }
 {
-    if sweep::has(left, row) {
-        let seat = entry[(row - 1) as usize] + 1;
-        if sweep::has(word, seat) {
-            return periods::part_in_time(
-                queue, n, release, deadline, cap, promised, part, left, row,
-            );
-        }
-    }
-    false
+    sweep::has(left, row)
+        && sweep::has(word, parts.slow.entry[(row - 1) as usize] + 1)
+        && parts.part_in_time(left, row)
 }
 
-// Those of the first n rows that pass all of it, as a word.
-fn standing<'a>(
-    queue: &'a [u8; 64],
-    n: u32,
-    release: &'a [u32; 64],
-    deadline: &'a [u32; 64],
-    cap: &'a [u32; 64],
-    promised: &'a [u32; 64],
-    part: &'a [u32; 64],
-    entry: &'a [u8; 64],
-    left: u64,
-    word: u64,
-) -> u64
-    requires { Columns queue.now n release.now cap.now × Small part.now × Entries entry.now }
-    ensures { result ≡ standing_to (stands_in queue.now n release.now deadline.now cap.now promised.now
-        part.now entry.now left word) n }
+// Those of the rows that pass all of it, as a word.
+fn standing(parts: &Promises, left: u64, word: u64) -> u64
+    requires { Parted parts.now × Entries parts.now.slow.entry.now }
+    ensures { result ≡ standing_to (stands_at parts.now left word) parts.now.slow.load.n }
 {
     let mut rows: u64 = 0;
-    let mut k: u32 = 0;
-    while k < n {
+    for k in 0..parts.slow.load.n {
         let row = (k + 1) as u8;
-        if stands(
-            queue, n, release, deadline, cap, promised, part, entry, left, word, row,
-        ) {
+        if stands(parts, left, word, row) {
             rows = sweep::with(rows, row);
         }
-        k += 1;
     }
     rows
 }
@@ -127,10 +73,10 @@ fn without_row(scratch: &[u32], left: u64, rows: u64, row: u8) -> u32
     ensures { result ≡ without_row scratch.now left rows row }
 {
     if sweep::has(rows, row) {
-        let rest = sweep::without(left, row);
-        return scratch[rest as usize];
+        scratch[sweep::without(left, row) as usize]
+    } else {
+        0
     }
-    0
 }
 
 // Their sum over the first n rows: the choices of the word (rule 25.7).
@@ -140,10 +86,8 @@ fn total(scratch: &[u32], n: u32, left: u64, rows: u64) -> u32
     ensures { result ≡ sum (without_row scratch.now left rows) (rows_to n) }
 {
     let mut total: u32 = 0;
-    let mut k: u32 = 0;
-    while k < n {
+    for k in 0..n {
         total += without_row(scratch, left, rows, (k + 1) as u8);
-        k += 1;
     }
     total
 }
@@ -153,13 +97,7 @@ fn lowest_counts(scratch: &[u32], n: u32, left: u64, rows: u64) -> [u32; 64]
     requires { (n ≤ 64) × (left < length scratch.now) × ((i : ℕ) → is_left rows i ≡ true → bit left (i - 1) ≡ 1) }
     ensures { result ≡ padded (map (without_row scratch.now left rows) (rows_to n)) }
 {
-    let mut out: [u32; 64] = [0; 64];
-    let mut k: u32 = 0;
-    while k < n {
-        out[k as usize] = without_row(scratch, left, rows, (k + 1) as u8);
-        k += 1;
-    }
-    out
+    sweep::by_row(n, |i| without_row(scratch, left, rows, (i + 1) as u8))
 }
 
 // Counts the choices of an accepted table of up to 12 rows: of its words in rising sequence, each by the words without one of its rows (rule 25.7). The last word
@@ -168,56 +106,25 @@ fn count_words(t: Table, scratch: &mut [u32]) -> Choices
     requires { Accepted t × (t.n ≤ 12) × (4096 ≤ length scratch.old) }
     ensures { (result ≡ (count_checked Passed t scratch.old).said) × (scratch.new ≡ counted t scratch.old) }
 {
-    let n = t.n;
     let free = checks::zero_after(0, &t.follows);
     let w = trials::prepare(t);
-    let all = sweep::first_rows(n);
+    let normal = w.at_normal(&t);
+    let parts = w.promises(&t);
+    let all = sweep::first_rows(t.n);
     scratch[0] = 1;
-    let mut word: u64 = 1;
     let mut rows: u64 = 0;
-    while word <= all {
-        let tries = trials::open_entries(free, &t.follows, &w.entry, n, word, all);
-        let normal = all_in_time(
-            &w.queue,
-            n,
-            &t.release,
-            &t.deadline,
-            &w.normal,
-            &w.entry,
-            word,
-        );
-        let slow = all_in_time(
-            &w.queue,
-            n,
-            &t.release,
-            &t.deadline,
-            &w.degraded,
-            &w.entry,
-            word,
-        );
-        let timely = tries & (normal & w.low | slow & w.high);
-        rows = standing(
-            &w.queue,
-            n,
-            &t.release,
-            &t.deadline,
-            &w.degraded,
-            &t.promised,
-            &w.part,
-            &w.entry,
-            word,
-            timely,
-        );
-        let choices = total(&scratch[..], n, word, rows);
-        scratch[word as usize] = choices;
-        word += 1;
+    for word in 1..all + 1 {
+        let tries = w.open_entries(&t, free, word, all);
+        let at_normal = all_in_time(&normal, word);
+        let at_slow = all_in_time(&parts.slow, word);
+        let timely = tries & (at_normal & w.low | at_slow & w.high);
+        rows = standing(&parts, word, timely);
+        scratch[word as usize] = total(&scratch[..], t.n, word, rows);
     }
-    let lowest = lowest_counts(&scratch[..], n, all, rows);
-    let count = scratch[all as usize];
     Choices {
-        check: Check::Passed,
-        count: count,
-        lowest: lowest,
+        check: Ok(()),
+        count: scratch[all as usize],
+        lowest: lowest_counts(&scratch[..], t.n, all, rows),
     }
 }
 
@@ -226,10 +133,9 @@ fn count_words(t: Table, scratch: &mut [u32]) -> Choices
 pub fn count(t: Table, scratch: &mut [u32]) -> Choices
     ensures { (result ≡ (count_of t scratch.old).said) × (scratch.new ≡ (count_of t scratch.old).scratch) }
 {
-    let check = checks::check_table(t);
-    match check {
-        Check::Refused(why) => refused(why),
-        Check::Passed => {
+    match checks::check_table(&t) {
+        Err(why) => refused(why),
+        Ok(()) => {
             if t.n > 12 {
                 return refused(Refusal::TooManyRows);
             }

@@ -1,13 +1,11 @@
 -- A field as the reader walks it, byte by byte.
-use Rattle.std.specs.Prelude.{ℕ, zero, suc, ◌+◌, ◌*◌, ◌≤◌, ◌<◌, true, false, List, [], ◌∷◌, ◌++◌, ◌≡◌, refl, leb, length, get_or, drop}
+use Rattle.std.specs.Prelude.{ℕ, zero, Option, Some, None, suc, ◌+◌, ◌*◌, ◌≤◌, ◌<◌, true, false, List, [], ◌∷◌, ◌++◌, ◌≡◌, refl, leb, length, get_or, drop}
 use Rattle.std.proofs.Common.{◌∙◌, mul-le-mul_right, add-one, arith, length-take, length-drop, leb-true, get_or-take, get_or-drop}
 use Rattle.std.proofs.Math.Seq.{drop-cons}
 use Rattle.std.proofs.lemmas.List.{take-append-le, drop-append-le}
 use Rattle.rules.specs.Lists.{all}
 use Rattle.texts.specs.Fields.{weights, digit_of, field_at}
 use Rattle.theory.specs.Tests.{and_left, and_right}
-use Rattle.fields.specs.declared.Field.{Field}
-use Rattle.fields.specs.declared.Field.TheVariants.{Number, Bad}
 use Rattle.fields.specs.Scan.{stands, scan, field_in, scan_field, digit_le}
 
 field_long : (bytes : List ℕ) (start : ℕ) → start + 8 ≤ length bytes → length (field_at bytes start) ≡ 8
@@ -22,7 +20,7 @@ pub field_byte : (bytes : List ℕ) (start i : ℕ) → i < 8 → get_or (field_
 field_byte bytes start i h = get_or-take 8 (drop start bytes) i 0 h ∙ get_or-drop start bytes i 0
 
 -- the field at byte start from its byte i on, with the value so far
-abbrev pub rest : List ℕ → ℕ → ℕ → ℕ → Field
+abbrev pub rest : List ℕ → ℕ → ℕ → ℕ → Option ℕ
 rest bytes start i v = scan v (drop i weights) (drop i (field_at bytes start))
 
 module _ (bytes : List ℕ) (start i v : ℕ) (h : start + 8 ≤ length bytes) (k : i < 8) where
@@ -33,13 +31,13 @@ module _ (bytes : List ℕ) (start i v : ℕ) (h : start + 8 ≤ length bytes) (
       let l = field_long bytes start h in
       rw (add-one, drop-cons weights i 0 k, drop-cons (field_at bytes start) i 0 (omega arith), field_byte bytes start i k, e)
 
-  pub byte_stop : stands v (get_or weights i 0) (get_or bytes (start + i) 0) ≡ false → rest bytes start i v ≡ Bad
+  pub byte_stop : stands v (get_or weights i 0) (get_or bytes (start + i) 0) ≡ false → rest bytes start i v ≡ None
   unfolding scan
   byte_stop e =
       let l = field_long bytes start h in
       rw (drop-cons weights i 0 k, drop-cons (field_at bytes start) i 0 (omega arith), field_byte bytes start i k, e)
 
-pub byte_end : (bytes : List ℕ) (start i v : ℕ) → i ≡ 8 → rest bytes start i v ≡ Number v
+pub byte_end : (bytes : List ℕ) (start i v : ℕ) → i ≡ 8 → rest bytes start i v ≡ Some v
 unfolding scan
 byte_end bytes start i v e = rw e
 

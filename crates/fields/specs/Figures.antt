@@ -45,9 +45,12 @@ module _ (below : Bool) (size : ℕ) where
   unfolding signed_columns
   columns_long = refl
 
-  entry : (i : ℕ) → i < 8 → get_or (signed_columns below size) i 0 ≡ signed_at below size (get_or weights i 0)
+  pub column_at : (i : ℕ) → i < 8 → get_or (signed_columns below size) i 0 ≡ signed_at below size (get_or weights i 0)
   unfolding signed_columns
-  entry i h = map_entry (signed_at below size) weights i h
+  column_at i h = map_entry (signed_at below size) weights i h
+
+  entry : (i : ℕ) → i < 8 → get_or (signed_columns below size) i 0 ≡ signed_at below size (get_or weights i 0)
+  entry i h = column_at i h
 
   -- the first i columns are written: one more
   pub column_more : (out : List ℕ) (at i : ℕ) (out' : List ℕ) (b : ℕ) → i < 8 → at + 8 ≤ length out → b ≡ signed_at below size (get_or weights i 0)

@@ -13,6 +13,16 @@ pub line_long : (vs : List ℕ) → length (line vs) ≡ 8 * length vs + 1
 line_long [] = refl
 line_long (v ∷ vs) = omega (arith, length-append (written v) (line vs), written_long v, line_long vs)
 
+-- a line is its fields, and the line end
+pub line_joined : (vs : List ℕ) → joined written vs ++ (10 ∷ []) ≡ line vs
+line_joined [] = refl
+line_joined (v ∷ vs) = append_assoc (written v) (joined written vs) (10 ∷ []) ∙ ap (λ (l : List ℕ). written v ++ l) (line_joined vs)
+
+-- fields are eight times as long as there are numbers
+pub fields_long : (vs : List ℕ) → length (joined written vs) ≡ 8 * length vs
+fields_long [] = refl
+fields_long (v ∷ vs) = omega (arith, length-append (written v) (joined written vs), written_long v, fields_long vs)
+
 -- ---- pieces one after another, each of w bytes
 module _ (f : ℕ → List ℕ) where
   pieces_long : (w : ℕ) → ((x : ℕ) → length (f x) ≡ w) → (xs : List ℕ) → length (joined f xs) ≡ w * length xs

@@ -5,3 +5,4 @@ pub mod Wrote
 pub mod Lengths
 pub mod Values
 pub mod Figures
+pub mod Texts

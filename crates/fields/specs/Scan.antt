@@ -1,13 +1,12 @@
 -- A field read byte by byte, and that this is what a well-formed field is: its bytes are those of its value, written.
-use Rattle.std.specs.Prelude.{ℕ, zero, suc, ◌+◌, ◌*◌, ◌/◌, ◌%◌, ◌^◌, ◌≤◌, ◌<◌, Bool, true, false, cond, ◌&&◌, ◌||◌, List, [], ◌∷◌, map, ◌≡◌, refl, eqb, leb, ltb, length}
+use Rattle.std.specs.Prelude.{ℕ, zero, Option, Some, None, suc, ◌+◌, ◌*◌, ◌/◌, ◌%◌, ◌^◌, ◌≤◌, ◌<◌, Bool, true, false, cond, ◌&&◌, ◌||◌, List, [], ◌∷◌, map, ◌≡◌, refl, eqb, leb, ltb, length}
 use Rattle.std.proofs.Common.{ap, ◌∙◌, mul-le-mul_left, add-mul, mul_comm, mul_assoc, zero-mul, pow-suc, arith, lt-ltb, le-leb, eq-eqb, ne_eqb}
 use Rattle.std.proofs.Math.Nat.{mul-add-div_right, div-eq_of_lt, mul-le-mul_right}
 use Rattle.std.proofs.lemmas.Bool.{lt-leb}
+use Rattle.std.specs.Option.{is_some}
 use Rattle.rules.specs.Lists.{same}
 use Rattle.texts.specs.Fields.{weights, digit_at, written, digit_of, weigh, value_of, is_field}
 use Rattle.theory.specs.Tests.{by_bool, by-ltb, by-leb, by_eqb}
-use Rattle.fields.specs.declared.Field.{Field}
-use Rattle.fields.specs.declared.Field.TheVariants.{Number, Bad}
 
 abbrev pub is_digit : ℕ → Bool
 is_digit b = leb 48 b && leb b 57
@@ -18,14 +17,14 @@ unfoldable pub stands : ℕ → ℕ → ℕ → Bool
 stands v w b = cond (ltb 0 v || eqb w 1) (is_digit b) (eqb b 32 || (leb 49 b && leb b 57))
 
 -- the field read from the left: v is the value so far
-unfoldable pub scan : ℕ → List ℕ → List ℕ → Field
-scan v [] bs = Number v
-scan v (w ∷ ws) [] = Bad
-scan v (w ∷ ws) (b ∷ bs) = cond (stands v w b) (scan (v + w * digit_of b) ws bs) Bad
+unfoldable pub scan : ℕ → List ℕ → List ℕ → Option ℕ
+scan v [] bs = Some v
+scan v (w ∷ ws) [] = None
+scan v (w ∷ ws) (b ∷ bs) = cond (stands v w b) (scan (v + w * digit_of b) ws bs) None
 
 -- what a field of eight bytes is, by the rules' definitions
-unfoldable pub field_in : List ℕ → Field
-field_in f = cond (is_field f) (Number (value_of f)) Bad
+unfoldable pub field_in : List ℕ → Option ℕ
+field_in f = cond (is_field f) (Some (value_of f)) None
 
 eq_zero : {n : ℕ} → n ≤ 0 → n ≡ 0
 eq_zero h = omega arith
@@ -137,9 +136,9 @@ weigh_lt (suc k) (b ∷ bs) = omega (arith, pow-suc 10 k, weigh_lt k bs, mul-le-
 
 -- after a value v that is a multiple of the place above, what is left of the field is scanned as it is written
 pub scan_is : (k q v total : ℕ) (bs : List ℕ) → length bs ≡ k → v ≡ q * 10 ^ k → total ≡ v + weigh (powers k) bs
-    → scan v (powers k) bs ≡ cond (same bs (map (digit_at total) (powers k))) (Number total) Bad
+    → scan v (powers k) bs ≡ cond (same bs (map (digit_at total) (powers k))) (Some total) None
 unfolding scan
-scan_is zero q v total [] l s e = ap Number (omega arith)
+scan_is zero q v total [] l s e = ap Some (omega arith)
 scan_is zero q v total (b ∷ bs) l s e = absurd (omega arith)
 scan_is (suc k) q v total [] l s e = absurd (omega arith)
 scan_is (suc k) q v total (b ∷ bs) l s e =
@@ -157,20 +156,29 @@ unfolding field_in is_field written value_of
 scan_field f l = scan_is 8 0 0 (weigh weights f) f l refl (omega arith)
 
 -- what an answer says of the field
-pub is_number : (f : List ℕ) (n : ℕ) → field_in f ≡ Number n → is_field f ≡ true
+pub is_number : (f : List ℕ) (n : ℕ) → field_in f ≡ Some n → is_field f ≡ true
 unfolding field_in
 is_number f n e =
     by_bool (is_field f)
     (λ t. t)
     (λ t. let e' = rw t at e in let z : ◌≡◌ {A = ℕ} 0 1 = cc in absurd (omega arith))
 
-pub is_value : (f : List ℕ) (n : ℕ) → field_in f ≡ Number n → n ≡ value_of f
+pub is_value : (f : List ℕ) (n : ℕ) → field_in f ≡ Some n → n ≡ value_of f
 unfolding field_in
 is_value f n e = let e' = rw (is_number f n e) at e in cc
 
-pub is_bad : (f : List ℕ) → field_in f ≡ Bad → is_field f ≡ false
+pub is_bad : (f : List ℕ) → field_in f ≡ None → is_field f ≡ false
 unfolding field_in
 is_bad f e =
     by_bool (is_field f)
     (λ t. let e' = rw t at e in let z : ◌≡◌ {A = ℕ} 0 1 = cc in absurd (omega arith))
     (λ t. t)
+
+-- there is a number exactly where the field is well formed
+pub some_is : (f : List ℕ) → is_some (field_in f) ≡ is_field f
+unfolding field_in
+some_is f = by_bool (is_field f) (λ t. rw t) (λ t. rw t)
+
+pub some_value : (f : List ℕ) → is_field f ≡ true → field_in f ≡ Some (value_of f)
+unfolding field_in
+some_value f t = rw t

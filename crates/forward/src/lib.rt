@@ -10,32 +10,30 @@ use record::{ForwardAnswer, Forwarded, Run};
 use rules::Refusal;
 
 // The slots worked on a sound record, one for each supply from the first on, until a supply comes at clock 2,000,000 slots (rule 8.13).
-fn worked(start: Run, supplies: &[u32]) -> Forwarded
-    requires { is_sound start ≡ true }
-    ensures { result ≡ work_on 0 supplies.now start }
+fn worked(mut run: Run, supplies: &[u32]) -> Forwarded
+    requires { is_sound run ≡ true }
+    ensures { result ≡ work_on 0 supplies.now run }
 {
-    let mut run = start;
     let mut due = run.due();
     let mut slots: u32 = 0;
-    let mut k = 0;
-    while k < supplies.len() {
-        let supply = supplies[k];
+    for supply in supplies {
         if run.clock >= record::LAST_CLOCK {
             return Forwarded {
                 answer: ForwardAnswer::ClockOver(slots),
-                run: run,
+                run,
             };
         }
-        run = run.work(supply);
+        run = run.work(*supply);
         if due <= run.clock {
             run = run.close_late();
             due = run.due();
         }
-        slots = slots + 1;
-        k = k + 1;
+        slots += 1;
     }
-    let answer = ForwardAnswer::Worked(slots);
-    Forwarded { answer, run }
+    Forwarded {
+        answer: ForwardAnswer::Worked(slots),
+        run,
+    }
 }
 
 // The record is checked once, before its first slot; an unsound one is refused and handed back as it was (rules 8.14, 11.5).
@@ -43,10 +41,10 @@ fn worked(start: Run, supplies: &[u32]) -> Forwarded
 fn checked(run: Run, supplies: &[u32]) -> Forwarded
     ensures { result ≡ forward_over run supplies.now }
 {
-    if !record::is_sound(run) {
+    if !record::is_sound(&run) {
         return Forwarded {
             answer: ForwardAnswer::Refused(Refusal::Unsound),
-            run: run,
+            run,
         };
     }
     worked(run, supplies)
@@ -62,11 +60,11 @@ pub fn forward(run: &mut Run, supplies: &[u32]) -> ForwardAnswer
     w.answer
 }
 
-// The second entry for callers that hold the record by value: it is lent to `forward` and handed back with the answer.
-pub fn forwarded(run: Run, supplies: &[u32]) -> Forwarded
+// The second entry for callers that hold the record by value: it is lent to `forward` and handed back with the answer. Both stand, since rule 8.10 borrows the
+// record, and C's call and the claim hold it by value.
+pub fn forwarded(mut run: Run, supplies: &[u32]) -> Forwarded
     ensures { result ≡ forward_over run supplies.now }
 {
-    let mut lent = run;
-    let answer = forward(&mut lent, supplies);
-    Forwarded { answer, run: lent }
+    let answer = forward(&mut run, supplies);
+    Forwarded { answer, run }
 }

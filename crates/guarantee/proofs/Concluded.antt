@@ -6,9 +6,9 @@ use Rattle.std.proofs.Math.Path.{ap}
 use Rattle.record.specs.declared.Run.{Run}
 use Rattle.record.specs.Records.{start_run, fresh_of}
 use Rattle.rules.specs.declared.Table.{Table}
-use Rattle.rules.specs.declared.Check.TheVariants.{Passed}
-use Rattle.rules.specs.declared.Planned.TheVariants.{Ordered, NoOrder}
+use Rattle.rules.specs.Plans.{Ordered, NoOrder}
 use Rattle.rules.specs.declared.Planning.{Planning}
+use Rattle.rules.specs.Checks.{Passed}
 use Rattle.rules.specs.Calls.{last_clock, Call, one, forward, Said, tell_one, tell_forward, tell, tell_all, supply_from, supply_at}
 use Rattle.rules.specs.Choice.{choice, word, padded, plan_of}
 use Rattle.ceiling.specs.Ceiling.{trial_count}

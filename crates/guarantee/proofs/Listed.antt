@@ -1,6 +1,6 @@
 -- Lists of run calls alone, without a commit: what the claim says of them, from the statement of the claim and without its proof. The sheet in hand stays the
 -- one that the list began with (rule 9.10).
-use Rattle.std.specs.Prelude.{ℕ, ◌≤◌, true, not, ◌≡◌}
+use Rattle.std.specs.Prelude.{ℕ, ◌≤◌, true, ◌≡◌}
 use Rattle.std.proofs.Math.Path.{refl}
 use Rattle.std.proofs.Common.{ap, subst, ◌∙◌, arith}
 use mathlib.Core.List.{List, [], ◌∷◌}

@@ -7,7 +7,7 @@ use Rattle.record.specs.declared.Run.{Run}
 use Rattle.record.proofs.FreshRuns.{start_sound, start_sized}
 use Rattle.record.specs.Records.{record_of, start_run, fresh_of}
 use Rattle.rules.specs.declared.Table.{Table}
-use Rattle.rules.specs.declared.Check.TheVariants.{Passed}
+use Rattle.rules.specs.Checks.{Passed}
 use Rattle.rules.specs.Calls.{last_clock, Call, one, forward, Said, tell_one, tell_forward, tell, supply_from}
 use Rattle.ceiling.proofs.Bounds.{count_most, within_count}
 use Rattle.rules.specs.Choice.{choice, word, padded, plan_from, plan_of}

@@ -5,7 +5,7 @@ use Rattle.std.specs.Prelude.{ℕ, ◌+◌, ◌≤◌, true, not, ◌↔◌, ◌
 use Rattle.record.specs.declared.Run.{Run}
 use Rattle.record.specs.Records.{state_of, start_run, is_sound, fresh_of}
 use Rattle.rules.specs.declared.Table.{Table}
-use Rattle.rules.specs.declared.Check.TheVariants.{Passed}
+use Rattle.rules.specs.Checks.{Passed}
 use Rattle.rules.specs.Calls.{supply_from}
 use Rattle.rules.specs.Choice.{choice, word, plan_from, plan_of}
 use Rattle.ceiling.specs.Ceiling.{trial_count, most_trials, plan_within}

@@ -1,10 +1,10 @@
 -- The claim from the other side: what a caller gets from `Demand3`, in plain terms, derived from its statement alone and without its proof.
 -- Where a field of the claim is weakened or left out, a proof here fails.
-use Rattle.std.specs.Prelude.{ℕ, zero, ◌+◌, ◌*◌, ◌/◌, ◌≤◌, ◌<◌, true, ◌↔◌, ◌⊎◌, ◌≡◌, List, map, length, get_or, replicate}
+use Rattle.std.specs.Prelude.{ℕ, ◌+◌, ◌*◌, ◌/◌, ◌≤◌, ◌<◌, true, ◌↔◌, ◌⊎◌, ◌≡◌, List, map, length, get_or, replicate}
 use Rattle.record.specs.declared.Run.{Run}
 use Rattle.record.specs.Records.{is_sound, fresh_of}
 use Rattle.rules.specs.declared.Table.{Table}
-use Rattle.rules.specs.declared.Check.TheVariants.{Passed}
+use Rattle.rules.specs.Checks.{Passed}
 use Rattle.rules.specs.Calls.{Call, Said, tell_all, supply_at}
 use Rattle.rules.specs.Choice.{choice, word, padded, plan_of}
 use Rattle.ceiling.specs.Ceiling.{trial_count, plan_within}

@@ -11,7 +11,7 @@ use Rattle.std.proofs.lemmas.List.{length-replicate}
 use Rattle.std.proofs.Math.Seq.{drop_at}
 use Rattle.rules.specs.declared.Table.{Table}
 use Rattle.rules.specs.declared.Refusal.{Refusal}
-use Rattle.rules.specs.declared.Check.TheVariants.{Passed, Refused}
+use Rattle.rules.specs.Checks.{Passed, Refused}
 use Rattle.rules.specs.Calls.{last_clock, Call, one, forward, tell_one, tell_forward, tell, supplies_of, all_supplies}
 use Rattle.rules.specs.Correct.{earliest}
 use Rattle.proposal.specs.Days.{Act, run, commit, InHand, begun, tell_act, tell_day, run_calls}

@@ -31,13 +31,11 @@ fn one_call(run: Run, supply: u32) -> Turn
     ensures { Turned result (make (one supply) run) }
 {
     let stepped = run.slot(supply);
-    let answer = stepped.answer;
-    let after = stepped.run;
-    let said = numbers::slot_numbers(answer);
+    let said = numbers::slot_numbers(stepped.answer);
     Turn {
         number: said.number,
         value: said.value,
-        run: after,
+        run: stepped.run,
     }
 }
 
@@ -46,13 +44,11 @@ fn forward_call(run: Run, supplies: &[u32]) -> Turn
     ensures { Turned result (make (forward supplies.now) run) }
 {
     let forwarded = forward::forwarded(run, supplies);
-    let answer = forwarded.answer;
-    let left = forwarded.run;
-    let said = numbers::forward_numbers(answer);
+    let said = numbers::forward_numbers(forwarded.answer);
     Turn {
         number: said.number,
         value: said.value,
-        run: left,
+        run: forwarded.run,
     }
 }
 
@@ -60,23 +56,19 @@ fn forward_call(run: Run, supplies: &[u32]) -> Turn
 fn number_at(calls: &[u32], i: usize) -> u32
     ensures { result ≡ get_or calls.now i 0 }
 {
-    if i < calls.len() { calls[i] } else { 0 }
+    calls.get(i).copied().unwrap_or(0)
 }
 
 // The index of the call after the one at i, as specs/Encoding reads numbers.
+#[tactic(auto, unfolding(crate::specs::Encoding::next_at))]
 fn next_at(calls: &[u32], i: usize) -> usize
     requires { i < length calls.now }
     ensures { result ≡ next_at calls.now i }
 {
     let head = calls[i] as usize;
     let from = i + 1;
-    let room = calls.len() - from;
     let numbers = if head == 0 { 1 } else { head - 1 };
-    if numbers < room {
-        from + numbers
-    } else {
-        calls.len()
-    }
+    from + numbers.min(calls.len() - from)
 }
 
 // Makes the call at index i.
@@ -87,10 +79,10 @@ fn call_at(run: Run, calls: &[u32], i: usize) -> Turn
     let from = i + 1;
     let to = next_at(calls, i);
     if calls[i] == 0 {
-        let supply = number_at(calls, from);
-        return one_call(run, supply);
+        one_call(run, number_at(calls, from))
+    } else {
+        forward_call(run, &calls[from..to])
     }
-    forward_call(run, &calls[from..to])
 }
 
 // Notes an answer at index k, where two numbers fit there.
@@ -103,12 +95,12 @@ fn note(said: &mut [u32], k: usize, number: u32, value: u32)
 }
 
 // Makes the calls one after another, each on the record that the last one left (rule 9.5), and notes what each said while there is room.
-fn answered(start: Run, calls: &[u32], said: &mut [u32]) -> Run
-    ensures { Answered (calls_in calls.now) start said.old said.new result }
+fn answered(mut run: Run, calls: &[u32], said: &mut [u32]) -> Run
+    ensures { Answered (calls_in calls.now) run said.old said.new result }
 {
-    let mut run = start;
-    let mut i: usize = 0;
-    let mut k: usize = 0;
+    let mut i = 0;
+    let mut k = 0;
+    // a call takes as many numbers as it says, so that no range and no iterator counts i
     while i < calls.len() {
         let made = call_at(run, calls, i);
         run = made.run;
@@ -127,9 +119,7 @@ pub fn play(t: Table, calls: &[u32], said: &mut [u32]) -> Played
     ensures { Shown t (calls_in calls.now) said.old said.new result }
 {
     let planning = planner::plan(t);
-    let order = planning.order;
-    let fresh = record::fresh(t, order);
-    let start = fresh.run;
-    let run = answered(start, calls, said);
+    let fresh = record::fresh(t, planning.order);
+    let run = answered(fresh.run, calls, said);
     Played { planning, run }
 }

@@ -1,9 +1,8 @@
 -- The worst finishes (rules 3.6, 7.5) that a C caller gets, and yes or no as a word.
-use Rattle.std.specs.Prelude.{ℕ, Bool, cond, List, map, ◌≡◌, replicate}
+use Rattle.std.specs.Prelude.{ℕ, Bool, cond, List, map, ◌≡◌, replicate, Ok, Err}
 use Rattle.rules.specs.declared.Table.{Table}
 use Rattle.rules.specs.declared.Refusal.{Refusal}
-use Rattle.rules.specs.declared.Check.{Check}
-use Rattle.rules.specs.declared.Check.TheVariants.{Passed, Refused}
+use Rattle.rules.specs.Checks.{Check, Passed, Refused}
 use Rattle.rules.specs.Rows.{rows_of}
 use Rattle.rules.specs.Orders.{check_both}
 use Rattle.rules.specs.Worst.{worst_finish}
@@ -11,8 +10,8 @@ use Rattle.rules.specs.Choice.{padded}
 
 -- by what the checks of table and order answer (rules 7.5, 11.4)
 abbrev pub finishes_checked : Check → Table → List ℕ → List ℕ
-finishes_checked Passed t o = padded (map (worst_finish t o) (rows_of t))
-finishes_checked (Refused r) t o = replicate 64 0
+finishes_checked (Ok tt) t o = padded (map (worst_finish t o) (rows_of t))
+finishes_checked (Err r) t o = replicate 64 0
 
 -- the worst finish of each row in slots, zeros after row n; all zero where a check refuses the table or the order (rule 7.5)
 unfoldable pub finishes_of : Table → List ℕ → List ℕ

@@ -32,7 +32,7 @@ ghost use Rattle.jasminebrace.specs.Version.{version};
 
 use proposal::Proposal;
 use record::Run;
-use rules::{Check, Row, Searching, Sought, Table, Verdict};
+use rules::{Judgement, Planning, Row, Searching, Sought, Table, Verdict};
 use sentences::{JudgeAnswer, Kind, PlanAnswer};
 
 // The judge's number, yes as 1 or 0, the tightest row and its slack in slots (rules 7.2 to 7.4).
@@ -45,34 +45,31 @@ struct VerdictNumbers {
 }
 
 // A verdict as numbers (rules 7.2 to 7.4, 10.0).
-fn verdict_numbers(verdict: Verdict) -> VerdictNumbers
+fn verdict_numbers(verdict: Judgement) -> VerdictNumbers
     ensures { (result.number ≡ verdict_number verdict)
         × (result.yes ≡ yes_word (verdict_yes verdict))
         × (result.row ≡ verdict_row verdict)
         × (result.slack ≡ verdict_slack verdict) }
 {
     match verdict {
-        Verdict::Correct { row, slack } => VerdictNumbers {
+        Ok(Verdict::Correct { row, slack }) => VerdictNumbers {
             number: 0,
             yes: 1,
             row: row as u32,
             slack,
         },
-        Verdict::Incorrect { row, slack } => VerdictNumbers {
+        Ok(Verdict::Incorrect { row, slack }) => VerdictNumbers {
             number: 0,
             yes: 0,
             row: row as u32,
             slack,
         },
-        Verdict::Refused(why) => {
-            let number = numbers::refusal_number(why);
-            VerdictNumbers {
-                number,
-                yes: 0,
-                row: 0,
-                slack: 0,
-            }
-        }
+        Err(why) => VerdictNumbers {
+            number: numbers::refusal_number(why),
+            yes: 0,
+            row: 0,
+            slack: 0,
+        },
     }
 }
 
@@ -80,25 +77,18 @@ fn verdict_numbers(verdict: Verdict) -> VerdictNumbers
 fn slack_bits(slack: i32) -> u32
     ensures { result ≡ of_z w32 slack }
 {
-    if slack < 0 {
-        let below = -1 - slack;
-        4294967295 - below as u32
-    } else {
-        slack as u32
-    }
+    slack.cast_unsigned()
 }
 
 // A verdict in one word: number, 16 times yes, 32 times the row of least slack, 65536 times the 32 bits of that slack in slots.
-fn packed(verdict: Verdict) -> u64
+fn packed(verdict: Judgement) -> u64
     ensures { result ≡ packed_of verdict }
 {
     let numbers = verdict_numbers(verdict);
-    let slack = numbers.slack;
-    let bits = slack_bits(slack);
     numbers.number as u64
-        + 16 * (numbers.yes as u64)
-        + 32 * (numbers.row as u64)
-        + 65536 * (bits as u64)
+        + 16 * numbers.yes as u64
+        + 32 * numbers.row as u64
+        + 65536 * slack_bits(numbers.slack) as u64
 }
 
 // Reads a sheet into the words of a table, all zero on a refusal (rule 6.8). Gives the number of the sheet's checks (rule 11.2).
@@ -106,10 +96,8 @@ pub fn jb_read(sheet: &[u8], table: &mut [u32; 388]) -> u32
     ensures { let reading = read_of sheet.now in (result ≡ check_number reading.check) × (table.new ≡ words_of reading.table) }
 {
     let reading = sheet::read(sheet);
-    let t = reading.table;
-    let check = reading.check;
-    *table = words::words_of(t);
-    numbers::check_number(check)
+    *table = words::words_of(reading.table);
+    numbers::check_number(reading.check)
 }
 
 // Writes the sheet of a table to the start of lent bytes and gives its length in bytes (rule 15.2); no byte and 0 on a refusal
@@ -120,11 +108,9 @@ pub fn jb_write(table: &[u32; 388], sheet: &mut [u8], size: &mut u32) -> u32
         × (size.new ≡ back.said.size)
         × (sheet.new ≡ back.bytes) }
 {
-    let t = words::table_in(table);
-    let writing = sheet::write(t, sheet);
-    let check = writing.check;
+    let writing = sheet::write(words::table_in(table), sheet);
     *size = writing.size;
-    numbers::check_number(check)
+    numbers::check_number(writing.check)
 }
 
 // Writes a number as a field of a sheet (rule 15.9). Gives 1 if the field holds the number, 0 if only its last eight digits.
@@ -143,10 +129,10 @@ pub fn jb_plan(table: &[u32; 388], order: &mut [u8; 64], left: &mut u64) -> u32
         × (order.new ≡ planning.order)
         × (left.new ≡ rows_left planning.answer) }
 {
-    let t = words::table_in(table);
-    let planning = planner::plan(t);
-    let made = planning.order;
-    let answer = planning.answer;
+    let Planning {
+        answer,
+        order: made,
+    } = planner::plan(words::table_in(table));
     let numbers = numbers::plan_numbers(answer);
     *order = made;
     *left = numbers.left;
@@ -168,11 +154,11 @@ pub fn jb_plan_within(
         × (left.new ≡ rows_left counted.planning.answer)
         × (trials.new ≡ counted.trials) }
 {
-    let t = words::table_in(table);
-    let counted = planner::plan_within(t, ceiling);
-    let planning = counted.planning;
-    let made = planning.order;
-    let answer = planning.answer;
+    let counted = planner::plan_within(words::table_in(table), ceiling);
+    let Planning {
+        answer,
+        order: made,
+    } = counted.planning;
     let numbers = numbers::plan_numbers(answer);
     *order = made;
     *left = numbers.left;
@@ -195,13 +181,12 @@ pub fn jb_count(
         × (lowest.new ≡ back.said.lowest)
         × (scratch.new ≡ back.scratch) }
 {
-    let t = words::table_in(table);
-    let choices = counter::count(t, scratch);
-    let check = choices.check;
+    let choices = counter::count(words::table_in(table), scratch);
+    // Here and below: an array that is a field is stored by way of a variable.
     let each = choices.lowest;
     *count = choices.count;
     *lowest = each;
-    numbers::check_number(check)
+    numbers::check_number(choices.check)
 }
 
 // Asks for a proposal (rule 22.2): the table of a sheet and an order for it, both all zero where none is made. Gives the reader's number, or 0, or 7 with
@@ -214,11 +199,9 @@ pub fn jb_ask(sheet: &[u8], table: &mut [u32; 388], order: &mut [u8; 64], left: 
         × (left.new ≡ rows_left asking.answer) }
 {
     let asking = proposal::ask(sheet);
-    let t = asking.table;
+    let numbers = numbers::plan_numbers(asking.answer);
     let made = asking.order;
-    let answer = asking.answer;
-    let numbers = numbers::plan_numbers(answer);
-    *table = words::words_of(t);
+    *table = words::words_of(asking.table);
     *order = made;
     *left = numbers.left;
     numbers.number
@@ -228,21 +211,23 @@ pub fn jb_ask(sheet: &[u8], table: &mut [u32; 388], order: &mut [u8; 64], left: 
 fn put_search(searching: Searching, speed: &mut u32, order: &mut [u8; 64]) -> u32
     ensures { SearchTold searching result speed.new order.new }
 {
-    let made = searching.order;
-    let answer = searching.answer;
+    let Searching {
+        answer,
+        order: made,
+    } = searching;
     let numbers = numbers::search_numbers(answer);
     *speed = numbers.speed;
     *order = made;
     numbers.number
 }
 
+// Two calls of one search, here and for sheets, since these are the names that C calls.
 // The least degraded speed of a table at which a correct order exists, in work units per slot, and the planner's order at it; both zero where
 // none does, with 7, and on a refusal (rules 18.4 to 18.6). Gives the number of the search (rule 11.8).
 pub fn jb_least_degraded(table: &[u32; 388], speed: &mut u32, order: &mut [u8; 64]) -> u32
     ensures { SearchTold (search_of Sought.Degraded (table_in table.now)) result speed.new order.new }
 {
-    let t = words::table_in(table);
-    let searching = speeds::least_speed(Sought::Degraded, t);
+    let searching = speeds::least_speed(Sought::Degraded, words::table_in(table));
     put_search(searching, speed, order)
 }
 
@@ -250,8 +235,7 @@ pub fn jb_least_degraded(table: &[u32; 388], speed: &mut u32, order: &mut [u8; 6
 pub fn jb_least_normal(table: &[u32; 388], speed: &mut u32, order: &mut [u8; 64]) -> u32
     ensures { SearchTold (search_of Sought.Normal (table_in table.now)) result speed.new order.new }
 {
-    let t = words::table_in(table);
-    let searching = speeds::least_speed(Sought::Normal, t);
+    let searching = speeds::least_speed(Sought::Normal, words::table_in(table));
     put_search(searching, speed, order)
 }
 
@@ -285,14 +269,11 @@ pub fn jb_judge(
         × (row.new ≡ verdict_row verdict)
         × (slack.new ≡ verdict_slack verdict) }
 {
-    let t = words::table_in(table);
-    let placed = *order;
-    let verdict = judge::judge_table(t, placed);
+    let verdict = judge::judge_table(words::table_in(table), *order);
     let numbers = verdict_numbers(verdict);
-    let least = numbers.slack;
     *yes = numbers.yes;
     *row = numbers.row;
-    *slack = least;
+    *slack = numbers.slack;
     numbers.number
 }
 
@@ -307,9 +288,7 @@ pub fn jb_judge_rows(
 ) -> u64
     ensures { result ≡ packed_of (judge_of (table_of rows.now normal degraded loading) order.now) }
 {
-    let placed = *order;
-    let verdict = judge::judge(rows, normal, degraded, loading, placed);
-    packed(verdict)
+    packed(judge::judge(rows, normal, degraded, loading, *order))
 }
 
 // The worst finish of each row under an order, in slots, zeros after row n (rule 3.6). All zero on a refusal.
@@ -319,16 +298,13 @@ pub fn jb_finishes(table: &[u32; 388], order: &[u8; 64], finishes: &mut [u32; 64
         × (finishes.new ≡ finishes_of t order.now) }
 {
     let t = words::table_in(table);
-    let placed = *order;
-    let check = checks::check_both(t, placed);
-    match check {
-        Check::Passed => {
-            *finishes = judge::worst_finishes(t, placed);
+    match checks::check_both(&t, *order) {
+        Ok(()) => {
+            *finishes = judge::worst_finishes(t, *order);
             0
         }
-        Check::Refused(why) => {
-            let none = [0u32; 64];
-            *finishes = none;
+        Err(why) => {
+            *finishes = [0; 64];
             numbers::refusal_number(why)
         }
     }
@@ -342,26 +318,20 @@ pub fn jb_report(table: &[u32; 388], order: &[u8; 64], report: &mut [u8], size: 
         × (size.new ≡ back.said.size)
         × (report.new ≡ back.bytes) }
 {
-    let t = words::table_in(table);
-    let placed = *order;
-    let writing = report::report(t, placed, report);
-    let check = writing.check;
+    let writing = report::report(words::table_in(table), *order, report);
     *size = writing.size;
-    numbers::check_number(check)
+    numbers::check_number(writing.check)
 }
 
 // Whose answer a sentence tells, as a number: 1 for the planner's, 2 for the judge's, 0 for neither's (rule 24.11).
+#[tactic(auto, unfolding(sentences::specs::Reading::kind_number))]
 fn kind_number(kind: Kind) -> u32
     ensures { result ≡ kind_number kind }
 {
-    match kind {
-        Kind::Neither => 0,
-        Kind::Planner => 1,
-        Kind::Judge => 2,
-    }
+    kind as u32
 }
 
-// The number of the answer that a sentence tells (rule 24.11).
+// The number of the answer that a sentence tells (rule 24.11). Each arm reads another field, so that no closure is plainer.
 fn number_told(kind: Kind, plan: PlanAnswer, verdict: JudgeAnswer) -> u32
     ensures { result ≡ number_told kind plan verdict }
 {
@@ -374,6 +344,7 @@ fn number_told(kind: Kind, plan: PlanAnswer, verdict: JudgeAnswer) -> u32
 
 // Writes the sentence of a planner's answer, whatever its values are, to the start of lent bytes and gives its length in bytes; no byte and 0 with 10
 // (rule 24.9). Gives 0, or 10 if there are too few bytes.
+// As many parameters as C hands over; here and below, and in jasminebrace_c.
 pub fn jb_plan_sentence(
     number: u32,
     left: u64,
@@ -387,17 +358,15 @@ pub fn jb_plan_sentence(
         × (size.new ≡ back.said.size)
         × (line.new ≡ back.bytes) }
 {
-    let placed = *order;
     let answer = PlanAnswer {
         number,
         left,
-        order: placed,
+        order: *order,
         trials,
     };
     let writing = composer::plan_sentence(answer, line);
-    let check = writing.check;
     *size = writing.size;
-    numbers::check_number(check)
+    numbers::check_number(writing.check)
 }
 
 // The same for a judge's answer; yes is 1 and no is 0, and a slack is in slots.
@@ -421,9 +390,8 @@ pub fn jb_judge_sentence(
         slack,
     };
     let writing = composer::judge_sentence(answer, line);
-    let check = writing.check;
     *size = writing.size;
-    numbers::check_number(check)
+    numbers::check_number(writing.check)
 }
 
 // Reads a sentence: whose answer it tells, and the answer; the fields of the other kind are 0. Gives 0, or 2 and zeros for all other bytes (rule 24.11).
@@ -450,21 +418,16 @@ pub fn jb_read_sentence(
         × (slack.new ≡ told.verdict.slack) }
 {
     let told = parser::read(line);
-    let check = told.check;
-    let whose = told.kind;
-    let plan = told.plan;
-    let verdict = told.verdict;
-    let made = plan.order;
-    let least = verdict.slack;
-    *kind = kind_number(whose);
-    *number = number_told(whose, plan, verdict);
-    *left = plan.left;
+    *kind = kind_number(told.kind);
+    *number = number_told(told.kind, told.plan, told.verdict);
+    *left = told.plan.left;
+    let made = told.plan.order;
     *order = made;
-    *trials = plan.trials;
-    *yes = verdict.yes;
-    *row = verdict.row;
-    *slack = least;
-    numbers::check_number(check)
+    *trials = told.plan.trials;
+    *yes = told.verdict.yes;
+    *row = told.verdict.row;
+    *slack = told.verdict.slack;
+    numbers::check_number(told.check)
 }
 
 // Starts a run record of a table and an order, at clock 0. All zero on a refusal (rule 8.2).
@@ -481,17 +444,12 @@ pub fn jb_fresh(
         × (run_order.new ≡ made.run.order)
         × (run_state.new ≡ state_words made.run) }
 {
-    let t = words::table_in(table);
-    let placed = *order;
-    let made = record::fresh(t, placed);
-    let run = made.run;
-    let check = made.check;
-    let run_t = run.table;
-    let run_o = run.order;
-    *run_table = words::words_of(run_t);
-    *run_order = run_o;
-    *run_state = words::state_words(run);
-    numbers::check_number(check)
+    let made = record::fresh(words::table_in(table), *order);
+    let begun = made.run.order;
+    *run_table = words::words_of(made.run.table);
+    *run_order = begun;
+    *run_state = words::state_words(made.run);
+    numbers::check_number(made.check)
 }
 
 // The row that the coming slot runs, before its supply is known; 0 for an idle slot and with 8 or 9 (rule 8.15).
@@ -500,11 +458,8 @@ pub fn jb_coming(table: &[u32; 388], order: &[u8; 64], state: &[u32; 193], row: 
         (result ≡ said.number)
         × (row.new ≡ said.value) }
 {
-    let placed = *order;
-    let held = *state;
-    let run = words::run_in(table, placed, held);
-    let answer = run.coming();
-    let numbers = numbers::slot_numbers(answer);
+    let run = words::run_in(table, *order, *state);
+    let numbers = numbers::slot_numbers(run.coming());
     *row = numbers.value;
     numbers.number
 }
@@ -523,14 +478,9 @@ pub fn jb_slot(
         × (row.new ≡ (slot_said stepped.answer).value)
         × (state.new ≡ state_words stepped.run) }
 {
-    let placed = *order;
-    let held = *state;
-    let run = words::run_in(table, placed, held);
-    let stepped = run.slot(supply);
-    let after = stepped.run;
-    let answer = stepped.answer;
-    let numbers = numbers::slot_numbers(answer);
-    *state = words::state_words(after);
+    let stepped = words::run_in(table, *order, *state).slot(supply);
+    let numbers = numbers::slot_numbers(stepped.answer);
+    *state = words::state_words(stepped.run);
     *row = numbers.value;
     numbers.number
 }
@@ -549,14 +499,10 @@ pub fn jb_forward(
         × (worked.new ≡ (forward_said forwarded.answer).value)
         × (state.new ≡ state_words forwarded.run) }
 {
-    let placed = *order;
-    let held = *state;
-    let run = words::run_in(table, placed, held);
+    let run = words::run_in(table, *order, *state);
     let forwarded = forward::forwarded(run, supplies);
-    let reached = forwarded.run;
-    let answer = forwarded.answer;
-    let numbers = numbers::forward_numbers(answer);
-    *state = words::state_words(reached);
+    let numbers = numbers::forward_numbers(forwarded.answer);
+    *state = words::state_words(forwarded.run);
     *worked = numbers.value;
     numbers.number
 }
@@ -577,25 +523,17 @@ pub fn jb_commit(
         × (run_order.new ≡ after.run.order)
         × (run_state.new ≡ state_words after.run) }
 {
-    let t = words::table_in(table);
-    let placed = *order;
     let proposal = Proposal {
-        table: t,
-        order: placed,
+        table: words::table_in(table),
+        order: *order,
     };
-    let held_table = *run_table;
-    let held_order = *run_order;
-    let held_state = *run_state;
-    let run = words::run_in(&held_table, held_order, held_state);
+    let run = words::run_in(run_table, *run_order, *run_state);
     let committed = proposal::commit_held(run, proposal);
-    let after = committed.run;
-    let check = committed.check;
-    let after_table = after.table;
-    let after_order = after.order;
-    *run_table = words::words_of(after_table);
-    *run_order = after_order;
-    *run_state = words::state_words(after);
-    numbers::check_number(check)
+    *run_table = words::words_of(committed.run.table);
+    let left = committed.run.order;
+    *run_order = left;
+    *run_state = words::state_words(committed.run);
+    numbers::check_number(committed.check)
 }
 
 // Writes what the planning program writes for an input, zeros after it (section 12 of the rules). Gives how many bytes that is.
@@ -603,10 +541,8 @@ pub fn jb_program(input: &[u8], text: &mut [u8; 1617]) -> u32
     ensures { (result ≡ length (program_text input.now))
         × (text.new ≡ program_text input.now ++ replicate (1617 - length (program_text input.now)) 0) }
 {
-    let mut bytes = [0u8; 1617];
-    let size = text::program(input, &mut bytes);
-    *text = bytes;
-    size as u32
+    *text = [0; 1617];
+    text::program(input, text) as u32
 }
 
 // The number of this interface, for a caller to compare with the one that it was compiled for.

@@ -1,7 +1,7 @@
 -- What the checks of table and order say where they pass.
 use Rattle.std.specs.Prelude.{ℕ, true, ◌≡◌, List}
 use Rattle.rules.specs.declared.Table.{Table}
-use Rattle.rules.specs.declared.Check.TheVariants.{Passed}
+use Rattle.rules.specs.Checks.{Passed}
 use Rattle.rules.specs.Tables.{Accepted}
 use Rattle.rules.specs.Orders.{is_order, check_both}
 use Rattle.theory.specs.Facts.{both_accepted, both_order}

@@ -9,8 +9,8 @@ use Rattle.std.proofs.Math.Seq.{append_snoc}
 use Rattle.rules.specs.declared.Row.{Row}
 use Rattle.rules.specs.declared.Table.{Table}
 use Rattle.rules.specs.declared.Refusal.TheVariants.{RowCount}
-use Rattle.rules.specs.declared.Check.TheVariants.{Refused}
-use Rattle.rules.specs.declared.Verdict.{Verdict}
+use Rattle.rules.specs.Verdicts.{Judgement}
+use Rattle.rules.specs.Checks.{Refused}
 use Rattle.rules.specs.Tables.{check_table}
 use Rattle.rules.specs.Orders.{check_both}
 use Rattle.rules.specs.Judge.{column, table_of, judge_of}
@@ -167,5 +167,5 @@ module _ (rs : List Row) (normal degraded loading : ℕ) (o : List ℕ) where
       (λ _ h. ap (λ (t : Table). judge_of t o) (ap (λ (t : Table). gathered t rs) (no_rows_lem normal degraded loading) ∙ gathered_from normal degraded loading [] rs (omega arith)))
 
   -- what is promised of the table gathered is promised of the rows
-  pub rows_judged : (t : Table) (v : Verdict) → t ≡ gathered (no_rows normal degraded loading) rs → Judged t o v → Judged (table_of rs normal degraded loading) o v
+  pub rows_judged : (t : Table) (v : Judgement) → t ≡ gathered (no_rows normal degraded loading) rs → Judged t o v → Judged (table_of rs normal degraded loading) o v
   rows_judged t v e j = promised (table_of rs normal degraded loading) o v (j.answer ∙ ap (λ (u : Table). judge_of u o) e ∙ gathered_judged)

@@ -4,9 +4,9 @@ use Rattle.std.proofs.Common.{sym, subst}
 use Rattle.std.specs.Int.Signed.{lt_z}
 use Rattle.rules.specs.declared.Table.{Table}
 use Rattle.rules.specs.declared.Refusal.{Refusal}
-use Rattle.rules.specs.declared.Check.TheVariants.{Passed, Refused}
-use Rattle.rules.specs.declared.Verdict.{Verdict}
-use Rattle.rules.specs.declared.Verdict.TheVariants as Verdicts
+use Rattle.rules.specs.Verdicts.{Judgement}
+use Rattle.rules.specs.Verdicts as Verdicts
+use Rattle.rules.specs.Checks.{Passed, Refused}
 use Rattle.rules.specs.Orders.{check_both}
 use Rattle.rules.specs.Correct.{Correct}
 use Rattle.rules.specs.Worst.{slack}
@@ -20,7 +20,7 @@ use Rattle.judge.specs.Late.{late_tightest, tightest_row}
 
 -- the answer is the definition's, and where no check refuses, yes is said of an order just if it is correct over all courses of speed
 -- (rules 3.4 and 7.2)
-pub record Judged (t : Table) (o : List ℕ) (v : Verdict) : Type 0 where
+pub record Judged (t : Table) (o : List ℕ) (v : Judgement) : Type 0 where
   pub answer : v ≡ judge_of t o
   pub exact : check_both t o ≡ Passed → ((verdict_yes v ≡ true) ↔ Correct t o)
 
@@ -61,5 +61,5 @@ exactly t o p =
       λ k. rw (judge_passed t o p) (yes_met t o (tightest t o) (v.0 k (tightest t o) (is_row_lem t (tightest t o) r))),
     )
 
-pub promised : (t : Table) (o : List ℕ) (v : Verdict) → v ≡ judge_of t o → Judged t o v
-promised t o v e = record { answer = e; exact = λ p. subst (λ (w : Verdict). (verdict_yes w ≡ true) ↔ Correct t o) (sym e) (exactly t o p) }
+pub promised : (t : Table) (o : List ℕ) (v : Judgement) → v ≡ judge_of t o → Judged t o v
+promised t o v e = record { answer = e; exact = λ p. subst (λ (w : Judgement). (verdict_yes w ≡ true) ↔ Correct t o) (sym e) (exactly t o p) }

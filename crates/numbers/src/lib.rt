@@ -6,7 +6,7 @@ ghost use Rattle.rules.specs.Numbers.{refusal_number, check_number, planned_numb
 ghost use Rattle.record.specs.Answers.{slot_said, forward_said};
 
 use record::{ForwardAnswer, SlotAnswer};
-use rules::{Check, Planned, Refusal, Searched};
+use rules::{Check, Plan, Planned, Refusal, Searched};
 
 // A run call's number, and its value: the row run, or the slots worked.
 #[derive(Clone, Copy)]
@@ -34,27 +34,7 @@ pub struct SearchNumbers {
 pub fn refusal_number(why: Refusal) -> u32
     ensures { result ≡ refusal_number why }
 {
-    match why {
-        Refusal::Length => 1,
-        Refusal::Malformed => 2,
-        Refusal::RowCount => 3,
-        Refusal::Speeds => 4,
-        Refusal::RowLimits => 5,
-        Refusal::NotAnOrder => 6,
-        Refusal::ClockOver => 8,
-        Refusal::Unsound => 9,
-        Refusal::NoRoom => 10,
-        Refusal::Loading => 11,
-        Refusal::Promised => 12,
-        Refusal::NotLower => 13,
-        Refusal::ReleasedLater => 14,
-        Refusal::FollowsLow => 15,
-        Refusal::NotCorrect => 16,
-        Refusal::RowOpen => 17,
-        Refusal::ReleasedBefore => 18,
-        Refusal::TrialsOver => 19,
-        Refusal::TooManyRows => 20,
-    }
+    why as u32
 }
 
 // The number of a check.
@@ -63,8 +43,8 @@ pub fn check_number(check: Check) -> u32
     ensures { result ≡ check_number check }
 {
     match check {
-        Check::Passed => 0,
-        Check::Refused(why) => refusal_number(why),
+        Ok(()) => 0,
+        Err(why) => refusal_number(why),
     }
 }
 
@@ -74,12 +54,12 @@ pub fn plan_numbers(answer: Planned) -> PlanNumbers
     ensures { (result.number ≡ planned_number answer) × (result.left ≡ rows_left answer) }
 {
     match answer {
-        Planned::Ordered => PlanNumbers { number: 0, left: 0 },
-        Planned::NoOrder(left) => PlanNumbers { number: 7, left },
-        Planned::Refused(why) => {
-            let number = refusal_number(why);
-            PlanNumbers { number, left: 0 }
-        }
+        Ok(Plan::Ordered) => PlanNumbers { number: 0, left: 0 },
+        Ok(Plan::NoOrder(left)) => PlanNumbers { number: 7, left },
+        Err(why) => PlanNumbers {
+            number: refusal_number(why),
+            left: 0,
+        },
     }
 }
 
@@ -89,15 +69,15 @@ pub fn search_numbers(answer: Searched) -> SearchNumbers
     ensures { (result.number ≡ searched_number answer) × (result.speed ≡ searched_speed answer) }
 {
     match answer {
-        Searched::Least(speed) => SearchNumbers { number: 0, speed },
-        Searched::NoSpeed => SearchNumbers {
+        Ok(Some(speed)) => SearchNumbers { number: 0, speed },
+        Ok(None) => SearchNumbers {
             number: 7,
             speed: 0,
         },
-        Searched::Refused(why) => {
-            let number = refusal_number(why);
-            SearchNumbers { number, speed: 0 }
-        }
+        Err(why) => SearchNumbers {
+            number: refusal_number(why),
+            speed: 0,
+        },
     }
 }
 
@@ -107,14 +87,14 @@ pub fn slot_numbers(answer: SlotAnswer) -> CallNumbers
     ensures { (result.number ≡ (slot_said answer).number) × (result.value ≡ (slot_said answer).value) }
 {
     match answer {
-        SlotAnswer::Worked(row) => CallNumbers {
+        Ok(row) => CallNumbers {
             number: 0,
             value: row as u32,
         },
-        SlotAnswer::Refused(why) => {
-            let number = refusal_number(why);
-            CallNumbers { number, value: 0 }
-        }
+        Err(why) => CallNumbers {
+            number: refusal_number(why),
+            value: 0,
+        },
     }
 }
 
@@ -132,9 +112,9 @@ pub fn forward_numbers(answer: ForwardAnswer) -> CallNumbers
             number: 8,
             value: slots,
         },
-        ForwardAnswer::Refused(why) => {
-            let number = refusal_number(why);
-            CallNumbers { number, value: 0 }
-        }
+        ForwardAnswer::Refused(why) => CallNumbers {
+            number: refusal_number(why),
+            value: 0,
+        },
     }
 }

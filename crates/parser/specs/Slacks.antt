@@ -1,4 +1,4 @@
--- The slack of a size as the code makes it: below 0 it is -1 less what is one below the size, so that the least fits too.
+-- The slack of a size by its cases: below 0 it is -1 less what is one below the size, so that the least fits too.
 use Rattle.std.specs.Prelude.{ℕ, zero, suc, ◌-◌, min, ◌≤◌, ◌<◌, true, false, ◌≡◌, refl, ℤ, pos, negsuc, ◌-ℤ◌}
 use Rattle.std.proofs.Common.{sym, ap, subst, ◌∙◌, arith, SFits, to_z, of_z, to_z-of_z}
 use Rattle.std.specs.Int.{w32}

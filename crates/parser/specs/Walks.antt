@@ -1,8 +1,17 @@
--- Two lists compared, and a number looked for in one, from an index on.
-use Rattle.std.specs.Prelude.{ℕ, suc, ◌+◌, ◌≤◌, ◌<◌, true, false, List, [], ◌∷◌, ◌≡◌, refl, eqb, length, get_or, drop}
-use Rattle.std.proofs.Common.{ap, add-one, arith, eq-eqb, ne_eqb, drop_of_length-le, drop-cons}
+-- Two lists compared, and a number looked for in one; both also from an index on.
+use Rattle.std.specs.Prelude.{ℕ, not, suc, ◌+◌, ◌≤◌, ◌<◌, true, false, List, [], ◌∷◌, ◌≡◌, refl, eqb, length, get_or, drop}
+use Rattle.std.proofs.Common.{sym, ap, add-one, arith, eq-eqb, ne_eqb, drop_of_length-le, drop-cons}
+use Rattle.std.specs.List.{list_any}
+use Rattle.std.specs.Cmp.Lexicographic.{pointwise}
 use Rattle.rules.specs.Lists.{same, count}
-use Rattle.theory.specs.Tests.{and_false}
+use Rattle.theory.specs.Tests.{and_false, by_eqb}
+
+-- lists are compared entry by entry
+pub pointwise_same : (xs ys : List ℕ) → pointwise eqb xs ys ≡ same xs ys
+pointwise_same [] [] = refl
+pointwise_same [] (y ∷ ys) = refl
+pointwise_same (x ∷ xs) [] = refl
+pointwise_same (x ∷ xs) (y ∷ ys) = rw (pointwise_same xs ys)
 
 -- lists of two lengths are not the same
 pub same_long : (xs ys : List ℕ) → (length xs ≡ length ys → ⊥) → same xs ys ≡ false
@@ -34,3 +43,11 @@ module _ (x : ℕ) (xs : List ℕ) (i : ℕ) (h : i < length xs) where
 -- nothing is left of the list
 pub count_end : (x : ℕ) (xs : List ℕ) (i : ℕ) → length xs ≤ i → count x (drop i xs) ≡ 0
 count_end x xs i h = rw (drop_of_length-le xs h)
+
+-- some entry is the number exactly if its count is not 0
+pub any_count : (x : ℕ) (xs : List ℕ) → list_any (λ y. eqb y x) xs ≡ not (eqb (count x xs) 0)
+any_count x [] = refl
+any_count x (y ∷ ys) =
+    by_eqb x y
+    (λ e h. rw (e, eq-eqb y x (sym h), ne_eqb (suc (count x ys)) 0 (λ z. omega arith)))
+    (λ e h. rw (e, ne_eqb y x (λ z. h (sym z)), any_count x ys))

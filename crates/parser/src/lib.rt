@@ -9,7 +9,7 @@ ghost use Rattle.sentences.specs.RoundTrip.{PlanFits, JudgeFits};
 ghost use Rattle.sentences.specs.Reading.{grown, figures_in, at_most, marked, word_of, small, plan_in, slack_of, judge_from, judge_in, no_plan, no_verdict, read_sentence};
 ghost use Rattle.parser.specs.Figures.{FigureAt, PlacesAt};
 
-use rules::{Check, Refusal};
+use rules::Refusal;
 use sentences::{JudgeAnswer, Kind, PlanAnswer, Told};
 
 // A figure that was read, 0 if there is none, and the byte to go on from.
@@ -19,7 +19,7 @@ struct Figure {
     next: usize,
 }
 
-// Sixty-four small numbers that were read, and the byte to go on from.
+// Sixty-four small numbers that were read, and the byte to go on from. An array with zeros after the last, as an order is: there is no heap.
 #[derive(Clone, Copy)]
 struct Places {
     order: [u8; 64],
@@ -27,14 +27,12 @@ struct Places {
 }
 
 // A digit more; 4,294,967,295 stands for all that is above it.
+#[tactic(auto, unfolding(sentences::specs::Reading::grown))]
 fn grown(value: u32, b: u8) -> u32
     ensures { result ≡ grown value b }
 {
     let more = 10 * (value as u64) + fields::digit(b) as u64;
-    if more < 4294967295 {
-        return more as u32;
-    }
-    4294967295
+    more.min(4294967295) as u32
 }
 
 // The first figure from a byte on.
@@ -44,38 +42,33 @@ fn next_figure(bytes: &[u8], from: usize) -> Figure
 {
     let mut begun = false;
     let mut value: u32 = 0;
-    let mut i = from;
-    while i < bytes.len() {
+    for i in from..bytes.len() {
         let b = bytes[i];
-        if fields::digit_from(48, b) {
+        if fields::digit_from(b'0', b) {
             begun = true;
             value = grown(value, b);
         } else if begun {
             return Figure { value, next: i };
         }
-        i += 1;
     }
-    Figure { value, next: i }
+    Figure {
+        value,
+        next: bytes.len(),
+    }
 }
 
 // At most 64 of them.
 fn at_most(many: u32) -> usize
     ensures { result ≡ at_most many }
 {
-    if many < 64 {
-        return many as usize;
-    }
-    64
+    many.min(64) as usize
 }
 
 // At most 255.
 fn small(value: u32) -> u8
     ensures { result ≡ small value }
 {
-    if value < 255 {
-        return value as u8;
-    }
-    255
+    value.min(255) as u8
 }
 
 // The next so many figures as small numbers, zeros after them.
@@ -85,31 +78,23 @@ fn read_places(bytes: &[u8], from: usize, many: usize) -> Places
 {
     let mut order = [0u8; 64];
     let mut next = from;
-    let mut i: usize = 0;
-    while i < many {
+    for i in 0..many {
         let figure = next_figure(bytes, next);
         next = figure.next;
         order[i] = small(figure.value);
-        i += 1;
     }
     Places { order, next }
 }
 
 // A row more in a word, if it is one of 64 and not there yet.
+#[tactic(auto, unfolding(sentences::specs::Reading::marked, sweep::specs::Masks::bit))]
 fn marked(word: u64, row: u32) -> u64
     ensures { result ≡ marked word row }
 {
-    if row < 1 {
+    if row < 1 || 64 < row || sweep::has(word, row as u8) {
         return word;
     }
-    if 64 < row {
-        return word;
-    }
-    let among = row as u8;
-    if sweep::has(word, among) {
-        return word;
-    }
-    sweep::with(word, among)
+    sweep::with(word, row as u8)
 }
 
 // The word of the next so many figures.
@@ -119,12 +104,10 @@ fn read_rows(bytes: &[u8], from: usize, many: usize) -> u64
 {
     let mut word: u64 = 0;
     let mut next = from;
-    let mut i: usize = 0;
-    while i < many {
+    for _ in 0..many {
         let figure = next_figure(bytes, next);
         next = figure.next;
         word = marked(word, figure.value);
-        i += 1;
     }
     word
 }
@@ -136,10 +119,9 @@ fn read_plan(bytes: &[u8]) -> PlanAnswer
     let number = next_figure(bytes, 0);
     let trials = next_figure(bytes, number.next);
     let filled = next_figure(bytes, trials.next);
-    let places = read_places(bytes, filled.next, at_most(filled.value));
-    let rows = next_figure(bytes, places.next);
+    let Places { order, next } = read_places(bytes, filled.next, at_most(filled.value));
+    let rows = next_figure(bytes, next);
     let left = read_rows(bytes, rows.next, at_most(rows.value));
-    let order = places.order;
     PlanAnswer {
         number: number.value,
         left,
@@ -152,44 +134,25 @@ fn read_plan(bytes: &[u8]) -> PlanAnswer
 fn has_minus(bytes: &[u8]) -> bool
     ensures { result ≡ not (eqb (count 45 bytes.now) 0) }
 {
-    let mut i: usize = 0;
-    while i < bytes.len() {
-        if bytes[i] == b'-' {
-            return true;
-        }
-        i += 1;
-    }
-    false
+    bytes.contains(&b'-')
 }
 
 // The byte at which yes or no begins, 0 if there are not so many.
 fn letter(bytes: &[u8]) -> u8
     ensures { result ≡ get_or bytes.now 15 0 }
 {
-    if bytes.len() <= 15 {
-        return 0;
-    }
-    bytes[15]
+    bytes.get(15).copied().unwrap_or(0)
 }
 
 // The slack of this size in slots, below 0 or not.
 fn slack_of(minus: bool, size: u32) -> i32
     ensures { result ≡ slack_of minus size }
 {
-    if !minus {
-        if size < 2147483647 {
-            return size as i32;
-        }
-        return 2147483647;
+    if minus {
+        -(size.min(2147483648) as i64) as i32
+    } else {
+        size.min(2147483647) as i32
     }
-    if size == 0 {
-        return 0;
-    }
-    if size < 2147483648 {
-        let above = (size - 1) as i32;
-        return -1 - above;
-    }
-    -2147483648
 }
 
 // A judge's answer with this yes or no, and the other fields from a byte on.
@@ -197,49 +160,39 @@ fn judge_from(bytes: &[u8], from: usize, yes: u32) -> JudgeAnswer
     requires { from ≤ length bytes.now }
     ensures { result ≡ judge_from (not (eqb (count 45 bytes.now) 0)) yes (figures_in (drop from bytes.now)) }
 {
-    let minus = has_minus(bytes);
     let number = next_figure(bytes, from);
     let row = next_figure(bytes, number.next);
     let size = next_figure(bytes, row.next);
-    let slack = slack_of(minus, size.value);
     JudgeAnswer {
         number: number.value,
         yes,
         row: row.value,
-        slack,
+        slack: slack_of(has_minus(bytes), size.value),
     }
 }
 
 // The judge's answer in the bytes.
+#[tactic(auto, unfolding(sentences::specs::Reading::judge_in))]
 fn read_judge(bytes: &[u8]) -> JudgeAnswer
     ensures { result ≡ judge_in bytes.now }
 {
-    let begins = letter(bytes);
-    if begins == b'y' {
-        return judge_from(bytes, 0, 1);
+    match letter(bytes) {
+        b'y' => judge_from(bytes, 0, 1),
+        b'n' => judge_from(bytes, 0, 0),
+        _ => {
+            let yes = next_figure(bytes, 0);
+            judge_from(bytes, yes.next, yes.value)
+        }
     }
-    if begins == b'n' {
-        return judge_from(bytes, 0, 0);
-    }
-    let yes = next_figure(bytes, 0);
-    judge_from(bytes, yes.next, yes.value)
 }
 
-// The same bytes.
-fn same(first: &[u8], second: &[u8]) -> bool
-    ensures { result ≡ same first.now second.now }
+// The bytes are the first so many of those that were made.
+#[tactic(auto, using(crate::specs::Walks::pointwise_same))]
+fn are_made(bytes: &[u8], made: &[u8], size: u32) -> bool
+    requires { size ≤ length made.now }
+    ensures { result ≡ same bytes.now (take size made.now) }
 {
-    if first.len() != second.len() {
-        return false;
-    }
-    let mut i: usize = 0;
-    while i < first.len() {
-        if first[i] != second[i] {
-            return false;
-        }
-        i += 1;
-    }
-    true
+    bytes == &made[..size as usize]
 }
 
 // The bytes are the sentence of this planner's answer.
@@ -249,8 +202,7 @@ fn is_plan(bytes: &[u8], answer: PlanAnswer) -> bool
 {
     let mut made = [0u8; composer::LONGEST];
     let writing = composer::plan_sentence(answer, &mut made);
-    let size = writing.size as usize;
-    same(bytes, &made[..size])
+    are_made(bytes, &made, writing.size)
 }
 
 // The bytes are the sentence of this judge's answer.
@@ -260,19 +212,17 @@ fn is_judge(bytes: &[u8], answer: JudgeAnswer) -> bool
 {
     let mut made = [0u8; composer::LONGEST_VERDICT];
     let writing = composer::judge_sentence(answer, &mut made);
-    let size = writing.size as usize;
-    same(bytes, &made[..size])
+    are_made(bytes, &made, writing.size)
 }
 
 // A planner's answer of zeros.
 fn no_plan() -> PlanAnswer
     ensures { result ≡ no_plan }
 {
-    let order = [0u8; 64];
     PlanAnswer {
         number: 0,
         left: 0,
-        order,
+        order: [0; 64],
         trials: 0,
     }
 }
@@ -298,7 +248,7 @@ pub fn read(bytes: &[u8]) -> Told
     let plan = read_plan(bytes);
     if is_plan(bytes, plan) {
         return Told {
-            check: Check::Passed,
+            check: Ok(()),
             kind: Kind::Planner,
             plan,
             verdict: no_verdict,
@@ -307,14 +257,14 @@ pub fn read(bytes: &[u8]) -> Told
     let verdict = read_judge(bytes);
     if is_judge(bytes, verdict) {
         return Told {
-            check: Check::Passed,
+            check: Ok(()),
             kind: Kind::Judge,
             plan: no_plan,
             verdict,
         };
     }
     Told {
-        check: Check::Refused(Refusal::Malformed),
+        check: Err(Refusal::Malformed),
         kind: Kind::Neither,
         plan: no_plan,
         verdict: no_verdict,

@@ -5,6 +5,7 @@ pub mod Fewer
 pub mod Periods
 pub mod Renewing
 pub mod Trying
+pub mod Lent
 pub mod Sweeping
 pub mod Searching
 pub mod LowSearch

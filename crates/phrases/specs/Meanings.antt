@@ -31,3 +31,8 @@ module _ (number : ℕ) where
   pub meaning_none : 14 ≤ number → NoneFrom 14 7 number → meaning number ≡ bytes "a number without a meaning"
   unfolding meaning
   meaning_none l h = ap bytes (beyond meanings number (from_there 14 7 number l h))
+
+  -- the same of a number that is none of the twenty-one from 0 on
+  pub meaning_beyond : NoneFrom 0 21 number → meaning number ≡ bytes "a number without a meaning"
+  unfolding meaning
+  meaning_beyond h = ap bytes (beyond meanings number (from_there 0 21 number (omega arith) h))

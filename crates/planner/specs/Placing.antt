@@ -4,7 +4,7 @@ use Rattle.std.proofs.Common.{sym, ap, ◌∙◌, length-set, take-append-drop, 
 use native.Mathlib.Omega.{arith}
 use Rattle.std.specs.Int.Count.{ones}
 use Rattle.rules.specs.declared.Table.{Table}
-use Rattle.rules.specs.declared.Planned.TheVariants.{Ordered, NoOrder, Refused}
+use Rattle.rules.specs.Plans.{Ordered, NoOrder, Refused}
 use Rattle.rules.specs.declared.Planning.{Planning}
 use Rattle.rules.specs.declared.Refusal.{Refusal}
 use Rattle.ceiling.specs.declared.Counted.{Counted}

@@ -1,12 +1,11 @@
 -- What the planner promises of its answer, for every table, and that the planner's definition keeps it.
-use Rattle.std.specs.Prelude.{ℕ, true, ◌≡◌, refl, List, [], ◌∷◌, ◌↔◌, length}
+use Rattle.std.specs.Prelude.{ℕ, true, ◌≡◌, refl, List, [], ◌∷◌, ◌↔◌, length, Ok, Err}
 use Rattle.std.proofs.Common.{arith}
 use Rattle.rules.specs.declared.Table.{Table}
 use Rattle.rules.specs.declared.Refusal.{Refusal}
 use Rattle.rules.specs.declared.Refusal.TheVariants.{Length, Malformed, RowCount, Speeds, RowLimits, NotAnOrder, ClockOver, Unsound, NoRoom, Loading, Promised, NotLower, ReleasedLater, FollowsLow, NotCorrect, RowOpen, ReleasedBefore, TrialsOver, TooManyRows}
-use Rattle.rules.specs.declared.Check.{Check}
-use Rattle.rules.specs.declared.Check.TheVariants.{Passed, Refused}
 use Rattle.rules.specs.declared.Planning.{Planning}
+use Rattle.rules.specs.Checks.{Check, Refused}
 use Rattle.rules.specs.Tables.{check_table, Accepted}
 use Rattle.rules.specs.Orders.{is_order}
 use Rattle.rules.specs.Correct.{Correct, CorrectOrder}
@@ -104,8 +103,8 @@ refused t why e =
     }
 
 checked : (t : Table) (c : Check) → check_table t ≡ c → Promise t (plan_checked c t)
-checked t Passed e = chosen t e
-checked t (Refused why) e = refused t why e
+checked t (Ok tt) e = chosen t e
+checked t (Err why) e = refused t why e
 
 -- the planner's answer keeps the promise
 promise : (t : Table) → Promise t (plan_of t)

@@ -1,13 +1,12 @@
 -- What asking proposes is refused for the record alone (rule 22.6): its table is accepted, and its order passes check 6 and is correct.
-use Rattle.std.specs.Prelude.{ℕ, true, List, ◌≡◌}
+use Rattle.std.specs.Prelude.{ℕ, true, List, ◌≡◌, Ok, Err}
 use Rattle.std.proofs.Common.{inl, inr, arith}
 use Rattle.std.proofs.Math.Path.{refl}
 use Rattle.rules.specs.declared.Table.{Table}
-use Rattle.rules.specs.declared.Check.{Check}
-use Rattle.rules.specs.declared.Check.TheVariants as Checks
-use Rattle.rules.specs.declared.Planned.{Planned}
+use Rattle.rules.specs.Plans.{Planned}
 use Rattle.rules.specs.declared.Planning.{Planning}
-use Rattle.rules.specs.declared.Planned.TheVariants as Plans
+use Rattle.rules.specs.declared.Plan.TheVariants as Plan
+use Rattle.rules.specs.Checks.{Check, Passed}
 use Rattle.record.specs.declared.Run.{Run}
 use Rattle.rules.specs.Choice.{plan_of}
 use Rattle.rules.specs.Judge.{judge_of}
@@ -33,17 +32,17 @@ planned_accepted t z = by_check (check_table t) (λ e. e) (λ w e. absurd ((refu
 planned_good : (t : Table) (a : Planned) → (plan_of t).answer ≡ a → planned_number (ask_planned a t (plan_of t).order).answer ≡ 0
     → Good (ask_planned a t (plan_of t).order).table (ask_planned a t (plan_of t).order).order
 unfolding planned_number
-planned_good t Plans.Ordered e z =
+planned_good t (Ok Plan.Ordered) e z =
     let zero : planned_number (plan_of t).answer ≡ 0 = rw e in
     let p = (promised t (plan_of t) refl).right zero in
     record { accepted = planned_accepted t zero; passes = p.0; correct = p.1 }
-planned_good t (Plans.NoOrder left) e z = absurd (omega arith)
-planned_good t (Plans.Refused w) e z = absurd ((refusal_number_lem w).0 z)
+planned_good t (Ok (Plan.NoOrder left)) e z = absurd (omega arith)
+planned_good t (Err w) e z = absurd ((refusal_number_lem w).0 z)
 
 read_good : (c : Check) (t : Table) → planned_number (ask_read c t).answer ≡ 0 → Good (ask_read c t).table (ask_read c t).order
 unfolding planned_number
-read_good Checks.Passed t z = planned_good t (plan_of t).answer refl z
-read_good (Checks.Refused w) t z = absurd ((refusal_number_lem w).0 z)
+read_good (Ok tt) t z = planned_good t (plan_of t).answer refl z
+read_good (Err w) t z = absurd ((refusal_number_lem w).0 z)
 
 pub asked_good : (bytes : List ℕ) → planned_number (ask_of bytes).answer ≡ 0 → Good (ask_of bytes).table (ask_of bytes).order
 unfolding ask_of
@@ -53,10 +52,10 @@ module _ (bytes : List ℕ) where
   abbrev p : Planning
   p = plan_of (read_of bytes).table
 
-  planned_answered : (read_of bytes).check ≡ Checks.Passed → (a : Planned) → a ≡ p.answer → Answered bytes (ask_planned a (read_of bytes).table p.order)
+  planned_answered : (read_of bytes).check ≡ Passed → (a : Planned) → a ≡ p.answer → Answered bytes (ask_planned a (read_of bytes).table p.order)
   unfolding planned_number rows_left check_number
-  planned_answered c Plans.Ordered e = record { reader = λ n. absurd (n (rw c)); planner = λ _. e; made = λ z. refl; read = λ z. refl; none = λ n. absurd (n refl); left = λ n. refl }
-  planned_answered c (Plans.NoOrder left) e =
+  planned_answered c (Ok Plan.Ordered) e = record { reader = λ n. absurd (n (rw c)); planner = λ _. e; made = λ z. refl; read = λ z. refl; none = λ n. absurd (n refl); left = λ n. refl }
+  planned_answered c (Ok (Plan.NoOrder left)) e =
       record {
         reader = λ n. absurd (n (rw c));
         planner = λ _. e;
@@ -65,7 +64,7 @@ module _ (bytes : List ℕ) where
         none = λ n. (refl, refl);
         left = λ n. absurd (n refl);
       }
-  planned_answered c (Plans.Refused w) e =
+  planned_answered c (Err w) e =
       record {
         reader = λ n. absurd (n (rw c));
         planner = λ _. e;
@@ -77,8 +76,8 @@ module _ (bytes : List ℕ) where
 
   read_answered : (c : Check) → (read_of bytes).check ≡ c → Answered bytes (ask_read c (read_of bytes).table)
   unfolding planned_number rows_left check_number
-  read_answered Checks.Passed e = planned_answered e p.answer refl
-  read_answered (Checks.Refused w) e =
+  read_answered (Ok tt) e = planned_answered e p.answer refl
+  read_answered (Err w) e =
       record {
         reader = λ n. rw e;
         planner = λ z. absurd ((refusal_number_lem w).0 (rw e at z));
@@ -95,7 +94,7 @@ module _ (bytes : List ℕ) where
 pub good_commits : (t : Table) (o : List ℕ) → Good t o → (r : Run) → ForTheRecord (check_number (commit_of r t o).check)
 unfolding commit_of check_commit check_proposal check_turn check_number refusal_number
 good_commits t o g r =
-    let both : check_both t o ≡ Checks.Passed = both_pass t o g.accepted g.passes in
+    let both : check_both t o ≡ Passed = both_pass t o g.accepted g.passes in
     let yes : verdict_yes (judge_of t o) ≡ true = (exactly t o both).1 g.correct in
     by_bool (is_sound r)
     (λ a. by_bool (all_closed r.table (state_of r))

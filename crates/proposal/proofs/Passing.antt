@@ -1,5 +1,5 @@
 -- What is known where the checks of a commit passed (rules 10.16 to 10.18, 11.10), and that they never answer 9 but for the record.
-use Rattle.std.specs.Prelude.{ℕ, ◌≤◌, ◌<◌, min, Bool, true, false, cond, ◌&&◌, ◌≡◌, eqb, ltb}
+use Rattle.std.specs.Prelude.{ℕ, ◌≤◌, ◌<◌, min, Bool, true, false, cond, ◌&&◌, ◌≡◌, eqb, ltb, Ok, Err}
 use Rattle.std.proofs.Math.Bool.{not}
 use mathlib.Core.List.{List, [], ◌∷◌}
 use Rattle.std.proofs.Math.Path.{refl}
@@ -9,8 +9,7 @@ use borrow.Author.Tests.{leb-true, eqb-false, ne_eqb, le-leb}
 use Rattle.rules.specs.declared.Table.{Table}
 use Rattle.rules.specs.declared.Refusal.{Refusal}
 use Rattle.rules.specs.declared.Refusal.TheVariants.{NotAnOrder, NotLower, ReleasedLater, FollowsLow, NotCorrect, RowOpen, ReleasedBefore}
-use Rattle.rules.specs.declared.Check.{Check}
-use Rattle.rules.specs.declared.Check.TheVariants.{Passed, Refused}
+use Rattle.rules.specs.Checks.{Check, Passed, Refused}
 use Rattle.rules.specs.Correct.{Correct, earliest}
 use Rattle.rules.specs.Judge.{judge_of}
 use Rattle.rules.specs.Lists.{all, least}
@@ -31,8 +30,8 @@ use Rattle.proposal.specs.Passing.{Turned}
 
 -- a check's answer: it passed, or was refused
 pub by_check : {P : Type 0} (c : Check) → (c ≡ Passed → P) → ((w : Refusal) → c ≡ Refused w → P) → P
-by_check Passed f g = f refl
-by_check (Refused w) f g = g w refl
+by_check (Ok tt) f g = f refl
+by_check (Err w) f g = g w refl
 
 -- no check is both
 pub refused_not : {P : Type 0} (w : Refusal) → Refused w ≡ Passed → P
@@ -146,8 +145,8 @@ either true c d p q = p
 either false c d p q = q
 
 both_then : (c d : Check) → NotNine c → NotNine d → NotNine (and_then c d)
-both_then Passed d p q = q
-both_then (Refused w) d p q = p
+both_then (Ok tt) d p q = q
+both_then (Err w) d p q = p
 
 -- the checks of a table and of an order, and 16 to 18, answer other numbers
 module _ (t : Table) where

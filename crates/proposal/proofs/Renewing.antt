@@ -3,7 +3,7 @@ use Rattle.std.specs.Prelude.{ℕ, ◌≤◌, true, List, ◌≡◌}
 use Rattle.std.proofs.Common.{arith}
 use Rattle.rules.specs.declared.Table.{Table}
 use Rattle.rules.specs.declared.Refusal.TheVariants.{Unsound}
-use Rattle.rules.specs.declared.Check.TheVariants.{Passed}
+use Rattle.rules.specs.Checks.{Passed}
 use Rattle.record.specs.declared.Run.{Run}
 use Rattle.rules.specs.Rows.{at, work_of, deadline_of, promised_of}
 use Rattle.theory.specs.Facts.{Row, is_row_lem}

@@ -1,8 +1,7 @@
 -- Lists in which commits stand among the run calls, on paper (rule 22.9): they see the sheet in hand and the calls, and no record (rule 9.6).
-use Rattle.std.specs.Prelude.{ℕ, List, [], ◌∷◌}
+use Rattle.std.specs.Prelude.{ℕ, List, [], ◌∷◌, Ok, Err}
 use Rattle.rules.specs.declared.Table.{Table}
-use Rattle.rules.specs.declared.Check.{Check}
-use Rattle.rules.specs.declared.Check.TheVariants.{Passed, Refused}
+use Rattle.rules.specs.Checks.{Check}
 use Rattle.rules.specs.Calls.{Call, Said, tell}
 use Rattle.rules.specs.Numbers.{check_number}
 use Rattle.proposal.specs.Proposals.{check_proposal}
@@ -30,8 +29,8 @@ pub record ActTold : Type 0 where
 
 -- By what its checks answer, a commit has taken the sheet in hand away, at the clock that it shows, or has changed nothing (rules 22.4, 22.5).
 abbrev pub hand_after : Check → Table → List ℕ → InHand → InHand
-hand_after Passed p o h = begun p o h.state.clock
-hand_after (Refused r) p o h = h
+hand_after (Ok tt) p o h = begun p o h.state.clock
+hand_after (Err r) p o h = h
 
 -- a run call or a commit on paper (rules 9.7, 9.8, 22.9)
 abbrev pub tell_act : Act → InHand → ActTold

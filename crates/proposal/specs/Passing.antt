@@ -2,7 +2,7 @@
 use Rattle.std.specs.Prelude.{ℕ, ◌≤◌, true, ◌≡◌}
 use mathlib.Core.List.{List}
 use Rattle.rules.specs.declared.Table.{Table}
-use Rattle.rules.specs.declared.Check.TheVariants.{Passed}
+use Rattle.rules.specs.Checks.{Passed}
 use Rattle.rules.specs.Correct.{Correct, earliest}
 use Rattle.rules.specs.Orders.{check_both}
 use Rattle.rules.specs.Rows.{at, is_row}

@@ -1,11 +1,11 @@
 -- A new sheet while plotting (section 22 of the rules): what asking answers, and the checks of a commit after 9. No record is among the arguments.
-use Rattle.std.specs.Prelude.{ℕ, Bool, cond, not, List, eqb, leb, replicate}
+use Rattle.std.specs.Prelude.{ℕ, Bool, cond, not, List, eqb, leb, replicate, Ok, Err}
 use Rattle.rules.specs.declared.Table.{Table}
 use Rattle.rules.specs.declared.Refusal.TheVariants.{NotCorrect, RowOpen, ReleasedBefore}
-use Rattle.rules.specs.declared.Check.{Check}
-use Rattle.rules.specs.declared.Check.TheVariants as Checks
-use Rattle.rules.specs.declared.Planned.{Planned}
-use Rattle.rules.specs.declared.Planned.TheVariants as Plans
+use Rattle.rules.specs.Plans.{Planned}
+use Rattle.rules.specs.Plans as Plans
+use Rattle.rules.specs.declared.Plan.TheVariants as Plan
+use Rattle.rules.specs.Checks.{Check, Passed, Refused}
 use Rattle.proposal.specs.declared.Asking.{Asking}
 use Rattle.rules.specs.Choice.{plan_of}
 use Rattle.rules.specs.Judge.{judge_of}
@@ -23,14 +23,14 @@ nothing_asked answer = record { answer = answer; table = zero_table; order = rep
 
 -- what the planner answers of a table, with the table itself where an order was made (rule 22.2)
 abbrev pub ask_planned : Planned → Table → List ℕ → Asking
-ask_planned Plans.Ordered t o = record { answer = Plans.Ordered; table = t; order = o }
-ask_planned (Plans.NoOrder left) t o = nothing_asked (Plans.NoOrder left)
-ask_planned (Plans.Refused r) t o = nothing_asked (Plans.Refused r)
+ask_planned (Ok Plan.Ordered) t o = record { answer = Plans.Ordered; table = t; order = o }
+ask_planned (Ok (Plan.NoOrder left)) t o = nothing_asked (Plans.NoOrder left)
+ask_planned (Err r) t o = nothing_asked (Plans.Refused r)
 
 -- by what the reader answers: its refusal, or the planner's answer for the table that was read (rule 22.2)
 abbrev pub ask_read : Check → Table → Asking
-ask_read Checks.Passed t = ask_planned (plan_of t).answer t (plan_of t).order
-ask_read (Checks.Refused r) t = nothing_asked (Plans.Refused r)
+ask_read (Ok tt) t = ask_planned (plan_of t).answer t (plan_of t).order
+ask_read (Err r) t = nothing_asked (Plans.Refused r)
 
 -- what asking answers for any bytes (rules 11.9, 22.2)
 unfoldable pub ask_of : List ℕ → Asking
@@ -50,9 +50,9 @@ unfoldable pub check_turn : Table → State → Table → List ℕ → Check
 check_turn t s p o =
     cond (verdict_yes (judge_of p o))
     (cond (all_closed t s)
-    (cond (released_from p s.clock) Checks.Passed (Checks.Refused ReleasedBefore))
-    (Checks.Refused RowOpen))
-    (Checks.Refused NotCorrect)
+    (cond (released_from p s.clock) Passed (Refused ReleasedBefore))
+    (Refused RowOpen))
+    (Refused NotCorrect)
 
 -- all checks of a commit but 9: the proposal's table and order first, then 16, 17 and 18 (rule 11.10)
 unfoldable pub check_proposal : Table → State → Table → List ℕ → Check

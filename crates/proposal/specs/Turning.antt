@@ -1,9 +1,11 @@
 -- The tests of the code and those of the definition: a row is closed just if its closing slot is at least 1.
-use Rattle.std.specs.Prelude.{ℕ, ◌+◌, ◌-◌, ◌≤◌, ◌<◌, Bool, true, false, not, List, ◌≡◌, refl, eqb, leb, get_or}
+use Rattle.std.specs.Prelude.{ℕ, zero, suc, ◌+◌, ◌-◌, ◌≤◌, ◌<◌, Bool, true, false, not, List, [], ◌∷◌, ◌≡◌, refl, eqb, leb, length, get_or, take}
 use Rattle.std.proofs.Common.{ap, arith, le-leb}
+use Rattle.std.proofs.Math.Seq.{take-suc}
 use Rattle.std.proofs.lemmas.Bool.{lt-leb}
 use Rattle.rules.specs.declared.Table.{Table}
-use Rattle.rules.specs.Lists.{all}
+use Rattle.rules.specs.Lists.{all, rows_to}
+use Rattle.checks.specs.RowLists.{all_append}
 use Rattle.proposal.specs.Proposals.{all_closed, released_from}
 use Rattle.rules.specs.Rows.{at, rows_of}
 use Rattle.rules.specs.Slots.{State}
@@ -24,6 +26,20 @@ closed_least t s = all_agree (reaches s.closing 1) (λ i. not (eqb (at s.closing
 pub released_least : (t : Table) (u : ℕ) → all (reaches t.release u) (rows_of t) ≡ released_from t u
 unfolding released_from
 released_least t u = refl
+
+-- a test of the first n entries of a column is one of the rows from 1 to n
+pub first_rows : (p : ℕ → Bool) (column : List ℕ) (n : ℕ) → n ≤ length column → all (λ i. p (at column i)) (rows_to n) ≡ all p (take n column)
+first_rows p column zero h = refl
+first_rows p column (suc k) h =
+    let e : suc k - 1 ≡ k = omega arith in
+    let here : p (at column (suc k)) ≡ p (get_or column k 0) = rw e in
+    rw (
+      all_append (λ i. p (at column i)) (rows_to k) (suc k ∷ []),
+      take-suc column k 0 h,
+      all_append p (take k column) (get_or column k 0 ∷ []),
+      first_rows p column k (omega arith),
+      here,
+    )
 
 -- row k + 1 of a column is its entry at index k
 module _ (column : List ℕ) (least k : ℕ) where

@@ -13,10 +13,10 @@ ghost use Rattle.record.specs.Records.{state_of};
 ghost use Rattle.proposal.specs.Commits.{check_commit, commit_of};
 
 use record::Run;
-use rules::{Check, Planned, Refusal, Table, Verdict};
+use rules::{Check, Plan, Planned, Planning, Refusal, Table, Verdict};
 
 // What asking answers of a sheet: the reader's refusal, or what the planner answers of its table; and the table and the order proposed, both
-// all zero unless an order was made (rule 22.2).
+// all zero unless an order was made (rule 22.2). No `Result`, since the zeros are promised.
 #[derive(Clone, Copy)]
 pub struct Asking {
     pub answer: Planned,
@@ -31,7 +31,8 @@ pub struct Proposal {
     pub order: [u8; 64],
 }
 
-// The answer of a commit's checks, and the record after it (rules 22.4, 22.5).
+// The answer of a commit's checks, and the record after it (rules 22.4, 22.5), which a refusal hands back too. Beside the
+// fresh record's answer, since each is that of a rule of its own.
 #[derive(Clone, Copy)]
 pub struct Committed {
     pub check: Check,
@@ -42,12 +43,10 @@ pub struct Committed {
 fn nothing(answer: Planned) -> Asking
     ensures { result ≡ nothing_asked answer }
 {
-    let table = record::zero_table();
-    let order = [0u8; 64];
     Asking {
-        answer: answer,
-        table: table,
-        order: order,
+        answer,
+        table: record::zero_table(),
+        order: [0; 64],
     }
 }
 
@@ -55,17 +54,14 @@ fn nothing(answer: Planned) -> Asking
 fn planned(table: Table) -> Asking
     ensures { result ≡ ask_planned (plan_of table).answer table (plan_of table).order }
 {
-    let planning = planner::plan(table);
-    let answer = planning.answer;
-    let order = planning.order;
+    let Planning { answer, order } = planner::plan(table);
     match answer {
-        Planned::Ordered => Asking {
-            answer: Planned::Ordered,
-            table: table,
-            order: order,
+        Ok(Plan::Ordered) => Asking {
+            answer,
+            table,
+            order,
         },
-        Planned::NoOrder(left) => nothing(Planned::NoOrder(left)),
-        Planned::Refused(why) => nothing(Planned::Refused(why)),
+        Ok(Plan::NoOrder(_)) | Err(_) => nothing(answer),
     }
 }
 
@@ -74,11 +70,9 @@ pub fn ask(sheet: &[u8]) -> Asking
     ensures { result ≡ ask_of sheet.now }
 {
     let reading = sheet::read(sheet);
-    let check = reading.check;
-    let table = reading.table;
-    match check {
-        Check::Refused(why) => nothing(Planned::Refused(why)),
-        Check::Passed => planned(table),
+    match reading.check {
+        Err(why) => nothing(Err(why)),
+        Ok(()) => planned(reading.table),
     }
 }
 
@@ -87,103 +81,66 @@ fn at_least(n: u32, least: u32, column: &[u32; 64]) -> bool
     requires { n ≤ 64 }
     ensures { result ≡ all (λ i. leb least (at column.now i)) (rows_to n) }
 {
-    let mut k: u32 = 0;
-    while k < n {
-        if column[k as usize] < least {
-            return false;
-        }
-        k = k + 1;
-    }
-    true
+    column
+        .iter()
+        .take(n as usize)
+        .all(|figure| least <= *figure)
 }
 
 // Whether the judge says yes to an order of a table (rule 10.16).
+#[tactic(auto, unfolding(rules::specs::Numbers::verdict_yes))]
 fn is_correct(table: Table, order: [u8; 64]) -> bool
     ensures { result ≡ verdict_yes (judge_of table order) }
 {
     let verdict = judge::judge_table(table, order);
-    match verdict {
-        Verdict::Correct { row: _, slack: _ } => true,
-        Verdict::Incorrect { row: _, slack: _ } => false,
-        Verdict::Refused(_) => false,
-    }
+    matches!(verdict, Ok(Verdict::Correct { .. }))
 }
 
 // 16, 17 and 18, in this order (rule 11.10): the order is correct, every row of the record is closed, no row proposed is released before its clock.
-fn check_turn(run: Run, table: Table, order: [u8; 64]) -> Check
-    requires { (run.table.n ≤ 64) × (table.n ≤ 64) }
-    ensures { result ≡ check_turn run.table (state_of run) table order }
+fn check_turn(run: &Run, proposal: &Proposal) -> Check
+    requires { (run.now.table.n ≤ 64) × (proposal.now.table.n ≤ 64) }
+    ensures { result ≡ check_turn run.now.table (state_of run.now) proposal.now.table proposal.now.order }
 {
-    if !is_correct(table, order) {
-        return Check::Refused(Refusal::NotCorrect);
+    if !is_correct(proposal.table, proposal.order) {
+        return Err(Refusal::NotCorrect);
     }
-    let rows = run.table.n;
-    if !at_least(rows, 1, &run.closing) {
-        return Check::Refused(Refusal::RowOpen);
+    if !at_least(run.table.n, 1, &run.closing) {
+        return Err(Refusal::RowOpen);
     }
-    let n = table.n;
-    let clock = run.clock;
-    if !at_least(n, clock, &table.release) {
-        return Check::Refused(Refusal::ReleasedBefore);
+    if !at_least(proposal.table.n, run.clock, &proposal.table.release) {
+        return Err(Refusal::ReleasedBefore);
     }
-    Check::Passed
+    Ok(())
 }
 
 // All checks of a commit (rule 11.10): 9 for the record, then those of the proposal.
-fn check_commit(run: Run, proposal: Proposal) -> Check
-    ensures { result ≡ check_commit run proposal.table proposal.order }
+fn check_commit(run: &Run, proposal: &Proposal) -> Check
+    ensures { result ≡ check_commit run.now proposal.now.table proposal.now.order }
 {
     if !record::is_sound(run) {
-        return Check::Refused(Refusal::Unsound);
+        return Err(Refusal::Unsound);
     }
-    let table = proposal.table;
-    let order = proposal.order;
-    let check = checks::check_both(table, order);
-    match check {
-        Check::Refused(why) => Check::Refused(why),
-        Check::Passed => check_turn(run, table, order),
-    }
+    checks::check_both(&proposal.table, proposal.order)?;
+    check_turn(run, proposal)
 }
 
-// The record after a commit (rules 22.3 to 22.5): with the table and the order proposed, at the clock that it had and with every row open and empty, or on a
-// refusal the record as it was.
-fn renewed(run: Run, proposal: Proposal) -> Committed
-    ensures { result ≡ commit_of run proposal.table proposal.order }
-{
-    let check = check_commit(run, proposal);
-    match check {
-        Check::Refused(why) => Committed {
-            check: Check::Refused(why),
-            run: run,
-        },
-        Check::Passed => {
-            let table = proposal.table;
-            let order = proposal.order;
-            let clock = run.clock;
-            let next = record::start(table, order, clock);
-            Committed {
-                check: Check::Passed,
-                run: next,
-            }
-        }
-    }
-}
-
-// A commit on a lent record, which is changed where it is (rule 22.3).
+// A commit on a lent record, which is changed where it is (rules 22.3 to 22.5): it has the table and the order proposed, at the clock that it had and with
+// every row open and empty; on a refusal the record is as it was.
 pub fn commit(run: &mut Run, proposal: Proposal) -> Check
     ensures { (result ≡ (commit_of run.old proposal.table proposal.order).check)
         × (run.new ≡ (commit_of run.old proposal.table proposal.order).run) }
 {
-    let c = renewed(*run, proposal);
-    *run = c.run;
-    c.check
+    check_commit(run, &proposal)?;
+    let clock = run.clock;
+    let next = record::start(proposal.table, proposal.order, clock);
+    *run = next;
+    Ok(())
 }
 
-// A commit for callers that hold the record by value: it is lent to `commit` and handed back with the answer.
-pub fn commit_held(run: Run, proposal: Proposal) -> Committed
+// A commit for callers that hold the record by value: it is lent to `commit` and handed back with the answer. Rule 22.3 has both forms.
+pub fn commit_held(mut run: Run, proposal: Proposal) -> Committed
     ensures { result ≡ commit_of run proposal.table proposal.order }
 {
-    let mut lent = run;
-    let check = commit(&mut lent, proposal);
-    Committed { check, run: lent }
+    let check = commit(&mut run, proposal);
+    Committed { check, run }
 }

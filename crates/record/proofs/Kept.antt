@@ -9,7 +9,7 @@ use Rattle.rules.specs.Rows.{at, work_of, deadline_of, promised_of}
 use Rattle.rules.specs.Running.{close_late}
 use Rattle.rules.specs.Slots.{brought}
 use Rattle.record.specs.declared.Run.{Run}
-use Rattle.record.specs.declared.SlotAnswer.TheVariants as Slots
+use Rattle.record.specs.SlotAnswers as Slots
 use Rattle.record.specs.declared.ForwardAnswer.TheVariants as Forwards
 use Rattle.record.specs.Records.{state_of, record_of, tail_sound, is_sound, next_run, worked_run, closed_run, chosen_row, work_on, one_slot, forward_over}
 use Rattle.theory.specs.Facts.{both_order}

@@ -5,7 +5,7 @@ use Rattle.std.proofs.Common.{◌∙◌, arith}
 use borrow.Author.Tests.{leb-true, le-leb}
 use Rattle.rules.specs.Calls.{last_clock}
 use Rattle.rules.specs.Lists.{all, first}
-use Rattle.rules.specs.Rows.{at, rows_of}
+use Rattle.rules.specs.Rows.{rows_of}
 use Rattle.rules.specs.Tables.{passed}
 use Rattle.rules.specs.Orders.{check_both}
 use Rattle.rules.specs.Slots.{is_pending, is_over}

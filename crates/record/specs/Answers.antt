@@ -1,6 +1,6 @@
 -- The number and the value of every case of the run calls' answers (rules 10.0, 10.8, 10.9).
-use Rattle.record.specs.declared.SlotAnswer.{SlotAnswer}
-use Rattle.record.specs.declared.SlotAnswer.TheVariants as Slots
+use Rattle.std.specs.Prelude.{Ok, Err}
+use Rattle.record.specs.SlotAnswers.{SlotAnswer}
 use Rattle.record.specs.declared.ForwardAnswer.{ForwardAnswer}
 use Rattle.record.specs.declared.ForwardAnswer.TheVariants as Forwards
 use Rattle.rules.specs.Calls.{Said}
@@ -10,8 +10,8 @@ use Rattle.rules.specs.Numbers.{refusal_number}
 -- 10.8, 10.9).
 unfoldable pub slot_said : SlotAnswer → Said
 unfolding refusal_number
-slot_said (Slots.Worked row) = record { number = 0; value = row }
-slot_said (Slots.Refused r) = record { number = refusal_number r; value = 0 }
+slot_said (Ok row) = record { number = 0; value = row }
+slot_said (Err r) = record { number = refusal_number r; value = 0 }
 
 -- Forward: 0 with the slots worked (rule 8.10); 8 with those worked up to the refused supply (rules 8.13, 10.8); 9 with none (rules 8.14,
 -- 10.9).

@@ -1,9 +1,8 @@
 -- What is known of a table and an order that passed their checks (rules 5.5, 5.7).
-use Rattle.std.specs.Prelude.{ℕ, ◌≤◌, true, List, ◌≡◌, refl}
+use Rattle.std.specs.Prelude.{ℕ, ◌≤◌, true, List, ◌≡◌, refl, Ok, Err}
 use Rattle.std.proofs.Common.{arith}
 use Rattle.rules.specs.declared.Table.{Table}
-use Rattle.rules.specs.declared.Check.{Check}
-use Rattle.rules.specs.declared.Check.TheVariants.{Passed, Refused}
+use Rattle.rules.specs.Checks.{Check, Passed}
 use Rattle.rules.specs.Rows.{work_of}
 use Rattle.rules.specs.Tables.{passed}
 use Rattle.rules.specs.Orders.{check_both}
@@ -11,8 +10,8 @@ use Rattle.theory.specs.Facts.{TableFacts, facts, both_accepted, both_order}
 use Rattle.columns.specs.Places.{Placed, placed}
 
 pub passed_true : (c : Check) → passed c ≡ true → c ≡ Passed
-passed_true Passed e = refl
-passed_true (Refused r) e = let z : ◌≡◌ {A = ℕ} 0 1 = cc in absurd (omega arith)
+passed_true (Ok tt) e = refl
+passed_true (Err r) e = let z : ◌≡◌ {A = ℕ} 0 1 = cc in absurd (omega arith)
 
 module _ (t : Table) (o : List ℕ) (e : check_both t o ≡ Passed) where
   pub limits : TableFacts t

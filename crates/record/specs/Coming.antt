@@ -8,8 +8,7 @@ use Rattle.rules.specs.declared.Refusal.TheVariants.{ClockOver, Unsound}
 use Rattle.rules.specs.Calls.{last_clock}
 use Rattle.theory.specs.Tests.{by_bool}
 use Rattle.record.specs.declared.Run.{Run}
-use Rattle.record.specs.declared.SlotAnswer.{SlotAnswer}
-use Rattle.record.specs.declared.SlotAnswer.TheVariants.{Worked, Refused}
+use Rattle.record.specs.SlotAnswers.{SlotAnswer, Worked, Refused}
 use Rattle.record.specs.declared.Stepped.{Stepped}
 use Rattle.record.specs.Records.{is_sound, chosen_row, next_run, coming_slot, one_slot}
 

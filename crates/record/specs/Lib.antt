@@ -1,3 +1,4 @@
+pub mod SlotAnswers
 pub mod Records
 pub mod Answers
 pub mod RecordCases

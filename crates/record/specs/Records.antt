@@ -1,15 +1,14 @@
 -- Run records (rule 8.1): which of them are sound (rules 8.3 to 8.8), the fresh record (rule 8.2), one slot (rule 8.9), forward (rule 8.10)
 -- and the coming slot (rule 8.15). What a slot does is not said here once more: it is `run_slot` of the rules, on the state held (rules 9.16,
 -- 19.2), and its two halves are `slot` and `close_late`.
-use Rattle.std.specs.Prelude.{ℕ, ◌+◌, Bool, cond, not, ◌&&◌, ◌||◌, List, [], ◌∷◌, eqb, ltb, leb, drop, replicate}
+use Rattle.std.specs.Prelude.{ℕ, ◌+◌, Bool, cond, not, ◌&&◌, ◌||◌, List, [], ◌∷◌, eqb, ltb, leb, drop, replicate, Ok, Err}
 use Rattle.rules.specs.declared.Table.{Table}
 use Rattle.record.specs.declared.Run.{Run}
 use Rattle.rules.specs.declared.Refusal.TheVariants as Refusals
-use Rattle.rules.specs.declared.Check.{Check}
-use Rattle.rules.specs.declared.Check.TheVariants as Checks
+use Rattle.rules.specs.Checks.{Check, Passed, Refused}
 use Rattle.record.specs.declared.FreshRun.{FreshRun}
-use Rattle.record.specs.declared.SlotAnswer.{SlotAnswer}
-use Rattle.record.specs.declared.SlotAnswer.TheVariants as Slots
+use Rattle.record.specs.SlotAnswers.{SlotAnswer}
+use Rattle.record.specs.SlotAnswers as Slots
 use Rattle.record.specs.declared.Stepped.{Stepped}
 use Rattle.record.specs.declared.ForwardAnswer.TheVariants as Forwards
 use Rattle.record.specs.declared.Forwarded.{Forwarded}
@@ -65,8 +64,8 @@ fresh_run t o = record_of t o fresh
 
 -- by what the checks of table and order answer: that record, or on a refusal the record of zeros (rule 8.2)
 abbrev pub fresh_checked : Check → Table → List ℕ → FreshRun
-fresh_checked Checks.Passed t o = record { check = Checks.Passed; run = fresh_run t o }
-fresh_checked (Checks.Refused r) t o = record { check = Checks.Refused r; run = fresh_run zero_table (replicate 64 0) }
+fresh_checked (Ok tt) t o = record { check = Passed; run = fresh_run t o }
+fresh_checked (Err r) t o = record { check = Refused r; run = fresh_run zero_table (replicate 64 0) }
 
 -- the fresh record of any table and any sixty-four numbers, with the answer of their checks (rules 8.2, 11.4)
 unfoldable pub fresh_of : Table → List ℕ → FreshRun

@@ -1,18 +1,16 @@
 -- What check 9 says of a sound record (rules 8.3 to 8.8), as facts, and the facts of the row that its coming slot runs (rule 2.3).
 use Rattle.std.specs.Prelude.{ℕ, ◌≤◌, Bool, true, ◌≡◌}
-use Rattle.rules.specs.declared.Check.TheVariants.{Passed}
 use Rattle.rules.specs.Calls.{last_clock}
 use Rattle.rules.specs.Rows.{at, work_of}
 use Rattle.rules.specs.Orders.{check_both}
 use Rattle.record.specs.declared.Run.{Run}
 use Rattle.record.specs.Records.{tail_sound}
-use Rattle.columns.specs.Figures.{row_sound_at}
+use Rattle.rules.specs.Checks.{Passed}
+use Rattle.columns.specs.Entries.{sound_row_in}
 
 -- row i's soundness over the record's columns
 abbrev pub sound_row : Run → ℕ → Bool
-sound_row r i =
-    let t = r.table in
-    row_sound_at t.normal t.degraded t.loading r.clock t.work t.deadline t.level t.promised r.got r.used r.closing i
+sound_row r i = sound_row_in r.table r.clock r.got r.used r.closing i
 
 -- check 9 as facts: the test `is_sound` passes exactly if they hold (`sound-so`, `is-sound`)
 pub record IsSound (r : Run) : Type 0 where

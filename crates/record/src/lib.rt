@@ -25,7 +25,8 @@ pub struct Run {
     pub closing: [u32; 64],
 }
 
-// The answer of the checks of table and order and the fresh record, which is all zero on a refusal (rule 8.2).
+// The answer of the checks of table and order and the fresh record, which is all zero on a refusal (rule 8.2): no `Result`, since
+// the zeros are promised.
 #[derive(Clone, Copy)]
 pub struct FreshRun {
     pub check: Check,
@@ -33,13 +34,9 @@ pub struct FreshRun {
 }
 
 // The answer for one slot: the row that ran, 0 for an idle slot, or a refusal (rules 8.9, 8.13, 8.14).
-#[derive(Clone, Copy)]
-pub enum SlotAnswer {
-    Worked(u8),
-    Refused(Refusal),
-}
+pub type SlotAnswer = Result<u8, Refusal>;
 
-// The answer for one slot and the record after it (rule 8.9).
+// The answer for one slot and the record after it (rule 8.9). A refusal hands the record back too, so that this is no `Result`.
 #[derive(Clone, Copy)]
 pub struct Stepped {
     pub answer: SlotAnswer,
@@ -47,7 +44,7 @@ pub struct Stepped {
 }
 
 // The answer of forward: every slot was worked, and how many; the clock was over, and how many were worked up to then; or a refusal
-// (rules 8.10, 8.13, 8.14).
+// (rules 8.10, 8.13, 8.14). Two of the three cases tell slots worked, so that no `Result` would be plainer.
 #[derive(Clone, Copy)]
 pub enum ForwardAnswer {
     Worked(u32),
@@ -55,7 +52,7 @@ pub enum ForwardAnswer {
     Refused(Refusal),
 }
 
-// The answer of forward and the record after it (rule 8.10).
+// The answer of forward and the record after it (rule 8.10), also on a refusal. Beside `Stepped`, since each is the answer of a rule of its own.
 #[derive(Clone, Copy)]
 pub struct Forwarded {
     pub answer: ForwardAnswer,
@@ -63,77 +60,45 @@ pub struct Forwarded {
 }
 
 // Whether zeros alone stand in the record's columns after row n (rule 8.8).
-fn tail_sound(r: Run) -> bool
-    ensures { result ≡ tail_sound r }
+#[tactic(auto, unfolding(crate::specs::Records::tail_sound))]
+fn tail_sound(r: &Run) -> bool
+    ensures { result ≡ tail_sound r.now }
 {
     let n = r.table.n;
-    if !checks::zero_after(n, &r.got) {
-        return false;
-    }
-    if !checks::zero_after(n, &r.used) {
-        return false;
-    }
-    checks::zero_after(n, &r.closing)
+    checks::zero_after(n, &r.got)
+        && checks::zero_after(n, &r.used)
+        && checks::zero_after(n, &r.closing)
 }
 
 // Whether the table and the order pass their checks (rule 8.4).
-fn passes(t: Table, order: [u8; 64]) -> bool
-    ensures { result ≡ passed (check_both t order) }
+fn passes(t: &Table, order: [u8; 64]) -> bool
+    ensures { result ≡ passed (check_both t.now order) }
 {
-    let check = checks::check_both(t, order);
-    match check {
-        Check::Passed => true,
-        Check::Refused(_) => false,
-    }
+    checks::check_both(t, order).is_ok()
 }
 
 // Check 9 (rule 8.3): whether the record is sound. Its table and order pass their checks (rule 8.4), its clock is at most 2,000,000 slots
 // (rule 8.5), its rows are sound (rules 8.6, 8.7), and only zeros stand after row n (rule 8.8).
-pub fn is_sound(r: Run) -> bool
-    ensures { result ≡ is_sound r }
+#[tactic(auto, unfolding(crate::specs::Records::is_sound, crate::specs::Records::row_sound, columns::specs::Figures::sound_at, rules::specs::Slots::is_over, columns::specs::Figures::over))]
+pub fn is_sound(r: &Run) -> bool
+    ensures { result ≡ is_sound r.now }
 {
-    let table = r.table;
-    let order = r.order;
-    if !passes(table, order) {
-        return false;
-    }
-    let clock = r.clock;
-    if LAST_CLOCK < clock {
-        return false;
-    }
-    let n = table.n;
-    let normal = table.normal;
-    let degraded = table.degraded;
-    let loading = table.loading;
-    if !columns::rows_sound(
-        n,
-        normal,
-        degraded,
-        loading,
-        clock,
-        &r.table.work,
-        &r.table.deadline,
-        &r.table.level,
-        &r.table.promised,
-        &r.got,
-        &r.used,
-        &r.closing,
-    ) {
-        return false;
-    }
-    tail_sound(r)
+    passes(&r.table, r.order)
+        && r.clock <= LAST_CLOCK
+        && columns::rows_sound(&r.table, r.clock, &r.got, &r.used, &r.closing)
+        && tail_sound(r)
 }
 
 // The record of a table and an order at a clock, in slots, with nothing got, nothing used and every row open: before their first slot, or as a commit
 // leaves it (rules 2.13, 8.2, 22.4).
-pub fn start(t: Table, order: [u8; 64], clock: u32) -> Run
-    ensures { result ≡ start_run t order clock }
+pub fn start(table: Table, order: [u8; 64], clock: u32) -> Run
+    ensures { result ≡ start_run table order clock }
 {
     let zeros = [0u32; 64];
     Run {
-        table: t,
-        order: order,
-        clock: clock,
+        table,
+        order,
+        clock,
         got: zeros,
         used: zeros,
         closing: zeros,
@@ -163,24 +128,15 @@ pub fn zero_table() -> Table
 pub fn fresh(t: Table, order: [u8; 64]) -> FreshRun
     ensures { result ≡ fresh_of t order }
 {
-    let check = checks::check_both(t, order);
-    match check {
-        Check::Passed => {
-            let run = start(t, order, 0);
-            FreshRun {
-                check: Check::Passed,
-                run: run,
-            }
-        }
-        Check::Refused(why) => {
-            let none = zero_table();
-            let zeros = [0u8; 64];
-            let run = start(none, zeros, 0);
-            FreshRun {
-                check: Check::Refused(why),
-                run: run,
-            }
-        }
+    match checks::check_both(&t, order) {
+        Ok(()) => FreshRun {
+            check: Ok(()),
+            run: start(t, order, 0),
+        },
+        Err(why) => FreshRun {
+            check: Err(why),
+            run: start(zero_table(), [0; 64], 0),
+        },
     }
 }
 
@@ -192,74 +148,57 @@ impl Run {
         requires { (is_sound self ≡ true) × (self.clock < 2000000) }
         ensures { result ≡ worked_run self supply }
     {
-        let n = self.table.n;
-        let clock = self.clock;
-        let row = columns::chosen_row(n, clock, &self.order, &self.table.release, &self.closing);
-        let after = clock + 1;
-        self.clock = after;
+        let row = columns::chosen_row(&self.table, &self.order, self.clock, &self.closing);
+        self.clock += 1;
         if row == 0 {
             return self;
         }
         let i = row as usize - 1;
-        let work = columns::entry(&self.table.work, i);
-        let level = columns::entry(&self.table.level, i);
-        let promised = columns::entry(&self.table.promised, i);
-        let normal = self.table.normal;
-        let degraded = self.table.degraded;
-        let loading = self.table.loading;
-        let before = self.used[i];
-        let got = columns::grown(self.got[i], before, loading, supply, work);
-        let used = before + 1;
-        let closing = columns::closing_slot(
-            work, level, promised, normal, degraded, loading, got, used, after,
+        let used = self.used[i] + 1;
+        let got = columns::grown(
+            self.got[i],
+            self.used[i],
+            self.table.loading,
+            supply,
+            self.table.work[i],
         );
         self.got[i] = got;
         self.used[i] = used;
-        self.closing[i] = closing;
+        self.closing[i] = columns::closing_slot(&self.table, i, got, used, self.clock);
         self
     }
 
     // The record once its clock has closed every LO row that is open and whose deadline it has reached: the second half of a step (rule 19.2).
+    #[tactic(auto, unfolding(crate::specs::Records::closed_run, rules::specs::Running::close_late))]
     pub fn close_late(mut self) -> Run
         requires { self.table.n ≤ 64 }
         ensures { result ≡ closed_run self }
     {
-        let n = self.table.n;
-        let clock = self.clock;
-        let closing = columns::closed_late(
-            n,
-            clock,
-            &self.table.deadline,
-            &self.table.level,
-            self.closing,
-        );
-        self.closing = closing;
+        self.closing = columns::closed_late(&self.table, self.clock, self.closing);
         self
     }
 
     // The first clock, in slots, at which `close_late` may close a row: before it there is nothing to close (rule 19.7).
+    // By value, since it was tried with `&self`: forward then copies whole records in every slot, and takes twice as long.
     pub fn due(self) -> u32
         requires { self.table.n ≤ 64 }
         ensures { result ≡ due_of self }
     {
-        let n = self.table.n;
-        columns::first_due(n, &self.table.deadline, &self.table.level, &self.closing)
+        columns::first_due(&self.table, &self.closing)
     }
 
     // The answer for the coming slot, before its supply is known: the row that it runs, or 9, or 8 at clock 2,000,000 slots (rule 8.15).
-    pub fn coming(self) -> SlotAnswer
-        ensures { result ≡ coming_slot self }
+    #[tactic(auto, unfolding(crate::specs::Records::coming_slot))]
+    pub fn coming(&self) -> SlotAnswer
+        ensures { result ≡ coming_slot self.now }
     {
         if !is_sound(self) {
-            return SlotAnswer::Refused(Refusal::Unsound);
+            return Err(Refusal::Unsound);
         }
-        let clock = self.clock;
-        if LAST_CLOCK <= clock {
-            return SlotAnswer::Refused(Refusal::ClockOver);
+        if LAST_CLOCK <= self.clock {
+            return Err(Refusal::ClockOver);
         }
-        let n = self.table.n;
-        let row = columns::chosen_row(n, clock, &self.order, &self.table.release, &self.closing);
-        SlotAnswer::Worked(row)
+        Ok(columns::chosen_row(&self.table, &self.order, self.clock, &self.closing))
     }
 
     // One slot worked with this supply in work units: its answer, and the next record, or this one on a refusal (rules 8.9, 8.13, 8.14).
@@ -267,19 +206,10 @@ impl Run {
         ensures { result ≡ one_slot self supply }
     {
         let answer = self.coming();
-        match answer {
-            SlotAnswer::Worked(row) => {
-                let worked = self.work(supply);
-                let next = worked.close_late();
-                Stepped {
-                    answer: SlotAnswer::Worked(row),
-                    run: next,
-                }
-            }
-            SlotAnswer::Refused(why) => Stepped {
-                answer: SlotAnswer::Refused(why),
-                run: self,
-            },
-        }
+        let run = match answer {
+            Ok(_) => self.work(supply).close_late(),
+            Err(_) => self,
+        };
+        Stepped { answer, run }
     }
 }

@@ -4,7 +4,7 @@ use Rattle.std.proofs.Common.{sym, ◌∙◌, arith, SFits, to_z, of_z, to_z-of_
 use Rattle.std.specs.Int.Signed.{lt_z}
 use Rattle.std.specs.Int.{w32}
 use Rattle.rules.specs.declared.Table.{Table}
-use Rattle.rules.specs.declared.Check.TheVariants.{Passed}
+use Rattle.rules.specs.Checks.{Passed}
 use Rattle.rules.specs.Rows.{at, rows_of, deadline_of, work_of, need_of}
 use Rattle.rules.specs.Orders.{check_both}
 use Rattle.rules.specs.Worst.{worst_finish, slack}

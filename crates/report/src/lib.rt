@@ -1,16 +1,17 @@
 // The report: every job of a table under an order, a line for each place and a last line of totals, written into lent bytes (section 16
-// of the rules). Worst finishes and slacks are the judge's own. Each function that puts something writes from a byte on and answers the
-// byte after what it wrote.
+// of the rules). Worst finishes and slacks are the judge's own. Each function that puts something writes it where the text goes on, and the
+// text goes on after it.
 #![tactic(auto)]
 
 ghost use Rattle.std.specs.Prelude.{◌≡◌, [], ◌∷◌, ◌++◌, ◌+◌, ◌*◌, ◌≤◌, ◌<◌, pos, nat_abs, length};
-ghost use Rattle.rules.specs.declared.Check.TheVariants.{Passed};
+ghost use Rattle.rules.specs.Checks.{Passed};
 ghost use Rattle.rules.specs.Lists.{rows_to, joined};
 ghost use Rattle.rules.specs.Orders.{check_both};
 ghost use Rattle.texts.specs.Reports.{figure, figures, is_late, job_line, needs_of, late_rows, report_text, check_report, report_of};
-ghost use Rattle.fields.specs.Wrote.{Wrote};
+ghost use Rattle.fields.specs.Texts.{Puts};
 ghost use Rattle.report.specs.Jobs.{Timed, JobOf};
 
+use fields::Text;
 use judge::Times;
 use rules::{Check, Table, Writing};
 
@@ -24,28 +25,23 @@ struct Job {
     slack: i32,
 }
 
-// What the lines of all places come to: the byte after them, their needs at N added up in slots, and how many of their rows have a slack below 0 slots.
+// What the lines of all places come to: their needs at N added up in slots, and how many of their rows have a slack below 0 slots.
 #[derive(Clone, Copy)]
 struct Listed {
-    next: usize,
     needs: u32,
     late: u32,
 }
 
 // The job at a place, from 1.
-fn job_at(t: Table, order: [u8; 64], times: Times, place: u32) -> Job
-    requires { Timed t order times × (1 ≤ place) × (place ≤ t.n) }
-    ensures { JobOf t order place result }
+fn job_at(t: &Table, order: [u8; 64], times: &Times, place: u32) -> Job
+    requires { Timed t.now order times.now × (1 ≤ place) × (place ≤ t.now.n) }
+    ensures { JobOf t.now order place result }
 {
     let row = order[(place - 1) as usize];
-    let deadlines = t.deadline;
-    let needs = times.need;
-    let finishes = times.finish;
-    let clocks = times.latest;
-    let due = sweep::entry(&deadlines, row);
-    let need = sweep::entry(&needs, row);
-    let finish = sweep::entry(&finishes, row);
-    let clock = sweep::entry(&clocks, row);
+    let due = sweep::entry(&t.deadline, row);
+    let need = sweep::entry(&times.need, row);
+    let finish = sweep::entry(&times.finish, row);
+    let clock = sweep::entry(&times.latest, row);
     let slack = judge::slack(due, clock);
     Job {
         place,
@@ -64,81 +60,68 @@ fn late(slack: i32) -> u32
 }
 
 // Two figures that are not below 0.
-fn put_counts(out: &mut [u8], at: usize, first: u32, second: u32) -> usize
-    requires { (first < 100000000) × (second < 100000000) × (at + 20 ≤ length out.old) }
-    ensures { Wrote out.old at out.new result (figure (pos first) ++ figure (pos second)) }
+fn put_counts(text: &mut Text, first: u32, second: u32)
+    requires { (first < 100000000) × (second < 100000000) × (text.old.at + 20 ≤ length text.old.out.now) }
+    ensures { Puts text.old text.new (figure (pos first) ++ figure (pos second)) }
 {
-    let next = fields::put_count(out, at, first);
-    fields::put_count(out, next, second)
+    text.put_count(first);
+    text.put_count(second);
 }
 
 // The line of a job.
-fn put_job(out: &mut [u8], at: usize, job: Job) -> usize
-    requires { (job.place < 100000000) × (job.need < 100000000) × (job.finish < 100000000) × (nat_abs job.slack < 100000000) × (at + 51 ≤ length out.old) }
-    ensures { Wrote out.old at out.new result (figures (pos job.place ∷ pos job.row ∷ pos job.need ∷ pos job.finish ∷ job.slack ∷ [])) }
+fn put_job(text: &mut Text, job: Job)
+    requires { (job.place < 100000000) × (job.need < 100000000) × (job.finish < 100000000) × (nat_abs job.slack < 100000000) × (text.old.at + 51 ≤ length text.old.out.now) }
+    ensures { Puts text.old text.new (figures (pos job.place ∷ pos job.row ∷ pos job.need ∷ pos job.finish ∷ job.slack ∷ [])) }
 {
-    let row = job.row;
-    let slack = job.slack;
-    let after_row = put_counts(out, at, job.place, row as u32);
-    let after_finish = put_counts(out, after_row, job.need, job.finish);
-    let after_slack = fields::put_figure(out, after_finish, slack);
-    fields::put_byte(out, after_slack, 10)
+    put_counts(text, job.place, job.row as u32);
+    put_counts(text, job.need, job.finish);
+    text.put_figure(job.slack);
+    text.put_byte(b'\n');
 }
 
 // The last line: needs added up in slots, and how many rows have a slack below 0 slots.
-fn put_totals(out: &mut [u8], at: usize, needs: u32, late: u32) -> usize
-    requires { (needs < 100000000) × (late < 100000000) × (at + 21 ≤ length out.old) }
-    ensures { Wrote out.old at out.new result (figures (pos needs ∷ pos late ∷ [])) }
+fn put_totals(text: &mut Text, needs: u32, late: u32)
+    requires { (needs < 100000000) × (late < 100000000) × (text.old.at + 21 ≤ length text.old.out.now) }
+    ensures { Puts text.old text.new (figures (pos needs ∷ pos late ∷ [])) }
 {
-    let next = put_counts(out, at, needs, late);
-    fields::put_byte(out, next, 10)
+    put_counts(text, needs, late);
+    text.put_byte(b'\n');
 }
 
-// The lines of all places, highest first, from byte 0 on.
-fn put_jobs(out: &mut [u8], t: Table, order: [u8; 64], times: Times) -> Listed
-    requires { Timed t order times × (51 * t.n ≤ length out.old) }
-    ensures { Wrote out.old 0 out.new result.next (joined (job_line t order) (rows_to t.n))
-        × (result.needs ≡ needs_of t)
-        × (result.late ≡ late_rows t order) }
+// The lines of all places, highest first.
+fn put_jobs(text: &mut Text, t: &Table, order: [u8; 64], times: &Times) -> Listed
+    requires { Timed t.now order times.now × (text.old.at + 51 * t.now.n ≤ length text.old.out.now) }
+    ensures { Puts text.old text.new (joined (job_line t.now order) (rows_to t.now.n))
+        × (result.needs ≡ needs_of t.now)
+        × (result.late ≡ late_rows t.now order) }
 {
-    let mut next: usize = 0;
     let mut needs: u32 = 0;
     let mut lates: u32 = 0;
-    let mut k: u32 = 0;
-    while k < t.n {
+    for k in 0..t.n {
         let job = job_at(t, order, times, k + 1);
-        let need = job.need;
-        let slack = job.slack;
-        next = put_job(out, next, job);
-        needs += need;
-        lates += late(slack);
-        k += 1;
+        put_job(text, job);
+        needs += job.need;
+        lates += late(job.slack);
     }
-    Listed {
-        next,
-        needs,
-        late: lates,
-    }
+    Listed { needs, late: lates }
 }
 
-// The text of the report, from byte 0 on.
-fn put_report(out: &mut [u8], t: Table, order: [u8; 64]) -> usize
-    requires { (check_both t order ≡ Passed) × (51 * t.n + 21 ≤ length out.old) }
-    ensures { Wrote out.old 0 out.new result (report_text t order) }
+// The text of the report.
+fn put_report(text: &mut Text, t: &Table, order: [u8; 64])
+    requires { (check_both t.now order ≡ Passed) × (text.old.at + (51 * t.now.n + 21) ≤ length text.old.out.now) }
+    ensures { Puts text.old text.new (report_text t.now order) }
 {
-    let times = judge::timed(t, order);
-    let jobs = put_jobs(out, t, order, times);
-    put_totals(out, jobs.next, jobs.needs, jobs.late)
+    let times = judge::timed(*t, order);
+    let jobs = put_jobs(text, t, order, &times);
+    put_totals(text, jobs.needs, jobs.late);
 }
 
 // The report's checks: those of the table and 6, then 10.
 fn check_report(t: Table, order: [u8; 64], room: usize) -> Check
     ensures { result ≡ check_report t order room }
 {
-    let size = 51 * (t.n as usize) + 21;
-    let both = checks::check_both(t, order);
-    let enough = checks::check_room(size, room);
-    checks::and_then(both, enough)
+    let size = 51 * t.n as usize + 21;
+    checks::check_both(&t, order).and(checks::check_room(size, room))
 }
 
 // The report's answer for any table, any sixty-four numbers and any lent bytes: the report from byte 0 on and its length, the bytes after
@@ -149,15 +132,16 @@ pub fn report(t: Table, order: [u8; 64], out: &mut [u8]) -> Writing
 {
     let check = check_report(t, order, out.len());
     match check {
-        Check::Refused(why) => Writing {
-            check: Check::Refused(why),
+        Err(why) => Writing {
+            check: Err(why),
             size: 0,
         },
-        Check::Passed => {
-            let size = put_report(out, t, order);
+        Ok(()) => {
+            let mut text = Text { out, at: 0 };
+            put_report(&mut text, &t, order);
             Writing {
-                check: Check::Passed,
-                size: size as u32,
+                check: Ok(()),
+                size: text.at as u32,
             }
         }
     }

@@ -6,9 +6,9 @@ use Rattle.std.specs.Prelude.{ℕ, suc, ◌+◌, ◌-◌, ◌≤◌, ◌<◌, Bo
 use Rattle.std.proofs.Common.{arith}
 use Rattle.rules.specs.declared.Row.{Row}
 use Rattle.rules.specs.declared.Table.{Table}
-use Rattle.rules.specs.declared.Verdict.{Verdict}
+use Rattle.rules.specs.Verdicts.{Judgement}
 use Rattle.rules.specs.declared.Refusal.TheVariants.{ClockOver, Unsound, NoRoom, Loading, NotCorrect, RowOpen, ReleasedBefore, TrialsOver, TooManyRows}
-use Rattle.rules.specs.declared.Check.TheVariants.{Passed}
+use Rattle.rules.specs.Checks.{Passed}
 use Rattle.rules.specs.Calls.{Call, one, forward, Said, tell_one, tell_forward, tell_all, all_supplies, supply_from, supply_at}
 use Rattle.rules.specs.Correct.{earliest, Window}
 use Rattle.rules.specs.Choice.{plan_of, padded, lowest, unfollowed, passes, sequence, choice, fill, taker, word}
@@ -125,7 +125,7 @@ abbrev value_of : Said → ℕ
 value_of said = said.value
 
 -- this number and nothing but zeros
-abbrev verdict_refused : Verdict → ℕ → Bool
+abbrev verdict_refused : Judgement → ℕ → Bool
 verdict_refused v number = eqb (verdict_number v) number && not (verdict_yes v) && eqb (verdict_row v) 0 && same_int (verdict_slack v) (pos 0)
 
 abbrev pub holds : Case → Bool

@@ -1,10 +1,9 @@
 -- The planner's choice: the lowest place is filled first (rule 4.1).
-use Rattle.std.specs.Prelude.{ℕ, zero, suc, ◌-◌, ◌^◌, Bool, cond, not, List, [], ◌∷◌, ◌++◌, eqb, ltb, length, take, replicate}
+use Rattle.std.specs.Prelude.{ℕ, zero, suc, ◌-◌, ◌^◌, Bool, cond, not, List, [], ◌∷◌, ◌++◌, eqb, ltb, length, take, replicate, Ok, Err}
 use Rattle.rules.specs.declared.Table.{Table}
-use Rattle.rules.specs.declared.Check.{Check}
-use Rattle.rules.specs.declared.Check.TheVariants as Checks
-use Rattle.rules.specs.declared.Planned.TheVariants.{Ordered, NoOrder, Refused}
+use Rattle.rules.specs.Plans.{Ordered, NoOrder, Refused}
 use Rattle.rules.specs.declared.Planning.{Planning}
+use Rattle.rules.specs.Checks.{Check}
 use Rattle.rules.specs.Lists.{all, first, keep, erase, sum}
 use Rattle.rules.specs.Rows.{rows_of, deadline_of, follows_of, is_low, is_high}
 use Rattle.rules.specs.Tables.{check_table}
@@ -80,8 +79,8 @@ plan_from c =
 
 -- a refused table has an order of zeros (rules 10.3 to 10.5, 10.11 to 10.15)
 abbrev pub plan_checked : Check → Table → Planning
-plan_checked Checks.Passed t = plan_from (choice t)
-plan_checked (Checks.Refused r) t = record { answer = Refused r; order = replicate 64 0 }
+plan_checked (Ok tt) t = plan_from (choice t)
+plan_checked (Err r) t = record { answer = Refused r; order = replicate 64 0 }
 
 -- the planner's answer for any table: checks 3, 4, 11, 5, 12, 13 to 15, then the choice (rule 11.3)
 unfoldable pub plan_of : Table → Planning

@@ -1,4 +1,8 @@
 pub mod Lists
+pub mod Checks
+pub mod Plans
+pub mod Verdicts
+pub mod Searches
 pub mod Need
 pub mod Rows
 pub mod Tables

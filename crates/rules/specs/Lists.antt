@@ -1,5 +1,6 @@
 -- Small list functions that the definitions share. None of them states a rule by itself.
 use Rattle.std.specs.Prelude.{ℕ, zero, suc, ◌+◌, max, min, Bool, true, false, cond, ◌&&◌, List, [], ◌∷◌, ◌++◌, eqb}
+use Rattle.std.specs.List.{filter, flat_map, list_all}
 
 -- the numbers of the first n rows: 1, 2, .., n (rule 1.3)
 abbrev pub rows_to : ℕ → List ℕ
@@ -8,8 +9,7 @@ rows_to (suc k) = rows_to k ++ (suc k ∷ [])
 
 -- the test passes for every element
 abbrev pub all : {A : Type 0} → (A → Bool) → List A → Bool
-all p [] = true
-all p (x ∷ xs) = p x && all p xs
+all p xs = list_all p xs
 
 -- every number is 0
 abbrev pub all_zero : List ℕ → Bool
@@ -34,8 +34,7 @@ count x (y ∷ ys) = cond (eqb x y) (suc (count x ys)) (count x ys)
 
 -- the numbers that pass the test, in the list's order
 abbrev pub keep : (ℕ → Bool) → List ℕ → List ℕ
-keep p [] = []
-keep p (x ∷ xs) = cond (p x) (x ∷ keep p xs) (keep p xs)
+keep p xs = filter p xs
 
 -- the list without the first x
 abbrev pub erase : ℕ → List ℕ → List ℕ
@@ -54,8 +53,7 @@ greatest f (x ∷ xs) = max (f x) (greatest f xs)
 
 -- what f makes of each element, one after the other
 abbrev pub joined : (ℕ → List ℕ) → List ℕ → List ℕ
-joined f [] = []
-joined f (x ∷ xs) = f x ++ joined f xs
+joined f xs = flat_map f xs
 
 -- the least of b and f over the list
 abbrev pub least : (ℕ → ℕ) → ℕ → List ℕ → ℕ

@@ -1,9 +1,8 @@
 -- Which tables are accepted: checks 3, 4, 11, 5, 12 and 13 to 15, in this order (rules 5.1 to 5.5, 5.8 to 5.10).
-use Rattle.std.specs.Prelude.{ℕ, Bool, true, false, cond, ◌&&◌, ◌||◌, List, [], ◌∷◌, ◌≡◌, eqb, ltb, leb, length, drop, replicate}
+use Rattle.std.specs.Prelude.{ℕ, Bool, cond, ◌&&◌, ◌||◌, List, [], ◌∷◌, ◌≡◌, eqb, ltb, leb, length, drop, replicate, Ok, Err, is_ok}
 use Rattle.rules.specs.declared.Table.{Table}
 use Rattle.rules.specs.declared.Refusal.TheVariants.{RowCount, Speeds, Loading, RowLimits, Promised, NotLower, ReleasedLater, FollowsLow}
-use Rattle.rules.specs.declared.Check.{Check}
-use Rattle.rules.specs.declared.Check.TheVariants.{Passed, Refused}
+use Rattle.rules.specs.Checks.{Check, Passed, Refused}
 use Rattle.rules.specs.Lists.{all, all_zero}
 use Rattle.rules.specs.Rows.{at, rows_of, release_of, work_of, deadline_of, promised_of, follows_of, is_follower, is_low, is_high}
 
@@ -34,8 +33,8 @@ promise_ok t i = leb (promised_of t i) (work_of t i) && (is_low t i || eqb (prom
 
 -- the second check where the first passed: the first refusal counts (rule 11.1)
 abbrev pub and_then : Check → Check → Check
-and_then Passed d = d
-and_then (Refused r) d = Refused r
+and_then (Ok tt) d = d
+and_then (Err r) d = Refused r
 
 -- Row i's wait, if it follows a row: 13 unless that is a row of a lower number, 14 if it is released later than row i, 15 if it is LO and row i is
 -- HI; the first of them counts (rule 5.10).
@@ -92,8 +91,7 @@ Accepted t = check_table t ≡ Passed
 
 -- the check did not refuse (rule 11.1)
 abbrev pub passed : Check → Bool
-passed Passed = true
-passed (Refused r) = false
+passed check = is_ok check
 
 -- the table of zeros (rule 6.8)
 abbrev pub zero_table : Table

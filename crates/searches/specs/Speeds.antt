@@ -1,13 +1,12 @@
 -- Least workable speeds: how slow a processor may be (section 18 of the rules). A search is for one of the table's two speeds and keeps the other.
-use Rattle.std.specs.Prelude.{ℕ, zero, suc, ◌+◌, ◌-◌, ◌≤◌, ◌<◌, Bool, cond, List, [], ◌∷◌, eqb, replicate}
+use Rattle.std.specs.Prelude.{ℕ, zero, suc, ◌+◌, ◌-◌, ◌≤◌, ◌<◌, Bool, cond, List, [], ◌∷◌, eqb, replicate, Ok, Err}
 use Rattle.rules.specs.declared.Table.{Table}
-use Rattle.rules.specs.declared.Check.{Check}
-use Rattle.rules.specs.declared.Check.TheVariants as Checks
 use Rattle.rules.specs.declared.Refusal.{Refusal}
 use Rattle.rules.specs.declared.Sought.{Sought}
 use Rattle.rules.specs.declared.Sought.TheVariants.{Degraded, Normal}
-use Rattle.rules.specs.declared.Searched.TheVariants.{Least, NoSpeed, Refused}
+use Rattle.rules.specs.Searches.{Least, NoSpeed, Refused}
 use Rattle.rules.specs.declared.Searching.{Searching}
+use Rattle.rules.specs.Checks.{Check}
 use Rattle.rules.specs.Choice.{plan_of}
 use Rattle.rules.specs.Correct.{CorrectOrder}
 use Rattle.rules.specs.Lists.{first}
@@ -86,8 +85,8 @@ search_refused r = record { answer = Refused r; order = replicate 64 0 }
 
 -- The table is checked as it stands, with its own figure for the speed sought; after that the figure is not looked at (rules 18.1, 18.6).
 abbrev pub search_checked : Check → Sought → Table → Searching
-search_checked Checks.Passed f t = searched_at f t (least_speed f t)
-search_checked (Checks.Refused r) f t = search_refused r
+search_checked (Ok tt) f t = searched_at f t (least_speed f t)
+search_checked (Err r) f t = search_refused r
 
 -- the search's answer for any table: checks 3, 4, 11, 5, 12, 13 to 15, then the range (rules 11.8, 18.4 to 18.6)
 unfoldable pub search_of : Sought → Table → Searching
@@ -95,8 +94,8 @@ search_of f t = search_checked (check_table t) f t
 
 -- what was read of a sheet, or why it was refused (rule 18.7)
 abbrev pub search_read : Check → Sought → Table → Searching
-search_read Checks.Passed f t = search_of f t
-search_read (Checks.Refused r) f t = search_refused r
+search_read (Ok tt) f t = search_of f t
+search_read (Err r) f t = search_refused r
 
 -- the search's answer for any bytes: the reader's checks first (rules 11.8, 18.7)
 unfoldable pub search_sheet : Sought → List ℕ → Searching

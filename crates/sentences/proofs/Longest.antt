@@ -1,7 +1,7 @@
 -- How long a sentence is at most (rule 24.10).
-use Rattle.std.specs.Prelude.{ℕ, zero, suc, ◌+◌, ◌-◌, ◌*◌, ◌/◌, ◌%◌, ◌^◌, ◌≤◌, ◌<◌, Bool, true, false, cond, List, [], ◌∷◌, ◌++◌, ◌≡◌, refl, eqb, leb, ℤ, pos, negsuc, nat_abs, length}
+use Rattle.std.specs.Prelude.{ℕ, zero, suc, ◌+◌, ◌-◌, ◌*◌, ◌/◌, ◌%◌, ◌^◌, ◌≤◌, ◌<◌, Bool, true, false, cond, List, [], ◌∷◌, ◌≡◌, refl, eqb, leb, ℤ, pos, negsuc, length}
 use Prim.Native.String.{String}
-use Rattle.std.proofs.Common.{sym, ap, ◌∙◌, pow-suc, arith, length-append, leb-true, ne_eqb, le-leb}
+use Rattle.std.proofs.Common.{ap, pow-suc, arith, length-append, leb-true, ne_eqb, le-leb}
 use Rattle.std.proofs.Math.Nat.{pow-le-pow_right}
 use Rattle.std.proofs.lemmas.Bool.{lt-leb}
 use Rattle.rules.specs.Lists.{all, joined, keep, rows_to}
@@ -13,9 +13,9 @@ use Rattle.decimals.specs.Decimal.{digit_there, digit_none}
 use Rattle.fields.specs.Scan.{powers}
 use Rattle.sentences.specs.declared.PlanAnswer.{PlanAnswer}
 use Rattle.sentences.specs.declared.JudgeAnswer.{JudgeAnswer}
-use Rattle.sentences.specs.Sentences.{meanings, words_at, meaning, judged_meaning, counted, item, listed, enumerated, up_to_last, rows_in, plan_opening, plan_sentence, yes_or_no, minus_of, slack_words, judge_opening, judge_sentence}
+use Rattle.sentences.specs.Sentences.{meanings, words_at, meaning, judged_meaning, counted, item, listed, enumerated, up_to_last, rows_in, plan_opening, plan_sentence, yes_or_no, slack_words, judge_opening, judge_sentence}
 use Rattle.sentences.specs.Scanned.{powers_some}
-use Rattle.sentences.specs.Telling.{words_all, judged_all, yes_all}
+use Rattle.sentences.specs.Telling.{judged_all, yes_all}
 use Rattle.sentences.proofs.RoundTrip.{last_all, last_within, rows_in_held}
 use Rattle.sentences.specs.RoundTrip.{PlanFits, SlackFits, JudgeFits}
 

@@ -1,6 +1,6 @@
 -- Back and there: what the reader takes is the sentence of the answer that it read, and that answer fits its fields; what it refuses is no answer's
 -- sentence (rules 24.11, 24.13).
-use Rattle.std.specs.Prelude.{ℕ, zero, suc, min, ◌+◌, ◌-◌, ◌*◌, ◌/◌, ◌%◌, ◌^◌, ◌≤◌, ◌<◌, Bool, true, false, ◌&&◌, List, [], ◌∷◌, map, ◌≡◌, refl, eqb, leb, length, get_or, take, drop}
+use Rattle.std.specs.Prelude.{ℕ, zero, suc, min, ◌+◌, ◌-◌, ◌*◌, ◌/◌, ◌%◌, ◌^◌, ◌≤◌, ◌<◌, Bool, true, false, ◌&&◌, List, [], ◌∷◌, map, ◌≡◌, refl, eqb, leb, length, get_or, take, drop, Ok, Err}
 use Rattle.std.proofs.Common.{sym, ap, ap₂, subst, ◌∙◌, arith, length-take, le-leb, leb-true, eqb-true}
 use Rattle.std.proofs.Math.Nat.{min-le_left, min-le_right}
 use Rattle.std.specs.Int.Bits.{bit_or}
@@ -8,8 +8,7 @@ use Rattle.std.proofs.lemmas.Nat.{or_lt}
 use Rattle.std.proofs.Math.Pow.{pow-lt}
 use Rattle.std.proofs.lemmas.List.{length-map}
 use Rattle.rules.specs.declared.Refusal.TheVariants.{Malformed}
-use Rattle.rules.specs.declared.Check.{Check}
-use Rattle.rules.specs.declared.Check.TheVariants.{Passed, Refused}
+use Rattle.rules.specs.Checks.{Check, Passed, Refused}
 use Rattle.rules.specs.Lists.{all, same}
 use Rattle.rules.specs.Choice.{padded}
 use Rattle.texts.specs.Fields.{digit_of}
@@ -144,8 +143,8 @@ told_slack_fits bytes =
 
 -- a check that passed is not one that refused
 abbrev passed_as : Check → ℕ
-passed_as Passed = 1
-passed_as (Refused r) = 0
+passed_as (Ok tt) = 1
+passed_as (Err r) = 0
 
 passed_refused : Passed ≡ Refused Malformed → ⊥
 passed_refused e = omega (arith, numbers)

@@ -6,7 +6,6 @@ use Rattle.std.proofs.Math.Nat.{min-eq_left, div-eq_of_lt}
 use Rattle.std.proofs.lemmas.Nat.{mod-pow-add}
 use Rattle.std.proofs.Math.Seq.{take-length, take-append_seam, drop-append-add, get_or-append_seam}
 use Rattle.std.proofs.lemmas.Bool.{eqb-false}
-use Rattle.rules.specs.declared.Check.TheVariants.{Passed}
 use Rattle.rules.specs.Lists.{all, all_zero, keep, rows_to, same, count}
 use Rattle.rules.specs.Choice.{padded}
 use Rattle.theory.specs.Counts.{keep_append}
@@ -24,6 +23,7 @@ use Rattle.sentences.specs.Scanned.{tells_all}
 use Rattle.sentences.specs.Telling.{Held, yes_figures, plan_tells, judge_tells}
 use Rattle.sentences.specs.Minus.{judge_minus, letter_yes, letter_no, letter_digit}
 use Rattle.sentences.specs.RoundTrip.{PlanFits, SlackFits, JudgeFits, has_minus}
+use Rattle.rules.specs.Checks.{Passed}
 
 all_zeros : (o : List ℕ) → all_zero o ≡ true → o ≡ zeros (length o)
 all_zeros [] e = refl

@@ -1,13 +1,13 @@
 -- A minus stands in the judge's sentence exactly if the slack is below 0; and byte 15 tells a yes from a no, and both from a figure.
-use Rattle.std.specs.Prelude.{ℕ, zero, suc, ◌+◌, ◌/◌, ◌%◌, ◌^◌, ◌≤◌, Bool, true, false, cond, not, List, [], ◌∷◌, ◌++◌, ◌≡◌, eqb, leb, ℤ, pos, negsuc, nat_abs, get_or}
+use Rattle.std.specs.Prelude.{ℕ, zero, suc, ◌+◌, ◌/◌, ◌%◌, ◌^◌, Bool, true, false, List, [], ◌∷◌, ◌++◌, ◌≡◌, eqb, leb, ℤ, nat_abs, get_or}
 use Rattle.std.proofs.Math.Bool.{or-true}
 use Rattle.std.proofs.Math.Path.{refl, ap}
-use Rattle.std.proofs.Common.{sym, ◌∙◌, arith, eqb-true, eq-eqb, ne_eqb, leb-true}
+use Rattle.std.proofs.Common.{◌∙◌, arith, eqb-true, eq-eqb}
 use Rattle.rules.specs.Lists.{count, joined}
 use Rattle.texts.specs.Decimals.{has_digit, digit_if, decimal}
 use Rattle.texts.specs.Quoted.{bytes, together}
 use Rattle.theory.specs.Counts.{count_append, count_other}
-use Rattle.theory.specs.Tests.{by_bool, and_left, and_right}
+use Rattle.theory.specs.Tests.{by_bool}
 use Rattle.decimals.specs.Decimal.{digit_none}
 use Rattle.fields.specs.Scan.{powers}
 use Rattle.sentences.specs.declared.JudgeAnswer.{JudgeAnswer}

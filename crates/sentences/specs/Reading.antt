@@ -1,8 +1,8 @@
 -- The reader of sentences (rule 24.11). Whatever the bytes are, they give one planner's answer and one judge's answer: from the figures in them, in their
 -- sequence, and for the judge from a letter and a minus. The bytes are a sentence exactly if they are that of one of these two answers.
-use Rattle.std.specs.Prelude.{ℕ, zero, suc, ◌+◌, ◌-◌, ◌*◌, ◌/◌, ◌%◌, ◌^◌, min, Bool, true, false, cond, not, ◌&&◌, List, [], ◌∷◌, ◌++◌, map, eqb, leb, ℤ, pos, negsuc, length, get_or, take, drop, replicate}
+use Rattle.std.specs.Prelude.{ℕ, zero, suc, ◌+◌, ◌-◌, ◌*◌, ◌/◌, ◌%◌, ◌^◌, min, Bool, true, false, cond, not, ◌&&◌, List, [], ◌∷◌, map, eqb, leb, ℤ, pos, negsuc, get_or, take, drop, replicate}
 use Rattle.rules.specs.declared.Refusal.TheVariants.{Malformed}
-use Rattle.rules.specs.declared.Check.TheVariants.{Passed, Refused}
+use Rattle.rules.specs.Checks.{Passed, Refused}
 use Rattle.rules.specs.Lists.{same, count}
 use Rattle.rules.specs.Choice.{padded}
 use Rattle.texts.specs.Fields.{digit_of}

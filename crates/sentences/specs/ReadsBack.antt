@@ -2,7 +2,7 @@
 -- sentence (rules 24.11, 24.13).
 use Rattle.std.specs.Prelude.{ℕ, List, ◌≡◌}
 use Rattle.rules.specs.declared.Refusal.TheVariants.{Malformed}
-use Rattle.rules.specs.declared.Check.TheVariants.{Passed, Refused}
+use Rattle.rules.specs.Checks.{Passed, Refused}
 use Rattle.sentences.specs.declared.PlanAnswer.{PlanAnswer}
 use Rattle.sentences.specs.declared.JudgeAnswer.{JudgeAnswer}
 use Rattle.sentences.specs.declared.Kind.TheVariants.{Neither, Planner, Judge}

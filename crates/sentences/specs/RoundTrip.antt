@@ -4,7 +4,6 @@ use Rattle.std.specs.Prelude.{ℕ, ◌^◌, ◌≤◌, ◌<◌, Bool, true, not,
 use Rattle.rules.specs.Lists.{all, count}
 use Rattle.sentences.specs.declared.PlanAnswer.{PlanAnswer}
 use Rattle.sentences.specs.declared.JudgeAnswer.{JudgeAnswer}
-use Rattle.sentences.specs.Reading.{small}
 
 -- ---- what fits the fields of an answer (rule 24.1)
 pub record PlanFits (a : PlanAnswer) : Type 0 where

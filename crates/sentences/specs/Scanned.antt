@@ -1,13 +1,12 @@
 -- Which figures stand in a text: none in words, and in a number in decimal that number.
-use Rattle.std.specs.Prelude.{ℕ, zero, suc, ◌+◌, ◌*◌, ◌/◌, ◌%◌, ◌^◌, ◌≤◌, ◌<◌, Bool, true, false, cond, not, ◌&&◌, ◌||◌, List, [], ◌∷◌, ◌++◌, ◌≡◌, refl, eqb, leb}
+use Rattle.std.specs.Prelude.{ℕ, zero, suc, ◌+◌, ◌*◌, ◌/◌, ◌%◌, ◌^◌, ◌≤◌, ◌<◌, Bool, true, false, not, List, [], ◌∷◌, ◌++◌, ◌≡◌, refl, leb}
 use Rattle.std.proofs.Math.Bool.{or-true}
-use Rattle.std.proofs.Common.{true≢false, append_assoc, append-nil, sym, ap, ap₂, ◌∙◌, div-one, div-le_self, pow-suc, arith, le-leb, eq-eqb, ne_eqb}
+use Rattle.std.proofs.Common.{true≢false, append_assoc, append-nil, sym, ap, ap₂, ◌∙◌, div-one, div-le_self, pow-suc, arith, le-leb, ne_eqb}
 use Rattle.std.proofs.Math.Nat.{div-eq_of_lt, div-div-eq-div-mul, min-eq_left}
 use Rattle.std.proofs.lemmas.Bool.{lt-leb}
 use Rattle.rules.specs.Lists.{all, joined}
 use Rattle.texts.specs.Decimals.{has_digit, digit_if, decimal}
 use Rattle.texts.specs.Fields.{digit_of}
-use Rattle.texts.specs.Quoted.{together}
 use Rattle.theory.specs.Tests.{by_bool, by-leb, and_left, and_right, not_is}
 use Rattle.decimals.specs.Decimal.{digit_none}
 use Rattle.fields.specs.Scan.{powers}

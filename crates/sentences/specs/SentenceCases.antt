@@ -1,11 +1,11 @@
 -- Sentences (rule 13.18): one table of cases, computed from the definitions and checked by one theorem. Each of the faults 14.50 to 14.56 meets one here.
-use Rattle.std.specs.Prelude.{ℕ, zero, suc, ◌+◌, ◌*◌, Bool, true, false, ◌&&◌, List, [], ◌∷◌, ◌++◌, refl, T, eqb, ℤ, pos, negsuc, length, take, drop, replicate}
+use Rattle.std.specs.Prelude.{ℕ, Bool, true, false, ◌&&◌, List, [], ◌∷◌, ◌++◌, T, eqb, ℤ, pos, negsuc, length, replicate}
 use Prim.Native.String.{String}
 use Rattle.rules.specs.declared.Table.{Table}
 use Rattle.rules.specs.Cases.{job}
 use Rattle.rules.specs.Choice.{padded, unfollowed, passes, sequence, choice, fill, taker, word}
 use Rattle.rules.specs.Judge.{table_of, judge_of, tightest}
-use Rattle.rules.specs.Lists.{same, rows_to, all}
+use Rattle.rules.specs.Lists.{same}
 use Rattle.rules.specs.Need.{work_slots}
 use Rattle.rules.specs.Numbers.{refusal_number, check_number, planned_number, rows_left, verdict_number, verdict_yes, verdict_row, verdict_slack}
 use Rattle.rules.specs.Orders.{is_arrangement, is_order, check_order, check_both}

@@ -1,7 +1,7 @@
 -- The sentence of an answer (rules 24.1 to 24.7), whatever values its fields hold, and what the composer makes of any lent bytes (rule 24.9).
 use Rattle.std.specs.Prelude.{ℕ, zero, suc, ◌-◌, ◌/◌, ◌%◌, ◌^◌, cond, List, [], ◌∷◌, ◌++◌, eqb, ℤ, pos, negsuc, nat_abs, length}
 use Prim.Native.String.{String}
-use Rattle.rules.specs.declared.Verdict.{Verdict}
+use Rattle.rules.specs.Verdicts.{Judgement}
 use Rattle.rules.specs.Lists.{rows_to, keep, joined, all_zero}
 use Rattle.rules.specs.Numbers.{planned_number, rows_left, verdict_number, verdict_yes, verdict_row, verdict_slack}
 use Rattle.texts.specs.Decimals.{decimal}
@@ -138,7 +138,7 @@ abbrev pub plan_answer : Counted → PlanAnswer
 plan_answer c =
     record { number = planned_number c.planning.answer; left = rows_left c.planning.answer; order = c.planning.order; trials = c.trials }
 
-abbrev pub judge_answer : Verdict → JudgeAnswer
+abbrev pub judge_answer : Judgement → JudgeAnswer
 judge_answer v = record { number = verdict_number v; yes = cond (verdict_yes v) 1 0; row = verdict_row v; slack = verdict_slack v }
 
 -- ---- the composer: for any sentence and any lent bytes (rules 24.9, 11.12)

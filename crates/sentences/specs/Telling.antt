@@ -1,14 +1,14 @@
 -- The figures of a sentence, in their sequence.
-use Rattle.std.specs.Prelude.{ℕ, zero, suc, ◌≤◌, Bool, true, cond, not, ◌&&◌, List, [], ◌∷◌, ◌++◌, ◌≡◌, refl, eqb, leb, ℤ, pos, negsuc, nat_abs, length}
+use Rattle.std.specs.Prelude.{ℕ, zero, suc, ◌≤◌, Bool, true, cond, List, [], ◌∷◌, ◌++◌, ◌≡◌, refl, eqb, leb, ℤ, pos, negsuc, nat_abs, length}
 use Prim.Native.String.{String}
-use Rattle.std.proofs.Common.{append_assoc, append-nil, sym, ap, subst, ◌∙◌, arith, leb-true}
+use Rattle.std.proofs.Common.{append_assoc, append-nil, sym, ap, subst, ◌∙◌, leb-true}
 use Rattle.rules.specs.Lists.{all, joined}
 use Rattle.texts.specs.Decimals.{decimal}
 use Rattle.texts.specs.Quoted.{bytes, together}
-use Rattle.theory.specs.Tests.{by_bool, by_eqb, and_left, and_right}
+use Rattle.theory.specs.Tests.{by_bool, and_left, and_right}
 use Rattle.sentences.specs.declared.PlanAnswer.{PlanAnswer}
 use Rattle.sentences.specs.declared.JudgeAnswer.{JudgeAnswer}
-use Rattle.sentences.specs.Sentences.{meanings, words_at, meaning, judged_words, judged_meaning, counted, item, listed, enumerated, up_to_last, rows_in, plan_opening, plan_sentence, yes_or_no, minus_of, slack_words, judge_opening, judge_sentence}
+use Rattle.sentences.specs.Sentences.{meanings, words_at, meaning, judged_meaning, counted, item, listed, enumerated, up_to_last, rows_in, plan_opening, plan_sentence, yes_or_no, minus_of, slack_words, judge_opening, judge_sentence}
 use Rattle.sentences.specs.Scanned.{stops, plain, Tells, tells_plain, tells_then, tells_figure}
 
 -- the same text, or the same figures, in another form

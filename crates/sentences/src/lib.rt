@@ -13,7 +13,7 @@ pub struct PlanAnswer {
     pub trials: u32,
 }
 
-// A judge's answer: its number, yes as 1 or no as 0, the tightest row, and its slack in slots (rule 24.1).
+// A judge's answer: its number, yes as 1 or no as 0, the tightest row, and its slack in slots (rule 24.1). Yes is the number that C holds, which may be any.
 #[derive(Clone, Copy)]
 pub struct JudgeAnswer {
     pub number: u32,
@@ -31,7 +31,7 @@ pub enum Kind {
 }
 
 // The answer of the reader of sentences: the check, whose answer was read, and that answer; the other one is all zero, and with a refusal both are
-// (rule 24.11).
+// (rule 24.11). No `Result` of an enum, since the zeros are promised.
 #[derive(Clone, Copy)]
 pub struct Told {
     pub check: Check,

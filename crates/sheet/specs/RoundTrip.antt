@@ -1,15 +1,14 @@
 -- There and back: reading the sheet of an accepted table gives that table, and each sheet that the reader accepts is the sheet of the table
 -- that it states. So of all byte strings just one reads as a table (rules 15.6 to 15.8).
-use Rattle.std.specs.Prelude.{ℕ, zero, suc, ◌+◌, ◌*◌, ◌≤◌, ◌<◌, true, ◌&&◌, ◌≡◌, length, get_or, drop}
+use Rattle.std.specs.Prelude.{ℕ, zero, suc, ◌+◌, ◌*◌, ◌≤◌, ◌<◌, true, ◌&&◌, ◌≡◌, length, get_or, drop, Ok, Err}
 use mathlib.Core.List.{List, [], ◌∷◌, ◌++◌, append_assoc, append-nil}
 use Rattle.std.proofs.Math.Path.{refl, sym, ap}
 use Rattle.std.proofs.Common.{◌∙◌, add-one, arith, length-append, take_at, get_or-append-add, ext_get_or}
 use borrow.Author.Tests.{le-ltb, le-leb, eq-eqb}
 use Rattle.std.proofs.Math.Seq.{drop-append-add}
 use Rattle.rules.specs.declared.Table.{Table}
-use Rattle.rules.specs.declared.Check.{Check}
-use Rattle.rules.specs.declared.Check.TheVariants.{Passed, Refused}
 use Rattle.rules.specs.declared.Reading.{Reading}
+use Rattle.rules.specs.Checks.{Check, Passed}
 use Rattle.rules.specs.Lists.{all_zero, rows_to, joined}
 use Rattle.rules.specs.Rows.{at, release_of, work_of, deadline_of, promised_of, follows_of}
 use Rattle.rules.specs.Tables.{tail_ok, Accepted, FullTable}
@@ -277,8 +276,8 @@ unfolding read_of
 read_passed bytes t e = go (check_sheet bytes) e
   where
     go : (c : Check) → read_checked c (table_in bytes) ≡ record { check = Passed; table = t } → (c ≡ Passed) × (table_in bytes ≡ t)
-    go Passed q = (refl, ap (λ (r : Reading). r.table) q)
-    go (Refused r) q = clash (ap (λ (r : Reading). r.check) q)
+    go (Ok tt) q = (refl, ap (λ (r : Reading). r.table) q)
+    go (Err r) q = clash (ap (λ (r : Reading). r.check) q)
 
 -- Of all byte strings just the table's sheet reads as the table (rule 15.7).
 pub only_sheet : (bytes : List ℕ) (t : Table) → read_of bytes ≡ record { check = Passed; table = t } → bytes ≡ sheet_of t

@@ -7,7 +7,7 @@ use native.Mathlib.Omega.{arith}
 use borrow.Author.Tests.{leb-true, eqb-true}
 use Rattle.std.proofs.lemmas.List.{length-map, length-replicate}
 use Rattle.rules.specs.declared.Table.{Table}
-use Rattle.rules.specs.declared.Check.TheVariants.{Passed}
+use Rattle.rules.specs.Checks.{Passed}
 use Rattle.rules.specs.Lists.{all, same, rows_to}
 use Rattle.rules.specs.Tables.{count_ok, Accepted}
 use Rattle.texts.specs.Fields.{written, value_of, is_field, field_at}

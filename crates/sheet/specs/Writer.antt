@@ -5,8 +5,7 @@ use Rattle.std.proofs.Common.{arith, length-append}
 use Rattle.rules.specs.declared.Table.{Table}
 use Rattle.rules.specs.declared.Refusal.{Refusal}
 use Rattle.rules.specs.declared.Refusal.TheVariants.{NoRoom}
-use Rattle.rules.specs.declared.Check.{Check}
-use Rattle.rules.specs.declared.Check.TheVariants.{Passed, Refused}
+use Rattle.rules.specs.Checks.{Check, Passed, Refused}
 use Rattle.rules.specs.Lists.{rows_to, joined}
 use Rattle.rules.specs.Rows.{at, release_of, work_of, deadline_of, promised_of, follows_of}
 use Rattle.rules.specs.Tables.{check_table, Accepted}

@@ -5,12 +5,14 @@
 ghost use Rattle.std.specs.Prelude.{◌≡◌, true, [], ◌∷◌, ◌+◌, ◌*◌, ◌≤◌, ◌<◌, length};
 ghost use Rattle.rules.specs.Lists.{joined};
 ghost use Rattle.rules.specs.Rows.{rows_of};
+ghost use Rattle.rules.specs.Checks.{Refused};
 ghost use Rattle.rules.specs.Tables.{zero_table};
 ghost use Rattle.texts.specs.Fields.{line};
 ghost use Rattle.texts.specs.Sheets.{is_line, number_at, column_of, table_in, read_checked, read_of, row_line, sheet_of, check_write, write_of};
-ghost use Rattle.fields.specs.Wrote.{Wrote};
+ghost use Rattle.fields.specs.Texts.{Puts};
 ghost use Rattle.sheet.specs.Lines.{lines_ok, Lined};
 
+use fields::Text;
 use rules::{Check, Reading, Refusal, Table, Writing};
 
 // k fields and a line end are well formed from byte start on.
@@ -18,12 +20,10 @@ fn line_ok(bytes: &[u8], start: usize, k: usize) -> bool
     requires { (k ≤ 6) × (start + 8 * k < length bytes.now) }
     ensures { result ≡ is_line bytes.now start k }
 {
-    let mut j: usize = 0;
-    while j < k {
+    for j in 0..k {
         if !fields::field_ok(bytes, start + 8 * j) {
             return false;
         }
-        j += 1;
     }
     bytes[start + 8 * k] == 10
 }
@@ -33,12 +33,10 @@ fn lines_ok(bytes: &[u8], n: usize) -> bool
     requires { (n ≤ 64) × (length bytes.now ≡ 33 + 49 * n) }
     ensures { result ≡ lines_ok bytes.now n }
 {
-    let mut i: usize = 0;
-    while i < n {
+    for i in 0..n {
         if !line_ok(bytes, 33 + 49 * i, 6) {
             return false;
         }
-        i += 1;
     }
     true
 }
@@ -49,10 +47,8 @@ fn column(bytes: &[u8], n: usize, j: usize) -> [u32; 64]
     ensures { result ≡ column_of bytes.now n j }
 {
     let mut figures = [0u32; 64];
-    let mut i: usize = 0;
-    while i < n {
+    for i in 0..n {
         figures[i] = fields::number(bytes, 33 + 49 * i + 8 * (j - 1));
-        i += 1;
     }
     figures
 }
@@ -63,32 +59,23 @@ fn table_in(bytes: &[u8], n: u32) -> Table
     ensures { result ≡ table_in bytes.now }
 {
     let rows = n as usize;
-    let normal = fields::number(bytes, 8);
-    let degraded = fields::number(bytes, 16);
-    let loading = fields::number(bytes, 24);
-    let release = column(bytes, rows, 1);
-    let work = column(bytes, rows, 2);
-    let deadline = column(bytes, rows, 3);
-    let level = column(bytes, rows, 4);
-    let promised = column(bytes, rows, 5);
-    let follows = column(bytes, rows, 6);
     Table {
         n,
-        normal,
-        degraded,
-        loading,
-        release,
-        work,
-        deadline,
-        level,
-        promised,
-        follows,
+        normal: fields::number(bytes, 8),
+        degraded: fields::number(bytes, 16),
+        loading: fields::number(bytes, 24),
+        release: column(bytes, rows, 1),
+        work: column(bytes, rows, 2),
+        deadline: column(bytes, rows, 3),
+        level: column(bytes, rows, 4),
+        promised: column(bytes, rows, 5),
+        follows: column(bytes, rows, 6),
     }
 }
 
 // A refusal, with the table of zeros.
 fn refused(why: Refusal) -> Reading
-    ensures { result ≡ read_checked (Check.Refused why) zero_table }
+    ensures { result ≡ read_checked (Refused why) zero_table }
 {
     let zeros = [0u32; 64];
     let table = Table {
@@ -104,7 +91,7 @@ fn refused(why: Refusal) -> Reading
         follows: zeros,
     };
     Reading {
-        check: Check::Refused(why),
+        check: Err(why),
         table,
     }
 }
@@ -114,9 +101,9 @@ fn answer(check: Check, table: Table) -> Reading
     ensures { result ≡ read_checked check table }
 {
     match check {
-        Check::Refused(why) => refused(why),
-        Check::Passed => Reading {
-            check: Check::Passed,
+        Err(why) => refused(why),
+        Ok(()) => Reading {
+            check: Ok(()),
             table,
         },
     }
@@ -145,67 +132,49 @@ pub fn read(bytes: &[u8]) -> Reading
         return refused(Refusal::Malformed); // 2, in a row
     }
     let table = table_in(bytes, n);
-    answer(checks::check_table(table), table)
-}
-
-// A line of four fields, as the first line is and as a row's line ends (rules 6.5, 6.6).
-fn put_four(out: &mut [u8], at: usize, first: u32, second: u32, third: u32, fourth: u32) -> usize
-    requires { at + 33 ≤ length out.old }
-    ensures { Wrote out.old at out.new result (line (first ∷ second ∷ third ∷ fourth ∷ [])) }
-{
-    let after_first = fields::put_field(out, at, first);
-    fields::put_triple(out, after_first, second, third, fourth)
+    answer(checks::check_table(&table), table)
 }
 
 // The line of the row at index k: release, work, deadline, level, promised part, the row that it follows.
-fn put_row(out: &mut [u8], at: usize, t: Table, k: usize) -> usize
-    requires { (k < 64) × (at + 49 ≤ length out.old) }
-    ensures { Wrote out.old at out.new result (row_line t (k + 1)) }
+fn put_row(text: &mut Text, t: &Table, k: usize)
+    requires { (k < 64) × (text.old.at + 49 ≤ length text.old.out.now) }
+    ensures { Puts text.old text.new (row_line t.now (k + 1)) }
 {
-    let after_release = fields::put_field(out, at, t.release[k]);
-    let after_work = fields::put_field(out, after_release, t.work[k]);
-    put_four(
-        out,
-        after_work,
+    text.put_line([
+        t.release[k],
+        t.work[k],
         t.deadline[k],
         t.level[k],
         t.promised[k],
         t.follows[k],
-    )
+    ]);
 }
 
 // The lines of all rows, row 1 first.
-fn put_rows(out: &mut [u8], at: usize, t: Table) -> usize
-    requires { (t.n ≤ 64) × (at + 49 * t.n ≤ length out.old) }
-    ensures { Wrote out.old at out.new result (joined (row_line t) (rows_of t)) }
+fn put_rows(text: &mut Text, t: &Table)
+    requires { (t.now.n ≤ 64) × (text.old.at + 49 * t.now.n ≤ length text.old.out.now) }
+    ensures { Puts text.old text.new (joined (row_line t.now) (rows_of t.now)) }
 {
-    let rows = t.n as usize;
-    let mut next = at;
-    let mut k: usize = 0;
-    while k < rows {
-        next = put_row(out, next, t, k);
-        k += 1;
+    for k in 0..t.n as usize {
+        put_row(text, t, k);
     }
-    next
 }
 
-// The sheet of a table, from byte 0 on: the line of n, N, G and K, then the lines of the rows.
-fn put_sheet(out: &mut [u8], t: Table) -> usize
-    requires { (t.n ≤ 64) × (33 + 49 * t.n ≤ length out.old) }
-    ensures { Wrote out.old 0 out.new result (sheet_of t) }
+// The sheet of a table: the line of n, N, G and K, then the lines of the rows.
+fn put_sheet(text: &mut Text, t: &Table)
+    requires { (t.now.n ≤ 64) × (text.old.at + (33 + 49 * t.now.n) ≤ length text.old.out.now) }
+    ensures { Puts text.old text.new (sheet_of t.now) }
 {
-    let next = put_four(out, 0, t.n, t.normal, t.degraded, t.loading);
-    put_rows(out, next, t)
+    text.put_line([t.n, t.normal, t.degraded, t.loading]);
+    put_rows(text, t);
 }
 
 // The writer's checks: 3, 4, 11, 5, 12, 13 to 15, then 10 for a sheet of 33 + 49 n bytes (rules 6.7, 11.6).
 fn check_write(t: Table, room: usize) -> Check
     ensures { result ≡ check_write t room }
 {
-    let size = 33 + 49 * (t.n as usize);
-    let table = checks::check_table(t);
-    let enough = checks::check_room(size, room);
-    checks::and_then(table, enough)
+    let size = 33 + 49 * t.n as usize;
+    checks::check_table(&t).and(checks::check_room(size, room))
 }
 
 // The writer's answer for any table and any lent bytes: the sheet from byte 0 on and its length, the bytes after it as they were; or the
@@ -215,15 +184,16 @@ pub fn write(t: Table, out: &mut [u8]) -> Writing
 {
     let check = check_write(t, out.len());
     match check {
-        Check::Refused(why) => Writing {
-            check: Check::Refused(why),
+        Err(why) => Writing {
+            check: Err(why),
             size: 0,
         },
-        Check::Passed => {
-            let size = put_sheet(out, t);
+        Ok(()) => {
+            let mut text = Text { out, at: 0 };
+            put_sheet(&mut text, &t);
             Writing {
-                check: Check::Passed,
-                size: size as u32,
+                check: Ok(()),
+                size: text.at as u32,
             }
         }
     }

@@ -8,7 +8,7 @@ use Rattle.rules.specs.declared.Sought.{Sought}
 use Rattle.rules.specs.declared.Sought.TheVariants.{Degraded, Normal}
 use Rattle.rules.specs.declared.Table.{Table}
 use Rattle.rules.specs.declared.Refusal.{Refusal}
-use Rattle.rules.specs.declared.Searched.TheVariants.{Least, NoSpeed}
+use Rattle.rules.specs.Searches.{Least, NoSpeed}
 use Rattle.rules.specs.Choice.{plan_of}
 use Rattle.rules.specs.Correct.{CorrectOrder}
 use Rattle.rules.specs.Lists.{first}

@@ -1,14 +1,13 @@
 -- What a search promises of its answer, for every table and every sheet, and that its definition keeps it.
-use Rattle.std.specs.Prelude.{ℕ, ◌+◌, ◌-◌, ◌≤◌, Bool, true, ◌≡◌, refl, List, ◌↔◌}
+use Rattle.std.specs.Prelude.{ℕ, ◌+◌, ◌-◌, ◌≤◌, Bool, true, ◌≡◌, refl, List, ◌↔◌, Ok, Err}
 use Rattle.std.proofs.Common.{sym, ◌∙◌, arith, eqb-true}
 use Rattle.std.proofs.Math.Path.{ap}
 use Rattle.rules.specs.declared.Sought.{Sought}
 use Rattle.rules.specs.declared.Table.{Table}
 use Rattle.rules.specs.declared.Reading.{Reading}
 use Rattle.rules.specs.declared.Refusal.{Refusal}
-use Rattle.rules.specs.declared.Check.{Check}
-use Rattle.rules.specs.declared.Check.TheVariants.{Passed, Refused}
 use Rattle.rules.specs.declared.Searching.{Searching}
+use Rattle.rules.specs.Checks.{Check, Passed, Refused}
 use Rattle.rules.specs.Choice.{plan_of}
 use Rattle.rules.specs.Correct.{Correct, CorrectOrder}
 use Rattle.rules.specs.Lists.{first}
@@ -121,8 +120,8 @@ refused f t why e =
     }
 
 checked : (f : Sought) (t : Table) (c : Check) → check_table t ≡ c → Promise f t (search_checked c f t)
-checked f t Passed e = chosen f t e
-checked f t (Refused why) e = refused f t why e
+checked f t (Ok tt) e = chosen f t e
+checked f t (Err why) e = refused f t why e
 
 -- the search's answer keeps the promise, and so does whatever equals it
 pub promised_search : (f : Sought) (t : Table) (r : Searching) → r ≡ search_of f t → Promise f t r

@@ -9,7 +9,7 @@ ghost use Rattle.searches.specs.Speeds.{at_speed, slowest, fastest, least_speed,
 ghost use Rattle.speeds.specs.Halving.{Halving};
 ghost use Rattle.speeds.specs.Promise.{Promise, SheetPromise};
 
-use rules::{Check, Planned, Refusal, Searched, Searching, Sought, Table};
+use rules::{Plan, Planned, Refusal, Searching, Sought, Table};
 
 // What a search has found so far: no speed below `low` works; `high` works, with this order, or is the speed after the range, with an order of
 // zeros. The least workable speed is from `low` to `high`.
@@ -20,7 +20,8 @@ struct Between {
     order: [u8; 64],
 }
 
-// The table with another speed in place of the one sought (rule 18.1).
+// The table with another speed in place of the one sought (rule 18.1). Here and below by cases, as the definitions go: a closure would need its contract at
+// each call.
 fn at_speed(sought: Sought, t: Table, speed: u32) -> Table
     ensures { result ≡ at_speed sought t speed }
 {
@@ -56,14 +57,14 @@ fn fastest(sought: Sought, t: Table) -> u32
     }
 }
 
-// The planner made an order.
+// The planner made an order. Each case by its name: as `matches!` the proof has to name the cases.
+#[tactic(auto, using(crate::specs::Halving::refused_number), unfolding(rules::specs::Numbers::planned_number))]
 fn is_ordered(answer: Planned) -> bool
     ensures { result ≡ eqb (planned_number answer) 0 }
 {
     match answer {
-        Planned::Ordered => true,
-        Planned::NoOrder(_) => false,
-        Planned::Refused(_) => false,
+        Ok(Plan::Ordered) => true,
+        Ok(Plan::NoOrder(_)) | Err(_) => false,
     }
 }
 
@@ -72,28 +73,24 @@ fn halved(sought: Sought, t: Table, between: Between) -> Between
     requires { Accepted t × Halving sought t between }
     ensures { Halving sought t result × (result.high - result.low ≤ (between.high - between.low) / 2) }
 {
-    let low = between.low;
-    let high = between.high;
+    let Between { low, high, order } = between;
     if low == high {
         return between;
     }
     let middle = low + (high - low) / 2;
-    let tried = at_speed(sought, t, middle);
-    let planning = planner::plan(tried);
-    let answer = planning.answer;
+    let planning = planner::plan(at_speed(sought, t, middle));
     let made = planning.order;
-    let kept = between.order;
-    if is_ordered(answer) {
+    if is_ordered(planning.answer) {
         Between {
-            low: low,
+            low,
             high: middle,
             order: made,
         }
     } else {
         Between {
             low: middle + 1,
-            high: high,
-            order: kept,
+            high,
+            order,
         }
     }
 }
@@ -106,28 +103,23 @@ fn search(sought: Sought, t: Table) -> Searching
 {
     let last = fastest(sought, t);
     let first = slowest(sought, t);
-    let none: [u8; 64] = [0; 64];
     let mut between = Between {
         low: first,
         high: last + 1,
-        order: none,
+        order: [0; 64],
     };
-    let mut turn: u32 = 0;
-    while turn < 10 {
+    for turn in 0..10u32 {
         between = halved(sought, t, between);
-        turn += 1;
     }
-    let least = between.low;
-    let order = between.order;
-    if last < least {
-        return Searching {
-            answer: Searched::NoSpeed,
-            order: order,
-        };
-    }
+    let Between {
+        low: least,
+        order,
+        ..
+    } = between;
+    let found = if last < least { None } else { Some(least) };
     Searching {
-        answer: Searched::Least(least),
-        order: order,
+        answer: Ok(found),
+        order,
     }
 }
 
@@ -135,10 +127,9 @@ fn search(sought: Sought, t: Table) -> Searching
 fn refused(why: Refusal) -> Searching
     ensures { result ≡ search_refused why }
 {
-    let none: [u8; 64] = [0; 64];
     Searching {
-        answer: Searched::Refused(why),
-        order: none,
+        answer: Err(why),
+        order: [0; 64],
     }
 }
 
@@ -146,10 +137,9 @@ fn refused(why: Refusal) -> Searching
 pub fn least_speed(sought: Sought, t: Table) -> Searching
     ensures { Promise sought t result }
 {
-    let check = checks::check_table(t);
-    match check {
-        Check::Refused(why) => refused(why),
-        Check::Passed => search(sought, t),
+    match checks::check_table(&t) {
+        Err(why) => refused(why),
+        Ok(()) => search(sought, t),
     }
 }
 
@@ -158,10 +148,8 @@ pub fn sheet_speed(sought: Sought, sheet: &[u8]) -> Searching
     ensures { SheetPromise sought sheet.now result }
 {
     let reading = sheet::read(sheet);
-    let check = reading.check;
-    let table = reading.table;
-    match check {
-        Check::Refused(why) => refused(why),
-        Check::Passed => least_speed(sought, table),
+    match reading.check {
+        Err(why) => refused(why),
+        Ok(()) => least_speed(sought, reading.table),
     }
 }

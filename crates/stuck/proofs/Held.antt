@@ -18,7 +18,7 @@ use Rattle.theory.specs.Tests.{by-leb, both_ways}
 use Rattle.theory.proofs.Waiting.{unbound_table}
 use Rattle.theory.specs.Waiting.{unbound}
 use Rattle.choices.specs.Choices.{rows_in, renumbered, alone}
-use Rattle.lowest.proofs.Alone.{all_map, all_agree, alone_table, renumbered_row, new_number, entry_in, row_in, single, image, every_row}
+use Rattle.lowest.proofs.Alone.{all_map, all_agree, alone_table, renumbered_row, new_number, entry_in, row_in, image, every_row}
 use Rattle.lowest.specs.Alone.{Chosen}
 use Rattle.lowest.proofs.Counted.{rows_chosen}
 use Rattle.lowest.specs.Images.{Image, in_map, once_map, passes_image}

@@ -6,5 +6,6 @@ pub mod Sorts
 pub mod Rises
 pub mod Ranks
 pub mod Trials
+pub mod ByRow
 pub mod CapColumn
 pub mod Finds

@@ -1,14 +1,13 @@
 -- What the program promises of its text, and that every text has at most 1,617 bytes: a first line of 17 and 64 lines of 25.
-use Rattle.std.specs.Prelude.{ℕ, ◌≤◌, ◌≡◌, refl, List, [], ◌∷◌, ◌++◌, length, take, drop}
+use Rattle.std.specs.Prelude.{ℕ, ◌≤◌, ◌≡◌, refl, List, [], ◌∷◌, ◌++◌, length, take, drop, Ok, Err}
 use Rattle.std.proofs.Common.{sym, ap, ◌∙◌, arith, length-append}
 use Rattle.std.specs.Int.Count.{ones}
 use Rattle.rules.specs.declared.Table.{Table}
-use Rattle.rules.specs.declared.Check.{Check}
-use Rattle.rules.specs.declared.Check.TheVariants as Checks
 use Rattle.rules.specs.declared.Reading.{Reading}
 use Rattle.rules.specs.declared.Planning.{Planning}
-use Rattle.rules.specs.declared.Planned.{Planned}
-use Rattle.rules.specs.declared.Planned.TheVariants as Plans
+use Rattle.rules.specs.Plans.{Planned}
+use Rattle.rules.specs.declared.Plan.TheVariants as Plan
+use Rattle.rules.specs.Checks.{Check, Passed}
 use Rattle.rules.specs.Lists.{rows_to, joined}
 use Rattle.rules.specs.Numbers.{refusal_number}
 use Rattle.rules.specs.Tables.{Accepted}
@@ -29,16 +28,16 @@ pub record Answered (input out out' : List ℕ) (r : ℕ) : Type 0 where
   pub text : out' ≡ program_text input ++ drop (length (program_text input)) out
 
 -- a sheet that passes states an accepted table, and so does what the reader makes of it
-read_accepted : (bytes : List ℕ) → (read_of bytes).check ≡ Checks.Passed → Accepted (read_of bytes).table
+read_accepted : (bytes : List ℕ) → (read_of bytes).check ≡ Passed → Accepted (read_of bytes).table
 unfolding read_of
 read_accepted bytes h = go (check_sheet bytes) refl h
   where
-    go : (c : Check) → check_sheet bytes ≡ c → (read_checked c (table_in bytes)).check ≡ Checks.Passed → Accepted (read_checked c (table_in bytes)).table
-    go Checks.Passed e q = (accepts bytes e).accepted
-    go (Checks.Refused r) e q = clash q
+    go : (c : Check) → check_sheet bytes ≡ c → (read_checked c (table_in bytes)).check ≡ Passed → Accepted (read_checked c (table_in bytes)).table
+    go (Ok tt) e q = (accepts bytes e).accepted
+    go (Err r) e q = clash q
 
 -- a table read from a sheet that passed
-pub reading_accepted : (bytes : List ℕ) (r : Reading) → r ≡ read_of bytes → r.check ≡ Checks.Passed → Accepted r.table
+pub reading_accepted : (bytes : List ℕ) (r : Reading) → r ≡ read_of bytes → r.check ≡ Passed → Accepted r.table
 reading_accepted bytes r e q = rw e (read_accepted bytes (rw e at q))
 
 -- the text of a reading, by its check
@@ -52,14 +51,14 @@ pub planning_text : (t : Table) (r : Planning) (a : Planned) → r ≡ plan_of t
 planning_text t r a e q = ap (plan_text t r.order) (sym q) ∙ ap (λ (s : Planning). plan_text t s.order s.answer) e
 
 plan_most : (t : Table) (o : List ℕ) (p : Planned) → t.n ≤ 64 → length (plan_text t o p) ≤ 1617
-plan_most t o Plans.Ordered h =
+plan_most t o (Ok Plan.Ordered) h =
     omega (arith, length-append (line (0 ∷ t.n ∷ [])) (joined (place_line t o) (rows_to t.n)), pair_long 0 t.n, places_long t o t.n)
-plan_most t o (Plans.NoOrder left) h = omega (arith, pair_long 7 (ones left))
-plan_most t o (Plans.Refused r) h = omega (arith, pair_long (refusal_number r) 0)
+plan_most t o (Ok (Plan.NoOrder left)) h = omega (arith, pair_long 7 (ones left))
+plan_most t o (Err r) h = omega (arith, pair_long (refusal_number r) 0)
 
-read_most : (c : Check) (t : Table) → (c ≡ Checks.Passed → Accepted t) → length (read_text c t) ≤ 1617
-read_most Checks.Passed t h = plan_most t (plan_of t).order (plan_of t).answer (facts t (h refl)).few
-read_most (Checks.Refused r) t h = omega (arith, pair_long (refusal_number r) 0)
+read_most : (c : Check) (t : Table) → (c ≡ Passed → Accepted t) → length (read_text c t) ≤ 1617
+read_most (Ok tt) t h = plan_most t (plan_of t).order (plan_of t).answer (facts t (h refl)).few
+read_most (Err r) t h = omega (arith, pair_long (refusal_number r) 0)
 
 pub text_most : (input : List ℕ) → length (program_text input) ≤ 1617
 unfolding program_text

@@ -5,8 +5,7 @@ use Rattle.std.proofs.Common.{sym, ap, ◌∙◌, arith, le-ltb, leb-true, ne_eq
 use Rattle.std.proofs.Math.ListN.{get_or-append}
 use Rattle.rules.specs.declared.Table.{Table}
 use Rattle.rules.specs.declared.Refusal.TheVariants.{Length, Malformed, RowCount}
-use Rattle.rules.specs.declared.Check.{Check}
-use Rattle.rules.specs.declared.Check.TheVariants.{Refused}
+use Rattle.rules.specs.Checks.{Check, Refused}
 use Rattle.rules.specs.Tables.{count_ok}
 use Rattle.texts.specs.Sheets.{is_line, number_at, table_in, check_sheet, read_checked, read_of}
 use Rattle.texts.specs.Program.{read_text, program_text}

@@ -2,7 +2,7 @@
 use Rattle.std.specs.Prelude.{ℕ, ◌-◌, ◌≤◌, true, ◌≡◌, List, [], ◌∷◌, map}
 use Rattle.std.proofs.Common.{sym, ap, ◌∙◌, arith, leb-true}
 use Rattle.rules.specs.declared.Table.{Table}
-use Rattle.rules.specs.declared.Planned.TheVariants.{Ordered}
+use Rattle.rules.specs.Plans.{Ordered}
 use Rattle.rules.specs.declared.Planning.{Planning}
 use Rattle.rules.specs.Rows.{at, rows_of, deadline_of}
 use Rattle.rules.specs.Tables.{Accepted}

@@ -2,7 +2,7 @@
 use Rattle.std.specs.Prelude.{ℕ, suc, ◌*◌, cond, ◌&&◌, List, [], ◌∷◌, ◌++◌, map, ltb, leb, ℤ, pos, negsuc, length}
 use Rattle.std.specs.Int.Signed.{lt_z}
 use Rattle.rules.specs.declared.Table.{Table}
-use Rattle.rules.specs.declared.Check.{Check}
+use Rattle.rules.specs.Checks.{Check}
 use Rattle.rules.specs.Lists.{rows_to, sum, joined}
 use Rattle.rules.specs.Orders.{check_both}
 use Rattle.rules.specs.Rows.{at, rows_of, need_of}

@@ -1,11 +1,10 @@
 -- The sheet: a first line of 33 bytes with n, N, G and K, a line of 49 bytes for each row, and no byte more (rules 6.4 to 6.7); what the reader
 -- makes of any bytes (rule 6.8), and what the writer makes of any table and any bytes that it is lent (section 15 of the rules).
-use Rattle.std.specs.Prelude.{ℕ, ◌+◌, ◌-◌, ◌*◌, Bool, cond, ◌&&◌, List, [], ◌∷◌, ◌++◌, map, eqb, ltb, length, get_or, take, replicate}
+use Rattle.std.specs.Prelude.{ℕ, ◌+◌, ◌-◌, ◌*◌, Bool, cond, ◌&&◌, List, [], ◌∷◌, ◌++◌, map, eqb, ltb, length, get_or, take, replicate, Ok, Err}
 use Rattle.rules.specs.declared.Table.{Table}
 use Rattle.rules.specs.declared.Refusal.TheVariants.{Length, Malformed, RowCount}
-use Rattle.rules.specs.declared.Check.{Check}
-use Rattle.rules.specs.declared.Check.TheVariants.{Passed, Refused}
 use Rattle.rules.specs.declared.Reading.{Reading}
+use Rattle.rules.specs.Checks.{Check, Passed, Refused}
 use Rattle.rules.specs.Lists.{all, rows_to, joined}
 use Rattle.rules.specs.Rows.{at, rows_of, release_of, work_of, deadline_of, promised_of, follows_of}
 use Rattle.rules.specs.Tables.{count_ok, and_then, check_table, zero_table}
@@ -61,8 +60,8 @@ check_sheet bytes =
 
 -- a refusal comes with the table of zeros (rule 6.8)
 abbrev pub read_checked : Check → Table → Reading
-read_checked Passed t = record { check = Passed; table = t }
-read_checked (Refused r) t = record { check = Refused r; table = zero_table }
+read_checked (Ok tt) t = record { check = Passed; table = t }
+read_checked (Err r) t = record { check = Refused r; table = zero_table }
 
 -- the reader's answer for any bytes: the number and the whole table, all zero on a refusal (rule 6.8)
 unfoldable pub read_of : List ℕ → Reading

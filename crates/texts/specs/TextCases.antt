@@ -7,7 +7,7 @@ use Prim.Native.String.{String}
 use Rattle.std.specs.Int.Count.{ones, ones_in}
 use Rattle.rules.specs.declared.Table.{Table}
 use Rattle.rules.specs.declared.Refusal.TheVariants.{NotAnOrder}
-use Rattle.rules.specs.declared.Planned.TheVariants.{Refused}
+use Rattle.rules.specs.Plans.{Refused}
 use Rattle.rules.specs.Choice.{plan_of, padded, unfollowed, passes, sequence, choice, fill, taker, word}
 use Rattle.rules.specs.Lists.{same}
 use Rattle.rules.specs.Need.{work_slots}

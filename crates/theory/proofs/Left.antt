@@ -7,7 +7,6 @@ use borrow.Author.Tests.{lt-ltb, le-ltb, eq-eqb, ne_eqb}
 use Rattle.rules.specs.declared.Table.{Table}
 use Rattle.rules.specs.Rows.{release_of}
 use Rattle.theory.specs.Tests.{by_bool, by_eqb, by-ltb}
-use Rattle.theory.specs.Backlog.{brings}
 use Rattle.theory.specs.Caps.{cap}
 use Rattle.theory.specs.Cells.{Cell, grown, served}
 use Rattle.theory.specs.Ends.{Rule}

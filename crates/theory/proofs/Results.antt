@@ -3,7 +3,7 @@
 -- stands in b; `Same a b`, the two hold the same rows. A list that is within the table's rows holds each row at most once. `Closed t l` says that l holds
 -- every row which one of its rows follows, and `Stand t a i` that a does so and holds the row which row i follows (Waits): every order that passes
 -- check 6 has such rows above each of its rows.
-use Rattle.std.specs.Prelude.{ℕ, ◌+◌, ◌-◌, ◌≤◌, ◌<◌, true, false, ◌≡◌, refl, ◌↔◌, ℤ, pos, negsuc, nat_abs}
+use Rattle.std.specs.Prelude.{ℕ, ◌+◌, ◌≤◌, ◌<◌, true, false, ◌≡◌, refl, ◌↔◌, ℤ, pos, negsuc, nat_abs}
 use Rattle.std.proofs.Common.{true≢false, sym, ap, subst, ◌∙◌}
 use mathlib.Core.List.{List, [], ◌∷◌, ◌++◌}
 use native.Mathlib.Omega.{arith}
@@ -14,7 +14,7 @@ use Rattle.rules.specs.Lists.{first, erase}
 use Rattle.rules.specs.Rows.{at, is_row, is_low, is_high, is_promised, rows_of, release_of, work_of, deadline_of, promised_of, follows_of, promise_need, need_for}
 use Rattle.rules.specs.Tables.{Accepted}
 use Rattle.rules.specs.Orders.{is_order}
-use Rattle.rules.specs.Slots.{State, is_pending, chosen, allowance, after}
+use Rattle.rules.specs.Slots.{State, is_pending, chosen, after}
 use Rattle.rules.specs.Correct.{KeptIn, Correct, CorrectOrder, earliest, Window}
 use Rattle.rules.specs.Running.{run_after, RunServes}
 use Rattle.rules.specs.Worst.{worst_speed, horizon, worst_finish, promised_moment, slack}

@@ -1,7 +1,7 @@
 -- An order that serves in runs (rule 19.5), correct or not, keeps each row's deadline, and a LO row's promised part, wherever the row's own window
 -- supplied enough, whatever the other slots supplied: the run up to the deadline is that of a course which is good throughout, a closed row stays
 -- closed, and work got is never taken back.
-use Rattle.std.specs.Prelude.{ℕ, zero, suc, ◌+◌, ◌-◌, ◌≤◌, ◌<◌, Bool, true, false, cond, ◌&&◌, List, ◌≡◌, refl, leb, ltb}
+use Rattle.std.specs.Prelude.{ℕ, zero, suc, ◌+◌, ◌-◌, ◌≤◌, ◌<◌, true, cond, ◌&&◌, List, ◌≡◌, refl, leb, ltb}
 use Rattle.std.proofs.Common.{sym, ap, subst, ◌∙◌, arith, le-leb, lt-ltb, leb-true, ltb-true}
 use Rattle.rules.specs.declared.Table.{Table}
 use Rattle.rules.specs.Correct.{KeptIn, earliest, Window}
@@ -10,7 +10,7 @@ use Rattle.rules.specs.Running.{run_slot, run_after, RunServes}
 use Rattle.rules.specs.Slots.{State}
 use Rattle.rules.specs.Tables.{Accepted}
 use Rattle.rules.specs.Worst.{worst_speed}
-use Rattle.theory.specs.Cells.{Cell, cell_at}
+use Rattle.theory.specs.Cells.{cell_at}
 use Rattle.theory.specs.Ends.{running, state_by, running_is, clock_run}
 use Rattle.theory.specs.Facts.{Row, row_is, TableFacts, facts}
 use Rattle.theory.proofs.Lost.{slot_lost}

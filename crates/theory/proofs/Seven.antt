@@ -1,6 +1,6 @@
 -- What a 7 does not say (rule 19.8): a table without a correct order for which an order serves, since a late preview stops. All courses of speed
 -- are gone through slot by slot: a slot that supplies more than the largest work does what one does that supplies just that.
-use Rattle.std.specs.Prelude.{ℕ, zero, suc, ◌+◌, ◌-◌, ◌≤◌, min, Bool, true, false, ◌&&◌, ◌≡◌, refl, List, [], ◌∷◌, eqb, ltb, leb, get_or}
+use Rattle.std.specs.Prelude.{ℕ, zero, suc, ◌+◌, ◌-◌, ◌≤◌, min, Bool, true, ◌&&◌, ◌≡◌, refl, List, [], ◌∷◌, eqb, ltb, leb, get_or}
 use Rattle.std.proofs.Common.{true≢false, sym, arith, leb-true, eqb-true}
 use Rattle.rules.specs.declared.Table.{Table}
 use Rattle.rules.specs.Choice.{padded, choice, sequence, fill, taker, unfollowed, passes, word, plan_of}

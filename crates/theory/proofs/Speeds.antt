@@ -16,7 +16,6 @@ use Rattle.theory.specs.Counts.{sum_le}
 use Rattle.theory.specs.Backlog.{backlog, backlog_mono, brings, arrivals}
 use Rattle.theory.specs.Caps.{cap, slots_fall}
 use Rattle.theory.specs.Facts.{Row, facts}
-use Rattle.theory.proofs.Promised.{correct}
 
 -- smaller caps, smaller backlog
 pub caps_backlog : (rel less more : ℕ → ℕ) (l : List ℕ) → ((x : ℕ) → less x ≤ more x) → (u : ℕ) → backlog (arrivals rel less l) u ≤ backlog (arrivals rel more l) u

@@ -1,17 +1,15 @@
 -- What a sweep adds is at most 65,001,024 slots: the latest release (1,000,000 slots) and every row's cap (64 times 1,000,016 slots).
-use Rattle.std.specs.Prelude.{ℕ, ◌+◌, ◌-◌, ◌≤◌}
+use Rattle.std.specs.Prelude.{ℕ, ◌+◌, ◌≤◌}
 use mathlib.Core.List.{List, [], ◌∷◌}
 use native.Mathlib.Omega.{arith}
 use Rattle.rules.specs.declared.Table.{Table}
 use Rattle.rules.specs.Lists.{sum, greatest}
-use Rattle.rules.specs.Rows.{at, rows_of, release_of}
+use Rattle.rules.specs.Rows.{rows_of, release_of}
 use Rattle.rules.specs.Tables.{Accepted}
 use Rattle.theory.specs.Counts.{In, Within, in_head, in_tail, sum_within, sum_most}
-use Rattle.theory.specs.Sweep.{sweep}
 use Rattle.theory.specs.Caps.{cap, cap_most}
 use Rattle.theory.specs.Facts.{Row, TableFacts, rows_in_lem, facts}
 use Rattle.theory.specs.Places.{length_rows}
-use Rattle.theory.specs.Promised.{latest}
 
 module _ (t : Table) (accepted : Accepted t) where
   abbrev f : TableFacts t

@@ -1,5 +1,5 @@
 -- What the steps of Demand come to: the demand of the rows of a list, from slot to slot, stays within their backlog.
-use Rattle.std.specs.Prelude.{ℕ, zero, suc, ◌-◌, ◌≤◌, ◌<◌, ◌≡◌, List}
+use Rattle.std.specs.Prelude.{ℕ, zero, suc, ◌≤◌, ◌<◌, ◌≡◌, List}
 use Rattle.std.proofs.Common.{arith}
 use Rattle.rules.specs.Lists.{sum}
 use Rattle.theory.specs.Backlog.{backlog}

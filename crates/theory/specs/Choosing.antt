@@ -1,5 +1,5 @@
 -- The planner's choice: what it places meets its deadlines, and where it stops no order is correct.
-use Prim.Native.Nat.{ℕ, ◌+◌}
+use Prim.Native.Nat.{ℕ}
 use Rattle.std.specs.Prelude.{◌≡◌}
 use Rattle.std.proofs.Math.Bool.{true}
 use mathlib.Core.List.{List, ◌∷◌, ◌++◌}

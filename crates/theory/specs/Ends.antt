@@ -2,7 +2,7 @@
 -- deadlines that clock has reached, and changes nothing else. The planning rule closes none; the running rule closes the LO rows among them.
 -- What is shown here and in Invariant, Sustain and Verdict holds of any such rule; exactness (Exact) is the planning rule's alone.
 use Prim.Native.Nat.{ℕ, zero, suc, ◌≤◌}
-use Rattle.std.specs.Prelude.{Bool, true, false, ◌&&◌, cond, ◌≡◌, List, ◌⊎◌, leb, eqb, length}
+use Rattle.std.specs.Prelude.{Bool, true, false, ◌&&◌, ◌≡◌, List, ◌⊎◌, leb}
 use Rattle.std.proofs.Common.{true≢false, sym, ◌∙◌, arith, leb-true}
 use Rattle.std.proofs.Math.Path.{refl, ap}
 use Rattle.std.proofs.Math.Logic.{inl, inr}
@@ -11,8 +11,8 @@ use Rattle.rules.specs.Rows.{at, is_row, is_low, deadline_of}
 use Rattle.rules.specs.Running.{is_due, close_late, run_slot, run_after}
 use Rattle.rules.specs.Slots.{State, fresh, slot, course, after}
 use Rattle.theory.specs.Tests.{by_bool, by_eqb, and_right}
-use Rattle.theory.specs.Facts.{Row, is_row_lem, TableFacts}
-use Rattle.theory.specs.Cells.{Cell, cell_at, Sized, sized_fresh, sized_slot, clock_slot}
+use Rattle.theory.specs.Facts.{Row, is_row_lem}
+use Rattle.theory.specs.Cells.{cell_at, Sized, sized_fresh, sized_slot, clock_slot}
 use Rattle.theory.specs.Late.{closed_length, closed_at}
 
 -- the look at the clock of state s, which leaves state e, has closed row i: it was open, and the clock is its closing slot

@@ -1,10 +1,9 @@
 -- What an accepted table and a checked order say, as facts.
-use Rattle.std.specs.Prelude.{ℕ, zero, suc, ◌≤◌, ◌<◌, Bool, true, ◌&&◌, ◌||◌, ◌≡◌, refl, List, [], ◌∷◌, eqb, ltb, leb}
+use Rattle.std.specs.Prelude.{ℕ, zero, suc, ◌≤◌, ◌<◌, Bool, true, ◌&&◌, ◌||◌, ◌≡◌, refl, List, [], ◌∷◌, eqb, ltb, leb, Ok, Err}
 use Rattle.std.proofs.Common.{arith, leb-true, ltb-true, eqb-true, lt-ltb, le-leb}
 use Rattle.rules.specs.declared.Table.{Table}
 use Rattle.rules.specs.declared.Refusal.{Refusal}
-use Rattle.rules.specs.declared.Check.{Check}
-use Rattle.rules.specs.declared.Check.TheVariants.{Passed, Refused}
+use Rattle.rules.specs.Checks.{Check, Passed, Refused}
 use Rattle.rules.specs.Lists.{all, rows_to, count}
 use Rattle.rules.specs.Rows.{at, is_row, rows_of, release_of, work_of, deadline_of, promised_of, follows_of, is_follower, is_low, is_high}
 use Rattle.rules.specs.Orders.{is_order, check_order, check_both}
@@ -117,12 +116,12 @@ clash e = let z : ◌≡◌ {A = ℕ} 0 1 = cc in absurd (omega arith)
 
 -- two checks, one after the other, pass if both do
 then_first : (c d : Check) → and_then c d ≡ Passed → c ≡ Passed
-then_first Passed d e = refl
-then_first (Refused r) d e = e
+then_first (Ok tt) d e = refl
+then_first (Err r) d e = e
 
 then_second : (c d : Check) → and_then c d ≡ Passed → d ≡ Passed
-then_second Passed d e = e
-then_second (Refused r) d e = clash e
+then_second (Ok tt) d e = e
+then_second (Err r) d e = clash e
 
 -- the row that a row follows: a row of a lower number, released no later, and HI if the follower is
 pub record Follows (t : Table) (i : ℕ) : Type 0 where

@@ -2,8 +2,7 @@
 use Rattle.std.specs.Prelude.{ℕ, ◌≤◌, ◌<◌, Bool, ◌≡◌, leb}
 use mathlib.Core.List.{List}
 use Rattle.rules.specs.declared.Table.{Table}
-use Rattle.rules.specs.Rows.{at, release_of, deadline_of}
-use Rattle.rules.specs.Slots.{after}
+use Rattle.rules.specs.Rows.{release_of, deadline_of}
 use Rattle.rules.specs.Worst.{worst_speed, worst_finish}
 use Rattle.theory.specs.Backlog.{backlog, arrivals}
 use Rattle.theory.specs.Caps.{cap}

@@ -1,9 +1,8 @@
 -- Check 10 after other checks (rules 11.6, 11.7): what it says of the room, and what its answer says back.
-use Rattle.std.specs.Prelude.{ℕ, ◌≤◌, ◌<◌, ◌≡◌, refl}
+use Rattle.std.specs.Prelude.{ℕ, ◌≤◌, ◌<◌, ◌≡◌, refl, Ok, Err}
 use Rattle.std.proofs.Common.{lt-ltb, le-ltb}
 use Rattle.rules.specs.declared.Refusal.TheVariants.{NoRoom}
-use Rattle.rules.specs.declared.Check.{Check}
-use Rattle.rules.specs.declared.Check.TheVariants.{Passed, Refused}
+use Rattle.rules.specs.Checks.{Check, Passed, Refused}
 use Rattle.rules.specs.Tables.{and_then}
 use Rattle.texts.specs.Lent.{check_room}
 use Rattle.theory.specs.Tests.{by-ltb}
@@ -24,5 +23,5 @@ module _ (size room : ℕ) where
 
 -- of two checks that passed together, each passed
 pub both_passed : (c d : Check) → and_then c d ≡ Passed → (c ≡ Passed) × (d ≡ Passed)
-both_passed Passed d e = (refl, e)
-both_passed (Refused r) d e = clash e
+both_passed (Ok tt) d e = (refl, e)
+both_passed (Err r) d e = clash e

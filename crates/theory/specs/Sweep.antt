@@ -1,5 +1,5 @@
 -- The sweep: one pass over rows sorted by release finds the finish.
-use Rattle.std.specs.Prelude.{ℕ, ◌+◌, ◌-◌, ◌≤◌, ◌<◌, max, true, false, cond, ◌&&◌, ◌≡◌, List, [], ◌∷◌, ltb, leb}
+use Rattle.std.specs.Prelude.{ℕ, ◌+◌, ◌≤◌, ◌<◌, max, true, false, cond, ◌&&◌, ◌≡◌, List, [], ◌∷◌, ltb, leb}
 use Rattle.std.proofs.Common.{arith}
 use Rattle.theory.specs.Tests.{by-ltb, by-leb}
 

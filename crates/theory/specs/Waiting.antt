@@ -6,7 +6,7 @@ use Prim.Native.Nat.{ℕ, ◌+◌, ◌≤◌}
 use Rattle.std.specs.Prelude.{replicate}
 use Rattle.rules.specs.declared.Table.{Table}
 use Rattle.rules.specs.Rows.{at, follows_of}
-use Rattle.rules.specs.Slots.{State, after}
+use Rattle.rules.specs.Slots.{State}
 
 -- the table with every w at 0
 abbrev pub unbound : Table → Table

@@ -1,10 +1,10 @@
 -- Rows that follow rows (section 21 of the rules). A set of rows that holds every row which one of them follows never waits as a whole: while one of them
 -- is released and open, a slot goes to one of them, in whatever order they stand (rule 21.3).
-use Rattle.std.specs.Prelude.{ℕ, zero, suc, ◌+◌, ◌≤◌, true, List, [], ◌∷◌, ◌++◌, ◌≡◌}
+use Rattle.std.specs.Prelude.{ℕ, zero, suc, ◌≤◌, true, List, [], ◌∷◌, ◌++◌, ◌≡◌}
 use Rattle.std.proofs.Common.{arith}
 use Rattle.rules.specs.declared.Table.{Table}
 use Rattle.rules.specs.Lists.{count}
-use Rattle.rules.specs.Rows.{at, rows_of, follows_of}
+use Rattle.rules.specs.Rows.{rows_of, follows_of}
 use Rattle.rules.specs.Slots.{State, is_pending, is_ready, chosen}
 use Rattle.theory.specs.Tests.{by_eqb}
 use Rattle.theory.specs.Counts.{In, Same, count_append, first_above}

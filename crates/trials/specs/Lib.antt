@@ -4,6 +4,7 @@ pub mod Sequence
 pub mod Prepared
 pub mod Opening
 pub mod Allowed
+pub mod Lent
 pub mod Taking
 pub mod Counting
 pub mod Turns

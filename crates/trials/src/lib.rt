@@ -15,8 +15,11 @@ ghost use Rattle.trials.specs.Keys.{key_of, key_in, Soon};
 ghost use Rattle.trials.specs.Prepared.{trials_of};
 ghost use Rattle.trials.specs.Opening.{cleared, open_to};
 ghost use Rattle.trials.specs.Allowed.{FirstOf};
+ghost use Rattle.trials.specs.Lent.{Lent, LentParts};
 
+use periods::{AtSpeed, Promises};
 use rules::Table;
+use sweep::Workload;
 
 // What a planning works out once: the rows by rising release, the trial sequence, each row's entry in it from 0, the entries of LO and of HI rows as
 // words, the caps in slots at supplies of at least the normal and at least the degraded speed, and the needs in slots of the promised parts at the
@@ -43,33 +46,23 @@ fn trial_key(level: u32, deadline: u32) -> u32
 }
 
 // The keys of n rows by their levels and deadlines (in slots).
-fn trial_keys<'a>(n: u32, level: &'a [u32; 64], deadline: &'a [u32; 64]) -> [u32; 64]
+fn trial_keys(n: u32, level: &[u32; 64], deadline: &[u32; 64]) -> [u32; 64]
     requires { (n ≤ 64) × Soon n deadline.now }
     ensures { result ≡ padded (map (key_in level.now deadline.now) (rows_to n)) }
 {
-    let mut out: [u32; 64] = [0; 64];
-    let mut k: u32 = 0;
-    while k < n {
-        let i = k as usize;
-        out[i] = trial_key(level[i], deadline[i]);
-        k += 1;
-    }
-    out
+    sweep::by_row(n, |i| trial_key(level[i], deadline[i]))
 }
 
 // The entries of the trial sequence, in a word, whose rows are of this level.
-fn entries_at<'a>(sequence: &'a [u8; 64], level: &'a [u32; 64], n: u32, wanted: u32) -> u64
+fn entries_at(sequence: &[u8; 64], level: &[u32; 64], n: u32, wanted: u32) -> u64
     requires { (n ≤ 64) × Rows sequence.now n }
     ensures { result ≡ marks (λ i. eqb (at level.now i) wanted) (take n sequence.now) }
 {
     let mut word: u64 = 0;
-    let mut k: u32 = 0;
-    while k < n {
-        let row = sequence[k as usize];
-        if sweep::entry(level, row) == wanted {
+    for k in 0..n {
+        if sweep::entry(level, sequence[k as usize]) == wanted {
             word = sweep::with(word, (k + 1) as u8);
         }
-        k += 1;
     }
     word
 }
@@ -80,16 +73,14 @@ fn entries(sequence: &[u8; 64], n: u32) -> [u8; 64]
     ensures { result ≡ entries_to sequence.now n }
 {
     let mut out: [u8; 64] = [0; 64];
-    let mut k: u32 = 0;
-    while k < n {
+    for k in 0..n {
         let row = sequence[k as usize];
         out[(row - 1) as usize] = k as u8;
-        k += 1;
     }
     out
 }
 
-// What all trials of a planning share.
+// What all trials of a planning share. Here and in the crates above `Accepted` is a clause of one word and no type: the definitions take the plain table.
 pub fn prepare(t: Table) -> Trials
     requires { Accepted t }
     ensures { result ≡ trials_of t }
@@ -102,18 +93,16 @@ pub fn prepare(t: Table) -> Trials
     let high = entries_at(&sequence, &t.level, t.n, 1);
     let normal = sweep::needs(t.n, t.loading, &t.work, t.normal);
     let part = sweep::needs(t.n, t.loading, &t.promised, t.degraded);
-    let degraded = sweep::degraded_caps(
-        t.n, t.loading, &t.work, &t.level, &normal, &part, t.degraded,
-    );
+    let degraded = sweep::degraded_caps(&t, &normal, &part);
     Trials {
-        queue: queue,
-        sequence: sequence,
-        entry: entry,
-        low: low,
-        high: high,
-        normal: normal,
-        degraded: degraded,
-        part: part,
+        queue,
+        sequence,
+        entry,
+        low,
+        high,
+        normal,
+        degraded,
+        part,
     }
 }
 
@@ -123,39 +112,65 @@ fn clear(word: u64, seat: u8) -> u64
     ensures { result ≡ cleared word (seat - 1) }
 {
     if sweep::has(word, seat) {
-        return sweep::without(word, seat);
+        sweep::without(word, seat)
+    } else {
+        word
     }
-    word
 }
 
-// The entries that are tried at a place (rule 4.11): those of the rows left, but not that of a row which a row left follows. Where the table is free of
-// waits no row is looked at.
-pub fn open_entries<'a>(
-    free: bool,
-    follows: &'a [u32; 64],
-    entry: &'a [u8; 64],
-    n: u32,
-    left: u64,
-    unplaced: u64,
-) -> u64
-    requires { (n ≤ 64) × ((k : ℕ) → k < n → get_or follows.now k 0 ≤ 64) × Entries entry.now }
-    ensures { result ≡ cond free unplaced (open_to follows.now entry.now left unplaced n) }
-{
-    if free {
-        return unplaced;
+impl Trials {
+    // The rows at supplies of at least the normal speed.
+    pub fn at_normal<'a>(&'a self, t: &'a Table) -> AtSpeed<'a>
+        ensures { Lent self.now t.now self.now.normal result }
+    {
+        let load = Workload {
+            queue: &self.queue,
+            n: t.n,
+            release: &t.release,
+            cap: &self.normal,
+        };
+        AtSpeed {
+            load,
+            deadline: &t.deadline,
+            sequence: &self.sequence,
+            entry: &self.entry,
+        }
     }
-    let mut tries = unplaced;
-    let mut k: u32 = 0;
-    while k < n {
-        let w = follows[k as usize];
-        if w != 0 {
-            if sweep::has(left, (k + 1) as u8) {
-                tries = clear(tries, entry[(w - 1) as usize] + 1);
+
+    // The rows at supplies of at least the degraded speed, and what promised parts are tried with there.
+    pub fn promises<'a>(&'a self, t: &'a Table) -> Promises<'a>
+        ensures { LentParts self.now t.now result }
+    {
+        let normal = self.at_normal(t);
+        let load = Workload {
+            cap: &self.degraded,
+            ..normal.load
+        };
+        Promises {
+            slow: AtSpeed { load, ..normal },
+            promised: &t.promised,
+            part: &self.part,
+        }
+    }
+
+    // The entries that are tried at a place (rule 4.11): those of the rows left, but not that of a row which a row left follows. Where the table is free
+    // of waits no row is looked at.
+    pub fn open_entries(&self, t: &Table, free: bool, left: u64, unplaced: u64) -> u64
+        requires { (t.now.n ≤ 64) × ((k : ℕ) → k < t.now.n → get_or t.now.follows k 0 ≤ 64) × Entries self.now.entry }
+        ensures { result ≡ cond free unplaced (open_to t.now.follows self.now.entry left unplaced t.now.n) }
+    {
+        if free {
+            return unplaced;
+        }
+        let mut tries = unplaced;
+        for k in 0..t.n {
+            let followed = t.follows[k as usize];
+            if followed != 0 && sweep::has(left, (k + 1) as u8) {
+                tries = clear(tries, self.entry[(followed - 1) as usize] + 1);
             }
         }
-        k += 1;
+        tries
     }
-    tries
 }
 
 // The first entries of a word: as many as this, or all where they are no more (rule 23.6).
@@ -167,6 +182,7 @@ pub fn first_entries(word: u64, most: u32) -> u64
     }
     let mut seat: u32 = 0;
     let mut found: u32 = 0;
+    // A `while`: it stops at the seat of the last entry allowed, and a `for` over the seats would only hand that seat out of a break: no plainer.
     while found < most {
         seat += 1;
         if sweep::has(word, seat as u8) {

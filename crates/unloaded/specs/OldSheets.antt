@@ -3,9 +3,8 @@
 use Rattle.std.specs.Prelude.{ℕ, ◌+◌, ◌-◌, ◌*◌, cond, List, [], ◌∷◌, ◌++◌, map, eqb, ltb, length, take, drop, replicate}
 use Rattle.rules.specs.declared.Table.{Table}
 use Rattle.rules.specs.declared.Refusal.TheVariants.{Length, Malformed, RowCount}
-use Rattle.rules.specs.declared.Check.{Check}
-use Rattle.rules.specs.declared.Check.TheVariants.{Refused}
 use Rattle.rules.specs.declared.Reading.{Reading}
+use Rattle.rules.specs.Checks.{Check, Refused}
 use Rattle.rules.specs.Lists.{all, rows_to, joined}
 use Rattle.rules.specs.Rows.{rows_of}
 use Rattle.rules.specs.Tables.{count_ok}

@@ -1,10 +1,9 @@
 -- The program's text for any input with the fields of K = 0, r = 0 and w = 0 put in is that of the program from before loading (rules 12.1, 12.2, 17.2).
-use Rattle.std.specs.Prelude.{ℕ, ◌+◌, ◌≤◌, true, List, ◌++◌, ◌≡◌, refl, length, take, drop}
+use Rattle.std.specs.Prelude.{ℕ, ◌+◌, ◌≤◌, true, List, ◌++◌, ◌≡◌, refl, length, take, drop, Ok, Err}
 use Rattle.std.proofs.Common.{sym, ap, ap₂, ◌∙◌, arith, take-append-drop, take_all, take-take, drop_at, length-take-le}
 use Rattle.std.proofs.Math.Seq.{take-append-add}
 use Rattle.rules.specs.declared.Table.{Table}
-use Rattle.rules.specs.declared.Check.{Check}
-use Rattle.rules.specs.declared.Check.TheVariants.{Passed, Refused}
+use Rattle.rules.specs.Checks.{Check}
 use Rattle.rules.specs.Lists.{all_zero}
 use Rattle.rules.specs.Tables.{zero_table}
 use Rattle.texts.specs.Fields.{written}
@@ -68,8 +67,8 @@ both_before bytes = by (Old.check_sheet bytes)
     both t none nothing free = (own t nothing free, before t none nothing free)
 
     by : (c : Check) → let t = (read_checked c (Old.table_in bytes)).table in Before with_loading t × Before without t
-    by Passed = both (Old.table_in bytes) refl refl refl
-    by (Refused r) = both zero_table refl refl refl
+    by (Ok tt) = both (Old.table_in bytes) refl refl refl
+    by (Err r) = both zero_table refl refl refl
 
 then_program : (bytes : List ℕ) → Texts.program_text with_loading (with_field bytes) ≡ Old.program_text bytes
 unfolding line_size Texts.program_text Old.program_text

@@ -7,7 +7,7 @@ use Rattle.std.proofs.Math.Path.{refl, ap}
 use native.Mathlib.Omega.{arith}
 use Rattle.rules.specs.declared.Table.{Table}
 use Rattle.rules.specs.declared.Refusal.TheVariants.{Malformed}
-use Rattle.rules.specs.declared.Check.TheVariants.{Passed, Refused}
+use Rattle.rules.specs.Checks.{Passed, Refused}
 use Rattle.rules.specs.Lists.{all, all_zero, rows_to, joined}
 use Rattle.rules.specs.Rows.{rows_of}
 use Rattle.rules.specs.Tables.{count_ok, zero_table}

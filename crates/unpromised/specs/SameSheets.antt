@@ -5,8 +5,8 @@ use Rattle.std.specs.Prelude.{ℕ, ◌+◌, ◌*◌, true, false, ◌≡◌, ref
 use Rattle.std.proofs.Common.{ap, ◌∙◌, arith}
 use Rattle.rules.specs.declared.Table.{Table}
 use Rattle.rules.specs.declared.Refusal.TheVariants.{Length}
-use Rattle.rules.specs.declared.Check.TheVariants.{Passed, Refused}
 use Rattle.rules.specs.declared.Sought.{Sought}
+use Rattle.rules.specs.Checks.{Passed, Refused}
 use Rattle.rules.specs.Lists.{all_zero}
 use Rattle.rules.specs.Rows.{at}
 use Rattle.rules.specs.Tables.{count_ok, zero_table}

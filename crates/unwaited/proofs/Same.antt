@@ -10,7 +10,7 @@ use Rattle.std.proofs.Math.Dec.{leb}
 use Rattle.std.specs.Int.Signed.{lt_z}
 use Rattle.rules.specs.declared.Row.{Row}
 use Rattle.rules.specs.declared.Table.{Table}
-use Rattle.rules.specs.declared.Check.TheVariants.{Passed}
+use Rattle.rules.specs.Checks.{Passed}
 use Rattle.rules.specs.Calls.{Call, one, forward, tell_one, tell_forward, tell, tell_all}
 use Rattle.rules.specs.Correct.{KeptIn, Correct}
 use Rattle.rules.specs.Judge.{column, table_of}

@@ -1,7 +1,7 @@
 -- A table whose w is all 0: the planner's answer, the verdict and both searches are those of the rules from before w (rule 21.5); and if its r is all 0 as
 -- well, or its K too, those from before these came.
 use Prim.Native.Nat.{ℕ, zero, suc}
-use Rattle.std.specs.Prelude.{Bool, true, cond, ◌≡◌}
+use Rattle.std.specs.Prelude.{Bool, true, cond, ◌≡◌, Ok, Err}
 use Rattle.std.proofs.Math.Bool.{not}
 use mathlib.Core.List.{List, [], ◌∷◌}
 use Rattle.std.proofs.Math.Path.{refl, ap}
@@ -10,11 +10,10 @@ use borrow.Author.Tests.{ne_eqb}
 use Rattle.std.proofs.Math.Dec.{eqb}
 use Rattle.std.specs.Int.Signed.{lt_z}
 use Rattle.rules.specs.declared.Table.{Table}
-use Rattle.rules.specs.declared.Check.{Check}
-use Rattle.rules.specs.declared.Check.TheVariants.{Passed, Refused}
 use Rattle.rules.specs.declared.Planning.{Planning}
 use Rattle.rules.specs.declared.Sought.{Sought}
 use Rattle.rules.specs.declared.Sought.TheVariants.{Degraded, Normal}
+use Rattle.rules.specs.Checks.{Check}
 use Rattle.rules.specs.Choice.{lowest, unfollowed, tried, passes, taker, fill, choice, plan_checked, plan_of, sequence}
 use Rattle.rules.specs.Judge.{least_slack, tightest, judge_checked, judge_of}
 use Rattle.rules.specs.Lists.{all, count, keep, erase}
@@ -73,8 +72,8 @@ module _ (p : Past) (t : Table) (b : Before p t) where
   plan_same = rw (check_same p t b) (by_check (Then.check_table p t))
     where
       by_check : (c : Check) → plan_checked c t ≡ Then.plan_checked p c t
-      by_check Passed = rw choice_same
-      by_check (Refused r) = refl
+      by_check (Ok tt) = rw choice_same
+      by_check (Err r) = refl
 
   -- the judge (rules 7.2, 7.3)
   least_same : (o : List ℕ) (j : ℕ) (is : List ℕ) → least_slack t o j is ≡ Then.least_slack p t o j is
@@ -91,8 +90,8 @@ module _ (p : Past) (t : Table) (b : Before p t) where
   verdict_same o = rw (both_same p t b o) (by_check (Then.check_both p t o))
     where
       by_check : (c : Check) → judge_checked c t o ≡ Then.judge_checked p c t o
-      by_check Passed = rw (tightest_same o, slack_same p t b o (Then.tightest p t o))
-      by_check (Refused r) = refl
+      by_check (Ok tt) = rw (tightest_same o, slack_same p t b o (Then.tightest p t o))
+      by_check (Err r) = refl
 
 -- both searches (rule 18.3): a table at another speed is one of before too
 module _ (p : Past) (f : Sought) (t : Table) (b : Before p t) where
@@ -116,5 +115,5 @@ module _ (p : Past) (f : Sought) (t : Table) (b : Before p t) where
   search_same = rw (check_same p t b) (by_check (Then.check_table p t))
     where
       by_check : (c : Check) → search_checked c f t ≡ Then.search_checked p c f t
-      by_check Passed = rw (speed_same, planned_same (Then.least_speed p f t))
-      by_check (Refused r) = refl
+      by_check (Ok tt) = rw (speed_same, planned_same (Then.least_speed p f t))
+      by_check (Err r) = refl

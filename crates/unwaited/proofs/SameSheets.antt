@@ -1,13 +1,12 @@
 -- Old sheets. Whatever the bytes, with the field of w = 0 put in at each row they are answered as the old reader answered them without it; a sheet that
 -- an old reader accepted is answered 1; and the sheet of a table whose w is all 0 is its old sheet with those fields, 8 bytes longer for each row (rule
 -- 21.6).
-use Rattle.std.specs.Prelude.{ℕ, ◌+◌, ◌*◌, ◌<◌, Bool, true, false, ◌≡◌, refl, List, eqb, ltb, leb, length}
+use Rattle.std.specs.Prelude.{ℕ, ◌+◌, ◌*◌, ◌<◌, Bool, true, false, ◌≡◌, refl, List, eqb, ltb, leb, length, Ok, Err}
 use Rattle.std.proofs.Common.{true≢false, ap, ◌∙◌, mul-le-mul_right, arith, le-ltb, leb-true, eqb-true, ne_eqb}
 use Rattle.rules.specs.declared.Table.{Table}
 use Rattle.rules.specs.declared.Refusal.TheVariants.{Length}
-use Rattle.rules.specs.declared.Check.{Check}
-use Rattle.rules.specs.declared.Check.TheVariants.{Passed, Refused}
 use Rattle.rules.specs.declared.Sought.{Sought}
+use Rattle.rules.specs.Checks.{Check, Passed, Refused}
 use Rattle.rules.specs.Lists.{all_zero}
 use Rattle.rules.specs.Tables.{count_ok, check_table, zero_table}
 use Rattle.texts.specs.Sheets.{is_line, number_at, column_of, table_in, check_sheet, read_checked, read_of, row_line, sheet_of}
@@ -40,8 +39,8 @@ unfolding read_lines
 answered P f check bytes h z = by (check_lines f check bytes)
   where
     by : (c : Check) → P (read_checked c (Old.table_in f bytes)).table
-    by Passed = h
-    by (Refused r) = z
+    by (Ok tt) = h
+    by (Err r) = z
 
 -- readers that check the table stated alike answer alike
 pub read_alike : (f : ℕ) (check other : Table → Check) (bytes : List ℕ) → check (Old.table_in f bytes) ≡ other (Old.table_in f bytes)
@@ -69,8 +68,8 @@ read_same bytes =
 
 -- so are the searches of a sheet (rule 18.7)
 pub search_read_same : (p : Past) (c : Check) (f : Sought) (t : Table) → Before p t → search_read c f t ≡ Old.search_read p c f t
-search_read_same p Passed f t b = search_same p f t b
-search_read_same p (Refused r) f t b = refl
+search_read_same p (Ok tt) f t b = search_same p f t b
+search_read_same p (Err r) f t b = refl
 
 pub search_sheet_same : (f : Sought) (bytes : List ℕ) → search_sheet f (widen 5 bytes) ≡ Old.search_sheet with_promises f bytes
 unfolding search_sheet Old.search_sheet

@@ -1,13 +1,12 @@
 -- A table whose w is all 0 has the report, and the program's text, of the rules from before w (rule 21.5), and if its r or its K is 0 as well those from
 -- before that.
-use Rattle.std.specs.Prelude.{ℕ, ◌-◌, ◌≤◌, true, ◌≡◌, List, [], ◌∷◌, eqb, nat_abs, length, take}
+use Rattle.std.specs.Prelude.{ℕ, ◌-◌, ◌≤◌, true, ◌≡◌, List, [], ◌∷◌, eqb, nat_abs, length, take, Ok, Err}
 use Rattle.std.proofs.Math.Path.{refl, ap}
 use Rattle.std.proofs.Common.{sym, ◌∙◌, eqb-true, arith}
 use Rattle.rules.specs.declared.Table.{Table}
-use Rattle.rules.specs.declared.Check.{Check}
-use Rattle.rules.specs.declared.Check.TheVariants.{Passed, Refused}
-use Rattle.rules.specs.declared.Planned.TheVariants.{Ordered}
+use Rattle.rules.specs.Plans.{Ordered}
 use Rattle.rules.specs.declared.Planning.{Planning}
+use Rattle.rules.specs.Checks.{Check}
 use Rattle.rules.specs.Choice.{padded, choice, plan_checked, plan_of}
 use Rattle.rules.specs.Lists.{rows_to}
 use Rattle.rules.specs.Rows.{at, rows_of, deadline_of, need_of}
@@ -85,17 +84,17 @@ module _ (p : Past) (t : Table) (b : Before p t) where
 
   planned_same : (c : Check) → check_table t ≡ c
       → plan_text t (plan_checked c t).order (plan_checked c t).answer ≡ Texts.plan_text p t (plan_checked c t).order (plan_checked c t).answer
-  planned_same Passed e =
+  planned_same (Ok tt) e =
       by_bool (eqb (length (choice t).left) 0)
       (λ z. rw z (ordered_same e (empty (choice t).left (eqb-true (length (choice t).left) 0 z))))
       (λ z. rw z)
-  planned_same (Refused r) e = refl
+  planned_same (Err r) e = refl
 
   pub read_text_same : (c : Check) → read_text c t ≡ Texts.read_text p c t
   unfolding plan_of
-  read_text_same Passed =
+  read_text_same (Ok tt) =
       planned_same (check_table t) refl ∙ ap (λ (x : Planning). Texts.plan_text p t x.order x.answer) (plan_same p t b)
-  read_text_same (Refused r) = refl
+  read_text_same (Err r) = refl
 
 -- the text for a table of two times is the same by the rules of both
 pub text_between : (p q : Past) (t : Table) → Before p t → Before q t → (c : Check) → Texts.read_text p c t ≡ Texts.read_text q c t

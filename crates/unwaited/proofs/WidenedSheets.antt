@@ -10,7 +10,7 @@ use Rattle.std.proofs.Math.ListN.{length, take, drop, length-append, take-append
 use Rattle.std.proofs.Math.Seq.{take_at, drop_at}
 use borrow.Author.Tests.{lt-ltb, le-ltb, leb-true, eq-eqb, ne_eqb}
 use Rattle.rules.specs.declared.Table.{Table}
-use Rattle.rules.specs.declared.Check.{Check}
+use Rattle.rules.specs.Checks.{Check}
 use Rattle.rules.specs.Lists.{rows_to, joined}
 use Rattle.rules.specs.Tables.{count_ok}
 use Rattle.texts.specs.Fields.{written, line, value_of, field_at}

@@ -10,8 +10,8 @@ use Rattle.rules.specs.Running.{is_due}
 use Rattle.rules.specs.Tables.{passed}
 use Rattle.record.specs.declared.Run.{Run}
 use Rattle.record.specs.declared.FreshRun.{FreshRun}
-use Rattle.record.specs.declared.SlotAnswer.{SlotAnswer}
-use Rattle.record.specs.declared.SlotAnswer.TheVariants as Slots
+use Rattle.record.specs.SlotAnswers.{SlotAnswer}
+use Rattle.record.specs.SlotAnswers as Slots
 use Rattle.record.specs.declared.Stepped.{Stepped}
 use Rattle.record.specs.declared.ForwardAnswer.TheVariants as Forwards
 use Rattle.record.specs.declared.Forwarded.{Forwarded}

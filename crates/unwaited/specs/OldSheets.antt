@@ -1,14 +1,13 @@
 -- What the rules said of sheets before w: a line of 41 bytes for each row, with five figures; before r it was one of 33 bytes, with four. The table
 -- read has zeros for the figures that a line has not. How many figures a line has, f, is a parameter here, so that today's lines, with six, are among
 -- them, and what one field more at each row makes of a sheet is said once.
-use Rattle.std.specs.Prelude.{ℕ, ◌+◌, ◌-◌, ◌*◌, ◌/◌, cond, List, [], ◌∷◌, ◌++◌, map, eqb, ltb, leb, length, take, drop, replicate}
+use Rattle.std.specs.Prelude.{ℕ, ◌+◌, ◌-◌, ◌*◌, ◌/◌, cond, List, [], ◌∷◌, ◌++◌, map, eqb, ltb, leb, length, take, drop, replicate, Ok, Err}
 use Rattle.rules.specs.declared.Table.{Table}
 use Rattle.rules.specs.declared.Refusal.TheVariants.{Length, Malformed, RowCount}
-use Rattle.rules.specs.declared.Check.{Check}
-use Rattle.rules.specs.declared.Check.TheVariants.{Passed, Refused}
 use Rattle.rules.specs.declared.Reading.{Reading}
 use Rattle.rules.specs.declared.Sought.{Sought}
 use Rattle.rules.specs.declared.Searching.{Searching}
+use Rattle.rules.specs.Checks.{Check, Refused}
 use Rattle.rules.specs.Lists.{all, rows_to, joined}
 use Rattle.rules.specs.Rows.{at, rows_of, release_of, work_of, deadline_of, promised_of, follows_of}
 use Rattle.rules.specs.Tables.{count_ok}
@@ -86,8 +85,8 @@ sheet_of f t = line (t.n ∷ t.normal ∷ t.degraded ∷ t.loading ∷ []) ++ jo
 
 -- the searches of a sheet
 abbrev pub search_read : Past → Check → Sought → Table → Searching
-search_read p Passed f t = search_of p f t
-search_read p (Refused r) f t = search_refused r
+search_read p (Ok tt) f t = search_of p f t
+search_read p (Err r) f t = search_refused r
 
 unfoldable pub search_sheet : Past → Sought → List ℕ → Searching
 search_sheet p f bytes = search_read p (read_of p bytes).check f (read_of p bytes).table

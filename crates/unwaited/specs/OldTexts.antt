@@ -1,11 +1,10 @@
 -- What the rules said, before w, of the report and of the program's text. As in Unwaited, w is not looked at.
-use Rattle.std.specs.Prelude.{ℕ, ◌-◌, cond, List, [], ◌∷◌, ◌++◌, pos, nat_abs, length, take}
+use Rattle.std.specs.Prelude.{ℕ, ◌-◌, cond, List, [], ◌∷◌, ◌++◌, pos, nat_abs, length, take, Ok, Err}
 use Rattle.std.specs.Int.Count.{ones}
 use Rattle.rules.specs.declared.Table.{Table}
-use Rattle.rules.specs.declared.Check.{Check}
-use Rattle.rules.specs.declared.Check.TheVariants as Checks
-use Rattle.rules.specs.declared.Planned.{Planned}
-use Rattle.rules.specs.declared.Planned.TheVariants as Plans
+use Rattle.rules.specs.Plans.{Planned}
+use Rattle.rules.specs.declared.Plan.TheVariants as Plan
+use Rattle.rules.specs.Checks.{Check}
 use Rattle.rules.specs.Lists.{rows_to, sum, joined}
 use Rattle.rules.specs.Numbers.{refusal_number}
 use Rattle.rules.specs.Rows.{at, rows_of, deadline_of}
@@ -41,13 +40,13 @@ unfoldable pub place_line : Past → Table → List ℕ → ℕ → List ℕ
 place_line p t o k = line (k ∷ at o k ∷ slack_shown p t o (at o k) ∷ [])
 
 abbrev pub plan_text : Past → Table → List ℕ → Planned → List ℕ
-plan_text p t o Plans.Ordered = line (0 ∷ t.n ∷ []) ++ joined (place_line p t o) (rows_to t.n)
-plan_text p t o (Plans.NoOrder left) = line (7 ∷ ones left ∷ [])
-plan_text p t o (Plans.Refused r) = line (refusal_number r ∷ 0 ∷ [])
+plan_text p t o (Ok Plan.Ordered) = line (0 ∷ t.n ∷ []) ++ joined (place_line p t o) (rows_to t.n)
+plan_text p t o (Ok (Plan.NoOrder left)) = line (7 ∷ ones left ∷ [])
+plan_text p t o (Err r) = line (refusal_number r ∷ 0 ∷ [])
 
 abbrev pub read_text : Past → Check → Table → List ℕ
-read_text p Checks.Passed t = plan_text p t (Then.plan_of p t).order (Then.plan_of p t).answer
-read_text p (Checks.Refused r) t = line (refusal_number r ∷ 0 ∷ [])
+read_text p (Ok tt) t = plan_text p t (Then.plan_of p t).order (Then.plan_of p t).answer
+read_text p (Err r) t = line (refusal_number r ∷ 0 ∷ [])
 
 -- the program from input to output; of its input it looked at 2,658 bytes, and before r at 2,146
 unfoldable pub program_text : Past → List ℕ → List ℕ

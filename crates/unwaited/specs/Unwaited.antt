@@ -2,19 +2,19 @@
 -- rows, and no row left is skipped. Of whatever does not speak of w it uses the rules' own definitions, the look at the clock among them (rule 19.2). w
 -- is not looked at. How jobs load, and whether a part of their work can be promised, are parameters, so that the rules from before promised parts and
 -- those from before loading are said by the same definitions.
-use Rattle.std.specs.Prelude.{ℕ, zero, suc, ◌+◌, ◌≤◌, max, min, Bool, true, false, cond, not, ◌&&◌, ◌||◌, List, [], ◌∷◌, ◌≡◌, eqb, ltb, leb, ℤ, pos, drop, replicate}
+use Rattle.std.specs.Prelude.{ℕ, zero, suc, ◌+◌, ◌≤◌, max, min, Bool, true, false, cond, not, ◌&&◌, ◌||◌, List, [], ◌∷◌, ◌≡◌, eqb, ltb, leb, ℤ, pos, drop, replicate, Ok, Err}
 use Rattle.std.specs.Int.Signed.{lt_z}
 use Rattle.rules.specs.declared.Table.{Table}
 use Rattle.rules.specs.declared.Refusal.TheVariants.{RowCount, Speeds, Loading, RowLimits, Promised, NotAnOrder}
-use Rattle.rules.specs.declared.Check.{Check}
-use Rattle.rules.specs.declared.Check.TheVariants as Checks
-use Rattle.rules.specs.declared.Planned.TheVariants as Plans
+use Rattle.rules.specs.Plans as Plans
 use Rattle.rules.specs.declared.Planning.{Planning}
 use Rattle.rules.specs.declared.Sought.{Sought}
-use Rattle.rules.specs.declared.Searched.TheVariants as Searches
+use Rattle.rules.specs.Searches as Searches
 use Rattle.rules.specs.declared.Searching.{Searching}
-use Rattle.rules.specs.declared.Verdict.{Verdict}
-use Rattle.rules.specs.declared.Verdict.TheVariants.{Correct, Incorrect, Refused}
+use Rattle.rules.specs.Verdicts.{Judgement}
+use Rattle.rules.specs.Verdicts.{Correct, Incorrect, Refused}
+use Rattle.rules.specs.Checks.{Check, Passed}
+use Rattle.rules.specs.Checks as Checks
 use Rattle.rules.specs.Calls.{last_clock, Call, one, forward, Told, told, AllTold}
 use Rattle.rules.specs.Choice.{Choice, sequence, lowest, plan_from}
 use Rattle.rules.specs.Correct.{KeptIn}
@@ -158,14 +158,14 @@ check_table p t =
     (cond (speeds_ok t.normal t.degraded)
     (cond (p.fits t.loading)
     (cond (all (row_ok t) (rows_of t) && tail_ok p t)
-    (cond (promises_ok p t) Checks.Passed (Checks.Refused Promised))
+    (cond (promises_ok p t) Passed (Checks.Refused Promised))
     (Checks.Refused RowLimits))
     (Checks.Refused Loading))
     (Checks.Refused Speeds))
     (Checks.Refused RowCount)
 
 unfoldable pub check_order : Table → List ℕ → Check
-check_order t o = cond (is_arrangement t o) Checks.Passed (Checks.Refused NotAnOrder)
+check_order t o = cond (is_arrangement t o) Passed (Checks.Refused NotAnOrder)
 
 unfoldable pub check_both : Past → Table → List ℕ → Check
 check_both p t o = and_then (check_table p t) (check_order t o)
@@ -188,8 +188,8 @@ unfoldable pub choice : Past → Table → Choice
 choice p t = fill p t t.n (sequence t) []
 
 abbrev pub plan_checked : Past → Check → Table → Planning
-plan_checked p Checks.Passed t = plan_from (choice p t)
-plan_checked p (Checks.Refused r) t = record { answer = Plans.Refused r; order = replicate 64 0 }
+plan_checked p (Ok tt) t = plan_from (choice p t)
+plan_checked p (Err r) t = record { answer = Plans.Refused r; order = replicate 64 0 }
 
 unfoldable pub plan_of : Past → Table → Planning
 plan_of p t = plan_checked p (check_table p t) t
@@ -202,14 +202,14 @@ least_slack p t o b (i ∷ is) = least_slack p t o (cond (lt_z (slack p t o i) (
 unfoldable pub tightest : Past → Table → List ℕ → ℕ
 tightest p t o = least_slack p t o 1 (rows_of t)
 
-abbrev pub verdict_at : Past → Table → List ℕ → ℕ → Verdict
+abbrev pub verdict_at : Past → Table → List ℕ → ℕ → Judgement
 verdict_at p t o i = cond (lt_z (slack p t o i) (pos 0)) (Incorrect i (slack p t o i)) (Correct i (slack p t o i))
 
-abbrev pub judge_checked : Past → Check → Table → List ℕ → Verdict
-judge_checked p Checks.Passed t o = verdict_at p t o (tightest p t o)
-judge_checked p (Checks.Refused r) t o = Refused r
+abbrev pub judge_checked : Past → Check → Table → List ℕ → Judgement
+judge_checked p (Ok tt) t o = verdict_at p t o (tightest p t o)
+judge_checked p (Err r) t o = Refused r
 
-unfoldable pub judge_of : Past → Table → List ℕ → Verdict
+unfoldable pub judge_of : Past → Table → List ℕ → Judgement
 judge_of p t o = judge_checked p (check_both p t o) t o
 
 -- the searches for a least workable speed, in work units per slot
@@ -226,8 +226,8 @@ searched_at p f t s =
     (record { answer = Searches.Least s; order = (plan_of p (at_speed f t s)).order })
 
 abbrev pub search_checked : Past → Check → Sought → Table → Searching
-search_checked p Checks.Passed f t = searched_at p f t (least_speed p f t)
-search_checked p (Checks.Refused r) f t = search_refused r
+search_checked p (Ok tt) f t = searched_at p f t (least_speed p f t)
+search_checked p (Err r) f t = search_refused r
 
 unfoldable pub search_of : Past → Sought → Table → Searching
 search_of p f t = search_checked p (check_table p t) f t

@@ -1,4 +1,4 @@
--- The turns of the two loops that copy a column, and what six or three columns written one after another make.
+-- The turns of two loops that copy a column entry by entry, and what six or three columns written one after another make.
 use Rattle.std.specs.Prelude.{ℕ, ◌+◌, ◌≤◌, ◌<◌, List, [], ◌∷◌, ◌++◌, ◌≡◌, length, get_or, take, drop, set}
 use Rattle.std.proofs.Common.{append_assoc, sym, ap, ◌∙◌, add-one, arith, length-drop, take_all, take-suc, take-suc-set, get_or-drop}
 use Rattle.std.proofs.Math.Seq.{paste, paste-suc}

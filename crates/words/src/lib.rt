@@ -34,11 +34,7 @@ fn column(words: &[u32], from: usize) -> [u32; 64]
     ensures { result ≡ column_at from words.now }
 {
     let mut out = [0u32; 64];
-    let mut i: usize = 0;
-    while i < 64 {
-        out[i] = words[from + i];
-        i += 1;
-    }
+    out.copy_from_slice(&words[from..from + 64]);
     out
 }
 
@@ -47,38 +43,25 @@ fn put_column(words: &mut [u32], from: usize, entries: [u32; 64])
     requires { from + 64 ≤ length words.old }
     ensures { words.new ≡ paste words.old from entries 64 }
 {
-    let mut i: usize = 0;
-    while i < 64 {
-        words[from + i] = entries[i];
-        i += 1;
-    }
+    words[from..from + 64].copy_from_slice(&entries);
 }
 
 // The table that the words hold, as specs/Words lays it out.
+#[tactic(auto, unfolding(crate::specs::Words::table_in))]
 pub fn table_in(words: &[u32; 388]) -> Table
     ensures { result ≡ table_in words.now }
 {
-    let n = words[0];
-    let normal = words[1];
-    let degraded = words[2];
-    let loading = words[3];
-    let release = column(words, RELEASE);
-    let work = column(words, WORK);
-    let deadline = column(words, DEADLINE);
-    let level = column(words, LEVEL);
-    let promised = column(words, PROMISED);
-    let follows = column(words, FOLLOWS);
     Table {
-        n,
-        normal,
-        degraded,
-        loading,
-        release,
-        work,
-        deadline,
-        level,
-        promised,
-        follows,
+        n: words[0],
+        normal: words[1],
+        degraded: words[2],
+        loading: words[3],
+        release: column(words, RELEASE),
+        work: column(words, WORK),
+        deadline: column(words, DEADLINE),
+        level: column(words, LEVEL),
+        promised: column(words, PROMISED),
+        follows: column(words, FOLLOWS),
     }
 }
 
@@ -91,6 +74,7 @@ pub fn words_of(t: Table) -> [u32; 388]
     words[1] = t.normal;
     words[2] = t.degraded;
     words[3] = t.loading;
+    // Columns are handed over by value, and not lent: a table that is lent from is copied whole, which takes more stack (tried).
     let release = t.release;
     let work = t.work;
     let deadline = t.deadline;
@@ -107,21 +91,17 @@ pub fn words_of(t: Table) -> [u32; 388]
 }
 
 // The run record that the words of a table, an order and the words of a state hold.
+#[tactic(auto, unfolding(crate::specs::Words::run_in))]
 pub fn run_in(table: &[u32; 388], order: [u8; 64], state: [u32; 193]) -> Run
     ensures { result ≡ run_in table.now order state }
 {
-    let t = table_in(table);
-    let clock = state[0];
-    let got = column(&state, GOT);
-    let used = column(&state, USED);
-    let closing = column(&state, CLOSING);
     Run {
-        table: t,
+        table: table_in(table),
         order,
-        clock,
-        got,
-        used,
-        closing,
+        clock: state[0],
+        got: column(&state, GOT),
+        used: column(&state, USED),
+        closing: column(&state, CLOSING),
     }
 }
 
@@ -131,6 +111,7 @@ pub fn state_words(run: Run) -> [u32; 193]
 {
     let mut words = [0u32; 193];
     words[0] = run.clock;
+    // By value, as the columns of a table are.
     let got = run.got;
     let used = run.used;
     let closing = run.closing;

@@ -1,5 +1,5 @@
 -- A refused table answers for itself; of an accepted one check 6 can follow, over the column of the rows that its rows follow.
-use Rattle.std.proofs.Common.{sym, ◌∙◌}
+use Rattle.std.proofs.Common.{rules, sym, ◌∙◌}
 use Rattle.rules.specs.Tables.{Accepted}
 use Rattle.rules.specs.Orders.{check_both}
 use Rattle.theory.specs.Facts.{facts}
@@ -8,17 +8,18 @@ use Rattle.checks.proofs.check_both.Goals as goal
 
 pub check_order-requires : goal.check_order-requires
 check_order-requires c =
-    let a = c.args in
-    let it : Accepted a.t = sym c.in-Passed.ensures in
-    ((facts a.t it).few, order_numbered a.t it a.order)
+    let t = c.args.t.now in
+    let it : Accepted t = sym c.check_table.ensures ∙ c.in_ok-check_table.was in
+    ((facts t it).few, order_numbered t it c.args.order)
 
-pub returns-in-Refused : goal.returns-in-Refused
+pub returns-in_err-check_table : goal.returns-in_err-check_table
 unfolding check_both
-returns-in-Refused c = rw (sym c.in-Refused.ensures)
+returns-in_err-check_table c =
+    rw (sym c.check_table.ensures ∙ c.in_err-check_table.was) (search rules)
 
-pub returns-in-Passed : goal.returns-in-Passed
+pub returns : goal.returns
 unfolding check_both
-returns-in-Passed c =
-    let a = c.args in
-    let it : Accepted a.t = sym c.in-Passed.ensures in
-    rw it (c.check_order.ensures ∙ order_columns a.t it a.order)
+returns c =
+    let t = c.args.t.now in
+    let it : Accepted t = sym c.check_table.ensures ∙ c.in_ok-check_table.was in
+    rw it (c.check_order.ensures ∙ order_columns t it c.args.order)

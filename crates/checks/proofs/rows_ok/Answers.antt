@@ -1,5 +1,6 @@
 use Rattle.std.proofs.Common.{◌≡◌, refl, sym, ◌∙◌, arith, rules}
-use Rattle.checks.specs.Limits.{limits_in, row_limits}
+use Rattle.rules.specs.Rows.{rows_of}
+use Rattle.checks.specs.Limits.{limits_in, limits_rows, row_limits}
 use Rattle.checks.specs.RowLists.{all_rows_fail}
 use Rattle.checks.proofs.rows_ok.Goals as goal
 
@@ -8,13 +9,14 @@ loop-k-init c = (search rules, search rules, refl)
 
 pub returns-then-not-row_ok : goal.returns-then-not-row_ok
 returns-then-not-row_ok c =
-    let a = c.args in
+    let t = c.args.t.now in
     let l = c.loop-k in
-    let bad = row_limits a.release.now a.work.now a.deadline.now a.level.now l.k ∙ sym c.row_ok.ensures ∙ c.if-not-row_ok.true in
-    sym (all_rows_fail (limits_in a.release.now a.work.now a.deadline.now a.level.now) l.k a.n (omega arith) bad)
+    let bad = row_limits t.release t.work t.deadline t.level l.k ∙ sym c.row_ok.ensures ∙ c.if-not-row_ok.true in
+    sym (sym (limits_rows t (rows_of t)) ∙ all_rows_fail (limits_in t.release t.work t.deadline t.level) l.k t.n (omega arith) bad)
 
 pub returns : goal.returns
 returns c =
+    let t = c.args.t.now in
     let l = c.loop-k in
-    let e : l.k ≡ c.args.n = omega arith in
-    sym (rw e at l.invariant.2)
+    let e : l.k ≡ t.n = omega arith in
+    sym (rw e at l.invariant.2) ∙ limits_rows t (rows_of t)

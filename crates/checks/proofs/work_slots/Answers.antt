@@ -4,12 +4,15 @@ use Rattle.rules.specs.Need.{work_slots}
 use Rattle.checks.specs.NeedLaws.{slots_stopped, slots_exact, slots_rest, slots_fit}
 use Rattle.theory.specs.Caps.{slots_most}
 use Rattle.checks.proofs.work_slots.Goals as goal
+use Rattle.checks.proofs.work_slots.Goals.{then-speed-eq0-via-then-speed-eq0, then-speed-eq0-via-else-speed-eq0+then-work-eq0}
 
 pub returns-then-speed-eq0 : goal.returns-then-speed-eq0
-returns-then-speed-eq0 c = sym (ap (work_slots c.args.work) c.if-speed-eq0.true ∙ slots_stopped c.args.work)
-
-pub returns-then-work-eq0 : goal.returns-then-work-eq0
-returns-then-work-eq0 c = let a = c.args in omega (arith, slots_fit a.work a.speed, c.if-work-eq0.true)
+returns-then-speed-eq0 c =
+    let a = c.args in
+    elim c.then-speed-eq0.branch [
+      | then-speed-eq0-via-then-speed-eq0 w ↦ sym (ap (work_slots a.work) w.if-speed-eq0.true ∙ slots_stopped a.work)
+      | then-speed-eq0-via-else-speed-eq0+then-work-eq0 w ↦ omega (arith, slots_fit a.work a.speed, w.if-work-eq0.true)
+    ]
 
 pub overflow_add-result : goal.overflow_add-result
 overflow_add-result c =

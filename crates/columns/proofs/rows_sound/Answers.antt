@@ -1,25 +1,16 @@
-use Rattle.std.proofs.Common.{ℕ, ◌+◌, false, ◌≡◌, refl, sym, ap, ◌∙◌, arith}
-use Rattle.rules.specs.Lists.{all, rows_to}
+use Rattle.std.proofs.Common.{◌+◌, false, ◌≡◌, sym, ◌∙◌, arith}
 use Rattle.checks.specs.RowLists.{all_rows_fail}
-use Rattle.columns.specs.Figures.{row_sound_at, row_next}
+use Rattle.columns.specs.Figures.{row_next}
+use Rattle.columns.specs.Entries.{sound_row_in}
 use Rattle.columns.proofs.rows_sound.Goals as goal
-
-pub loop-i-init : goal.loop-i-init
-loop-i-init c = (omega arith, refl)
 
 pub returns-then-not-row_sound : goal.returns-then-not-row_sound
 returns-then-not-row_sound c =
     let x = c.args in
-    let p = row_sound_at x.normal x.degraded x.loading x.clock x.work.now x.deadline.now x.level.now x.promised.now x.got.now x.used.now x.closing.now in
-    let e : p (c.loop-i.i + 1) ≡ false =
-    row_next x.normal x.degraded x.loading x.clock x.work.now x.deadline.now x.level.now x.promised.now x.got.now x.used.now x.closing.now c.loop-i.i
+    let t = x.table.now in
+    let p = sound_row_in t x.clock x.got.now x.used.now x.closing.now in
+    let e : p (c.loop-k.k + 1) ≡ false =
+    row_next t.normal t.degraded t.loading x.clock t.work t.deadline t.level t.promised x.got.now x.used.now x.closing.now c.loop-k.k
     ∙ sym c.row_sound.ensures
     ∙ c.if-not-row_sound.true in
-    sym (all_rows_fail p c.loop-i.i x.n (omega arith) e)
-
-pub returns : goal.returns
-returns c =
-    let x = c.args in
-    let p = row_sound_at x.normal x.degraded x.loading x.clock x.work.now x.deadline.now x.level.now x.promised.now x.got.now x.used.now x.closing.now in
-    let e : c.loop-i.i ≡ x.n = omega arith in
-    sym c.loop-i.invariant.1 ∙ ap (λ (k : ℕ). all p (rows_to k)) e
+    sym (all_rows_fail p c.loop-k.k t.n (omega arith) e)

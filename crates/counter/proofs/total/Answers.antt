@@ -8,11 +8,11 @@ overflow_add-total c =
     let a = c.args in
     let l = c.loop-k in
     let g = without_row a.scratch.now a.left a.rows in
-    omega (arith, l.invariant.1, c.without_row-total.ensures, sum_next g l.k, sum_part g (l.k + 1) a.n (omega (arith, c.loop-k-test.true)), c.requires.3)
+    omega (arith, l.invariant, c.without_row-total.ensures, sum_next g l.k, sum_part g (l.k + 1) a.n (omega (arith, c.loop-k-test.true)), c.requires.3)
 
 pub loop-k-preserved : goal.loop-k-preserved
 loop-k-preserved c =
     let a = c.args in
     let l = c.loop-k in
     let g = without_row a.scratch.now a.left a.rows in
-    (omega (arith, c.loop-k-test.true), omega (arith, l.invariant.1, c.without_row-total.ensures, sum_next g l.k))
+    omega (arith, l.invariant, c.without_row-total.ensures, sum_next g l.k)

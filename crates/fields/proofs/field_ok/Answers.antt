@@ -1,10 +1,8 @@
 -- A number was read exactly where the field is well formed.
-use Rattle.std.proofs.Common.{sym}
-use Rattle.fields.specs.Scan.{is_number, is_bad}
+use Rattle.std.proofs.Common.{ap, ◌∙◌}
+use Rattle.std.specs.Option.{is_some}
+use Rattle.fields.specs.Scan.{some_is}
 use Rattle.fields.proofs.field_ok.Goals as goal
 
-pub returns-in-Number : goal.returns-in-Number
-returns-in-Number c = sym (is_number _ _ (sym c.in-Number.ensures))
-
-pub returns-in-Bad : goal.returns-in-Bad
-returns-in-Bad c = sym (is_bad _ (sym c.in-Bad.ensures))
+pub returns : goal.returns
+returns c = c.is_some.ensures ∙ ap is_some c.read_field.ensures ∙ some_is _

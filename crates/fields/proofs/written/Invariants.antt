@@ -1,10 +1,7 @@
 -- The first i bytes are those of the number.
-use Rattle.std.proofs.Common.{◌-◌, ◌≤◌, ◌≡◌, length, take}
+use Rattle.std.proofs.Common.{◌≡◌, length, take}
 use Rattle.texts.specs.Fields.{written}
 use Rattle.fields.proofs.written.Given as goal
 
 abbrev pub invariant-loop-i : goal.invariant-loop-i
-invariant-loop-i l = (l.i ≤ 8) × (length l.field ≡ 8) × (take l.i l.field ≡ take l.i (written l.value))
-
-abbrev pub decreases-loop-i : goal.decreases-loop-i
-decreases-loop-i l = 8 - l.i
+invariant-loop-i l = (length l.field ≡ 8) × (take l.i l.field ≡ take l.i (written l.value))

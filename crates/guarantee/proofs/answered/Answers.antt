@@ -5,7 +5,7 @@ use Rattle.guarantee.proofs.answered.Goals as goal
 use Rattle.guarantee.proofs.answered.Goals.{then-said-k-ge2, else-said-k-ge2}
 
 pub loop-i-init : goal.loop-i-init
-loop-i-init c = going_first c.args.calls.now c.args.said.now c.args.start
+loop-i-init c = going_first c.args.calls.now c.args.said.now c.args.run
 
 pub loop-i-smaller : goal.loop-i-smaller
 loop-i-smaller c =
@@ -21,11 +21,11 @@ loop-i-preserved c =
     elim c.if-said-k-ge2.branch [
       | then-said-k-ge2 w ↦
           rw (w.said-is, w.k-is, c.next_at-i.ensures, w.note.ensures)
-          (going_noted a.calls.now a.said.now a.start l.said l.run l.i l.k g c.call_at-made.result c.call_at-made.ensures more
+          (going_noted a.calls.now a.said.now a.run l.said l.run l.i l.k g c.call_at-made.result c.call_at-made.ensures more
           (omega (arith, w.if-said-k-ge2.true, g.room)))
       | else-said-k-ge2 w ↦
           rw (w.said-is, w.k-is, c.next_at-i.ensures)
-          (going_full a.calls.now a.said.now a.start l.said l.run l.i l.k g c.call_at-made.result c.call_at-made.ensures more
+          (going_full a.calls.now a.said.now a.run l.said l.run l.i l.k g c.call_at-made.result c.call_at-made.ensures more
           (omega (arith, w.if-said-k-ge2.false, g.room)))
     ]
 
@@ -33,4 +33,4 @@ pub returns : goal.returns
 returns c =
     let a = c.args in
     let l = c.loop-i in
-    going_last a.calls.now a.said.now a.start l.said l.run l.i l.k l.invariant c.loop-i-test.false
+    going_last a.calls.now a.said.now a.run l.said l.run l.i l.k l.invariant c.loop-i-test.false

@@ -15,7 +15,7 @@ ends calls i to e = rw e (next_within calls i)
 
 pub returns-then-calls-i-eq0 : goal.returns-then-calls-i-eq0
 returns-then-calls-i-eq0 c =
-    rw (call_one c.args.calls.now c.args.i c.if-calls-i-eq0.true, ← c.number_at-supply.ensures) c.one_call.ensures
+    rw (call_one c.args.calls.now c.args.i c.if-calls-i-eq0.true, ← c.number_at.ensures) c.one_call.ensures
 
 pub slice_bounds-forward_call-count : goal.slice_bounds-forward_call-count
 slice_bounds-forward_call-count c = begins c.args.calls.now c.args.i c.next_at-to.result c.requires c.next_at-to.ensures
@@ -26,6 +26,6 @@ slice_bounds-forward_call-start c = begins c.args.calls.now c.args.i c.next_at-t
 pub slice_bounds-forward_call-end : goal.slice_bounds-forward_call-end
 slice_bounds-forward_call-end c = ends c.args.calls.now c.args.i c.next_at-to.result c.next_at-to.ensures
 
-pub returns : goal.returns
-returns c =
+pub returns-else-calls-i-eq0 : goal.returns-else-calls-i-eq0
+returns-else-calls-i-eq0 c =
     rw (call_forward c.args.calls.now c.args.i c.requires c.if-calls-i-eq0.false, ← c.next_at-to.ensures) c.forward_call.ensures

@@ -7,4 +7,4 @@ use Rattle.jasminebrace.proofs.jb_program.Goals as goal
 pub returns : goal.returns
 returns c =
     let w = program_text c.args.input.now in
-    (c.program-size.ensures.size, c.program-size.ensures.text ∙ ap (λ (l : List ℕ). w ++ l) (drop_zeros (length w) 1617))
+    (c.program.ensures.size, c.program.ensures.text ∙ ap (λ (l : List ℕ). w ++ l) (drop_zeros (length w) 1617))

@@ -1,12 +1,15 @@
--- A refusal answers for itself; where the checks pass, the verdict does.
-use mathlib.Core.Path.{sym, ◌∙◌}
-use Rattle.judge.specs.Promise.{judge_passed, judge_refused, promised}
+-- A refusal of table or order is the judge's; else the verdict answers.
+use Rattle.std.proofs.Common.{rules, sym, ◌∙◌}
+use Rattle.judge.specs.Promise.{promised, judge_refused, judge_passed}
 use Rattle.judge.proofs.judge_table.Goals as goal
 
-pub returns-in-Refused : goal.returns-in-Refused
-returns-in-Refused c =
-    promised c.args.t c.args.order _ (sym (judge_refused c.args.t c.args.order _ (sym c.in-Refused.ensures)))
+pub returns-in_err-check_both : goal.returns-in_err-check_both
+returns-in_err-check_both c =
+    let a = c.args in
+    let refused = judge_refused a.t a.order c.in_err-check_both.field-0.0 (sym c.check_both.ensures ∙ c.in_err-check_both.was) in
+    promised a.t a.order _ (rw refused (search rules))
 
-pub returns-in-Passed : goal.returns-in-Passed
-returns-in-Passed c =
-    promised c.args.t c.args.order c.verdict.result (c.verdict.ensures ∙ sym (judge_passed c.args.t c.args.order (sym c.in-Passed.ensures)))
+pub returns : goal.returns
+returns c =
+    let a = c.args in
+    promised a.t a.order _ (c.verdict.ensures ∙ sym (judge_passed a.t a.order (sym c.check_both.ensures ∙ c.in_ok-check_both.was)))

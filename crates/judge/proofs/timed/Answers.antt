@@ -1,39 +1,43 @@
-use Prim.Native.Nat.{ℕ, ◌≤◌, ◌+◌, ◌-◌}
-use native.Mathlib.Omega.{arith}
-use borrow.Author.Rules.{rules}
-use mathlib.Core.Path.{◌≡◌, refl, sym, subst, ◌∙◌}
-use mathlib.Core.List.{List}
-use lib.ListN.{length, take, get_or, length-set}
+use Rattle.std.proofs.Common.{rules, ℕ, ◌≤◌, ◌<◌, ◌+◌, ◌-◌, max, cond, eqb, ◌≡◌, ◌∙◌, refl, sym, ap, subst, arith, List, length, take, get_or, get_or-take, length-take-le, length-set, lt-ltb}
 use Rattle.rules.specs.declared.Table.{Table}
+use Rattle.rules.specs.Rows.{at, put, promised_of}
 use Rattle.rules.specs.Worst.{worst_finish}
 use Rattle.theory.specs.Promised as PromisedDefs
 use Rattle.sweep.specs.CapColumn.{limited, limited_parts, caps_normal, caps_degraded}
 use Rattle.sweep.specs.Holds.{Holds, holds_empty}
 use Rattle.judge.specs.Checked.{Checked, checked}
-use Rattle.judge.specs.Down.{Ready, normal_columns, degraded_columns, part_most}
+use Rattle.judge.specs.Down.{Ready, swept_by, swept_low, swept_high, counted_from, normal_columns, degraded_columns, part_most}
 use Rattle.judge.specs.Stored.{Stored, stored_none, stored_more, stored_all, place_range, place_free, place_down, place_finish, place_latest}
 use Rattle.judge.proofs.timed.Goals as goal
-use Rattle.judge.proofs.timed.Goals.{In-loop-k}
+use Rattle.judge.proofs.timed.Goals.{In-loop-row, then-t-i-eq0, else-t-i-eq0, then-t-i-eq0-2, else-t-i-eq0-2}
 
 pub sorted-queue-requires : goal.sorted-queue-requires
 sorted-queue-requires c = (limited c.args.t (checked c.args.t c.args.order c.requires).accepted).few
 
-pub needs-normal-requires : goal.needs-normal-requires
-needs-normal-requires c = limited c.args.t (checked c.args.t c.args.order c.requires).accepted
+pub needs-need-requires : goal.needs-need-requires
+needs-need-requires c = limited c.args.t (checked c.args.t c.args.order c.requires).accepted
 
 pub needs-part-requires : goal.needs-part-requires
 needs-part-requires c = limited_parts c.args.t (checked c.args.t c.args.order c.requires).accepted
 
-pub degraded_caps-degraded-requires : goal.degraded_caps-degraded-requires
-degraded_caps-degraded-requires c = limited c.args.t (checked c.args.t c.args.order c.requires).accepted
+pub degraded_caps-caps-requires : goal.degraded_caps-caps-requires
+degraded_caps-caps-requires c = limited c.args.t (checked c.args.t c.args.order c.requires).accepted
 
-pub loop-k-init : goal.loop-k-init
-loop-k-init c =
+pub slice_bounds-order-end : goal.slice_bounds-order-end
+slice_bounds-order-end c = omega (arith, (limited c.args.t (checked c.args.t c.args.order c.requires).accepted).few)
+
+pub slice_bounds-row-items-end : goal.slice_bounds-row-items-end
+slice_bounds-row-items-end c =
+    let few = (limited c.args.t (checked c.args.t c.args.order c.requires).accepted).few in
+    omega (arith, few, length-take-le c.args.t.n c.args.order (omega (arith, few)))
+
+pub loop-row-init : goal.loop-row-init
+loop-row-init c =
     let a = c.args in
-    (omega arith, refl, refl, holds_empty, stored_none (worst_finish a.t a.order) a.order, stored_none (PromisedDefs.latest a.t a.order) a.order)
+    (refl, refl, holds_empty, stored_none (worst_finish a.t a.order) a.order, stored_none (PromisedDefs.latest a.t a.order) a.order)
 
 -- what a turn knows: the columns made before the loop, and the row at its place
-module _ (c : In-loop-k) where
+module _ (c : In-loop-row) where
   abbrev t : Table
   t = c.args.t
 
@@ -44,7 +48,11 @@ module _ (c : In-loop-k) where
   passes = checked t o c.requires
 
   abbrev place : ℕ
-  place = c.loop-k.k
+  place = c.loop-row.row-index
+
+  -- the row as the loop reads it, and as the order has it
+  abbrev here : ℕ
+  here = get_or (take t.n o) place 0
 
   abbrev row : ℕ
   row = get_or o place 0
@@ -53,107 +61,134 @@ module _ (c : In-loop-k) where
   queue = c.sorted-queue.result
 
   abbrev normal : List ℕ
-  normal = c.needs-normal.result
+  normal = c.needs-need.result
 
   abbrev part : List ℕ
   part = c.needs-part.result
 
   abbrev degraded : List ℕ
-  degraded = c.degraded_caps-degraded.result
+  degraded = c.degraded_caps-caps.result
 
   ready : Ready t queue normal part degraded
   ready =
       record {
         accepted = passes.accepted;
         queued = c.sorted-queue.ensures;
-        at_normal = c.needs-normal.ensures ∙ caps_normal t;
+        at_normal = c.needs-need.ensures ∙ caps_normal t;
         parts = c.needs-part.ensures;
-        at_degraded = caps_degraded t passes.accepted normal part degraded c.needs-normal.ensures c.needs-part.ensures c.degraded_caps-degraded.ensures;
+        at_degraded = caps_degraded t passes.accepted normal part degraded c.needs-need.ensures c.needs-part.ensures c.degraded_caps-caps.ensures;
       }
 
   long : length o ≡ 64
   long = search rules
 
-  range : (1 ≤ row) × (row ≤ 64)
-  range = place_range t o passes long place c.loop-k-test.true
+  inside : place < t.n
+  inside =
+      let few = (limited t passes.accepted).few in
+      omega (arith, c.loop-row-test.true, length-take-le t.n o (omega (arith, long, few)))
 
-pub bounds-order-k : goal.bounds-order-k
-bounds-order-k c = omega (arith, (limited c.args.t (checked c.args.t c.args.order c.requires).accepted).few)
+  same : here ≡ row
+  same = get_or-take t.n o place 0 inside
+
+  range : (1 ≤ here) × (here ≤ 64)
+  range = rw same (place_range t o passes long place inside)
 
 pub with-upto-requires : goal.with-upto-requires
 with-upto-requires c =
-    let i = (goal.at.with-upto-requires c).In-loop-k in
-    let l = c.loop-k in
-    ((range i).0, (range i).1, place_free (t i) (o i) (passes i) (long i) l.k c.loop-k-test.true l.down l.invariant.3)
+    let i = (goal.at.with-upto-requires c).In-loop-row in
+    let l = c.loop-row in
+    ((range i).0, (range i).1, rw (same i) (place_free (t i) (o i) (passes i) (long i) (place i) (inside i) l.down l.invariant.2))
 
 -- the row's entries of the columns
 pub overflow_sub-i : goal.overflow_sub-i
-overflow_sub-i c = let i = (goal.at.overflow_sub-i c).In-loop-k in omega (arith, (range i).0)
+overflow_sub-i c = (range (goal.at.overflow_sub-i c).In-loop-row).0
 
 pub bounds-t-i : goal.bounds-t-i
-bounds-t-i c = let i = (goal.at.bounds-t-i c).In-loop-k in omega (arith, (range i).0, (range i).1)
+bounds-t-i c = let r = range (goal.at.bounds-t-i c).In-loop-row in omega (arith, r.0, r.1)
 
-pub bounds-t-i-in-loop-k : goal.bounds-t-i-in-loop-k
-bounds-t-i-in-loop-k c = let i = (goal.at.bounds-t-i-in-loop-k c).In-loop-k in omega (arith, (range i).0, (range i).1)
+pub bounds-t-i-in-loop-row : goal.bounds-t-i-in-loop-row
+bounds-t-i-in-loop-row c = let r = range (goal.at.bounds-t-i-in-loop-row c).In-loop-row in omega (arith, r.0, r.1)
 
-pub swept-end-requires : goal.swept-end-requires
-swept-end-requires c =
-    let i = (goal.at.swept-end-requires c).In-loop-k in (
-      normal_columns (t i) (queue i) (normal i) (part i) (degraded i) (ready i),
-      degraded_columns (t i) (queue i) (normal i) (part i) (degraded i) (ready i),
-      (range i).0,
-      (range i).1,
-    )
+pub bounds-t-i-in-loop-row-2 : goal.bounds-t-i-in-loop-row-2
+bounds-t-i-in-loop-row-2 c = let r = range (goal.at.bounds-t-i-in-loop-row-2 c).In-loop-row in omega (arith, r.0, r.1)
 
 pub bounds-finish-i : goal.bounds-finish-i
-bounds-finish-i c = let i = (goal.at.bounds-finish-i c).In-loop-k in omega (arith, (range i).0, (range i).1, c.loop-k.invariant.1)
+bounds-finish-i c = let r = range (goal.at.bounds-finish-i c).In-loop-row in omega (arith, r.0, r.1)
 
-pub bounds-part-i : goal.bounds-part-i
-bounds-part-i c = let i = (goal.at.bounds-part-i c).In-loop-k in omega (arith, (range i).0, (range i).1)
+pub bounds-latest-i : goal.bounds-latest-i
+bounds-latest-i c = let r = range (goal.at.bounds-latest-i c).In-loop-row in omega (arith, r.0, r.1)
 
-pub counted-requires : goal.counted-requires
-counted-requires c =
-    let i = (goal.at.counted-requires c).In-loop-k in (
+-- either workload is within the limits of a sweep
+pub finish-end-requires : goal.finish-end-requires
+finish-end-requires c =
+    let i = (goal.at.finish-end-requires c).In-loop-row in
+    elim c.if-t-i-eq0.branch [
+      | then-t-i-eq0 w ↦ rw w.worst-is (normal_columns (t i) (queue i) (normal i) (part i) (degraded i) (ready i))
+      | else-t-i-eq0 w ↦ rw w.worst-is (degraded_columns (t i) (queue i) (normal i) (part i) (degraded i) (ready i))
+    ]
+
+pub part_finish-requires : goal.part_finish-requires
+part_finish-requires c =
+    let i = (goal.at.part_finish-requires c).In-loop-row in (
       degraded_columns (t i) (queue i) (normal i) (part i) (degraded i) (ready i),
       (range i).0,
       (range i).1,
-      part_most (t i) (queue i) (normal i) (part i) (degraded i) (ready i) (row i),
+      part_most (t i) (queue i) (normal i) (part i) (degraded i) (ready i) (here i),
     )
 
-pub bounds-latest-i : goal.bounds-latest-i
-bounds-latest-i c = let i = (goal.at.bounds-latest-i c).In-loop-k in omega (arith, (range i).0, (range i).1, c.loop-k.invariant.2)
+-- the clock that a slack counts from, where nothing is promised and where something is
+counted_none : (finish promised moment clock : ℕ) → promised ≡ 0 → clock ≡ finish → clock ≡ counted_from finish promised moment
+counted_none finish promised moment clock p e = rw (p, e) (omega arith)
 
-pub loop-k-preserved : goal.loop-k-preserved
-loop-k-preserved c =
-    let i = (goal.at.loop-k-preserved c).In-loop-k in
-    let l = c.loop-k in
-    let k = c.loop-k-test.true in
-    let down : Holds c.with-upto.result (take (l.k + 1) (o i)) =
-    subst (λ (m : ℕ). Holds m (take (l.k + 1) (o i))) (sym c.with-upto.ensures) (place_down (t i) (o i) (passes i) (long i) l.k k l.down l.invariant.3) in
-    let finish : c.swept-end.result ≡ worst_finish (t i) (o i) (row i) =
-    c.swept-end.ensures
-    ∙ place_finish (t i) (o i) (passes i) (long i) l.k k c.with-upto.result down (queue i) (normal i) (part i) (degraded i) (ready i) in
-    let latest : c.counted.result ≡ PromisedDefs.latest (t i) (o i) (row i) =
-    c.counted.ensures
-    ∙ place_latest (t i) (o i) (passes i) (long i) l.k k c.with-upto.result down (queue i) (normal i) (part i) (degraded i) (ready i)
-    c.swept-end.result finish in (
-      omega arith,
-      length-set l.finish (row i - 1) c.swept-end.result ∙ l.invariant.1,
-      length-set l.latest (row i - 1) c.counted.result ∙ l.invariant.2,
+counted_some : (finish promised moment clock : ℕ) → (promised ≡ 0 → ⊥) → clock ≡ max finish moment → clock ≡ counted_from finish promised moment
+counted_some finish promised moment clock p e = rw (lt-ltb 0 promised (omega (arith, p)), e)
+
+pub loop-row-preserved : goal.loop-row-preserved
+loop-row-preserved c =
+    let i = (goal.at.loop-row-preserved c).In-loop-row in
+    let l = c.loop-row in
+    let k = inside i in
+    let m = c.with-upto.result in
+    let down : Holds m (take (place i + 1) (o i)) =
+    subst (λ (m : ℕ). Holds m (take (place i + 1) (o i))) (sym (rw (same i) at c.with-upto.ensures))
+    (place_down (t i) (o i) (passes i) (long i) (place i) k l.down l.invariant.2) in
+    let low = swept_low (queue i) (t i).release (normal i) (degraded i) (t i).n m (here i) (at (t i).level (here i)) (at (t i).release (here i)) c.finish-end.result refl in
+    let high = swept_high (queue i) (t i).release (normal i) (degraded i) (t i).n m (here i) (at (t i).level (here i)) (at (t i).release (here i)) c.finish-end.result refl in
+    let swept : c.finish-end.result ≡ swept_by (queue i) (t i).n (t i).release (cond (eqb (at (t i).level (here i)) 0) (normal i) (degraded i)) m (here i) =
+    elim c.if-t-i-eq0.branch [
+      | then-t-i-eq0 w ↦ low w.if-t-i-eq0.true (rw w.worst-is at c.finish-end.ensures)
+      | else-t-i-eq0 w ↦ high w.if-t-i-eq0.false (rw w.worst-is at c.finish-end.ensures)
+    ] in
+    let finish : c.finish-end.result ≡ worst_finish (t i) (o i) (row i) =
+    rw (same i) at swept
+    ∙ place_finish (t i) (o i) (passes i) (long i) (place i) k m down (queue i) (normal i) (part i) (degraded i) (ready i) in
+    let moment = swept_by (queue i) (t i).n (t i).release (put (degraded i) (here i) (at (part i) (here i))) m (here i) in
+    let counted : c.if-t-i-eq0-2.latest ≡ counted_from c.finish-end.result (promised_of (t i) (here i)) moment =
+    elim c.if-t-i-eq0-2.branch [
+      | then-t-i-eq0-2 w ↦ counted_none c.finish-end.result (promised_of (t i) (here i)) moment c.if-t-i-eq0-2.latest w.if-t-i-eq0-2.true w.latest-is
+      | else-t-i-eq0-2 w ↦ counted_some c.finish-end.result (promised_of (t i) (here i)) moment c.if-t-i-eq0-2.latest w.if-t-i-eq0-2.false
+          (w.latest-is ∙ w.max.ensures ∙ ap (max c.finish-end.result) w.part_finish.ensures)
+    ] in
+    let latest : c.if-t-i-eq0-2.latest ≡ PromisedDefs.latest (t i) (o i) (row i) =
+    rw (same i) at counted
+    ∙ place_latest (t i) (o i) (passes i) (long i) (place i) k m down (queue i) (normal i) (part i) (degraded i) (ready i) c.finish-end.result finish in (
+      length-set l.finish (here i - 1) c.finish-end.result ∙ l.invariant.0,
+      length-set l.latest (here i - 1) c.if-t-i-eq0-2.latest ∙ l.invariant.1,
       down,
-      stored_more (t i) (o i) (passes i) (long i) l.k k (worst_finish (t i) (o i)) l.finish c.swept-end.result l.invariant.1 finish l.invariant.4,
-      stored_more (t i) (o i) (passes i) (long i) l.k k (PromisedDefs.latest (t i) (o i)) l.latest c.counted.result l.invariant.2 latest l.invariant.5,
+      rw (same i) (stored_more (t i) (o i) (passes i) (long i) (place i) k (worst_finish (t i) (o i)) l.finish c.finish-end.result l.invariant.0 finish l.invariant.3),
+      rw (same i) (stored_more (t i) (o i) (passes i) (long i) (place i) k (PromisedDefs.latest (t i) (o i)) l.latest c.if-t-i-eq0-2.latest l.invariant.1 latest l.invariant.4),
     )
 
 pub returns : goal.returns
 returns c =
-    let l = c.loop-k in
+    let l = c.loop-row in
     let t = c.args.t in
     let o = c.args.order in
     let ok = checked t o c.requires in
     let wide : length o ≡ 64 = search rules in
-    let e : l.k ≡ t.n = omega arith in (
-      c.needs-normal.ensures,
-      stored_all t o ok wide (worst_finish t o) l.finish l.invariant.1 (subst (λ (k : ℕ). Stored (worst_finish t o) o k l.finish) e l.invariant.4),
-      stored_all t o ok wide (PromisedDefs.latest t o) l.latest l.invariant.2 (subst (λ (k : ℕ). Stored (PromisedDefs.latest t o) o k l.latest) e l.invariant.5),
+    let few = (limited t ok.accepted).few in
+    let e : l.row-index ≡ t.n = omega (arith, few, c.loop-row-test.false, l.auto.row-index-end, length-take-le t.n o (omega (arith, wide, few))) in (
+      c.needs-need.ensures,
+      stored_all t o ok wide (worst_finish t o) l.finish l.invariant.0 (subst (λ (k : ℕ). Stored (worst_finish t o) o k l.finish) e l.invariant.3),
+      stored_all t o ok wide (PromisedDefs.latest t o) l.latest l.invariant.1 (subst (λ (k : ℕ). Stored (PromisedDefs.latest t o) o k l.latest) e l.invariant.4),
     )

@@ -1,5 +1,6 @@
-use Rattle.std.proofs.Common.{sym, ◌∙◌}
+use Rattle.std.proofs.Common.{ℕ, ◌≡◌, length, sym, subst, ◌∙◌, arith}
 use Rattle.parser.specs.Scanning.{scan_start, at_digit, at_gap, at_end, at_close}
+use Rattle.parser.specs.Figures.{FigureAt}
 use Rattle.parser.proofs.next_figure.Goals as goal
 use Rattle.parser.proofs.next_figure.Goals.{then-digit_from, else-digit_from+else-begun}
 
@@ -27,4 +28,9 @@ loop-i-preserved c =
     ]
 
 pub returns : goal.returns
-returns c = let l = c.loop-i in at_close c.args.bytes.now c.args.from l.begun l.value l.i c.loop-i-test.false l.invariant
+returns c =
+    let b = c.args.bytes.now in
+    let l = c.loop-i in
+    let e : l.i ≡ length b = omega arith in
+    subst (λ (n : ℕ). FigureAt b c.args.from (record { value = l.value; next = n })) e
+    (at_close b c.args.from l.begun l.value l.i c.loop-i-test.false l.invariant)

@@ -1,10 +1,6 @@
 -- The walk's state at byte i is what it has scanned; a byte after a figure, or the last byte, ends it.
-use Rattle.std.proofs.Common.{◌-◌, length}
 use Rattle.parser.specs.Scanning.{Scanned}
 use Rattle.parser.proofs.next_figure.Given as goal
 
 abbrev pub invariant-loop-i : goal.invariant-loop-i
 invariant-loop-i l = Scanned l.bytes l.from l.begun l.value l.i
-
-abbrev pub decreases-loop-i : goal.decreases-loop-i
-decreases-loop-i l = length l.bytes - l.i

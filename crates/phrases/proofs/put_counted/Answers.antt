@@ -3,8 +3,8 @@ use Rattle.std.proofs.Common.{ℕ, List, [], ◌∷◌, ◌≡◌, ◌+◌, leng
 use Rattle.texts.specs.Decimals.{decimal}
 use Rattle.texts.specs.Quoted.{bytes, together}
 use Rattle.sentences.specs.Sentences.{counted}
-use Rattle.fields.specs.Wrote.{wrote_as, wrote_then}
-use Rattle.phrases.specs.Together.{together_long, wrote_last}
+use Rattle.fields.specs.Texts.{puts_as, puts_then}
+use Rattle.phrases.specs.Together.{together_long, puts_last}
 use Rattle.phrases.proofs.put_counted.Goals as goal
 
 module _ (v : ℕ) (noun : List ℕ) where
@@ -25,21 +25,21 @@ module _ (v : ℕ) (noun : List ℕ) where
   more_long : nat_eq v 1 ≡ false → length (counted v noun) ≡ length (decimal v) + length noun + 1
   more_long e = omega (arith, ap length (counted_more e), together_long (decimal v ∷ noun ∷ bytes "s" ∷ []))
 
-pub put_decimal-after_figure-requires : goal.put_decimal-after_figure-requires
-put_decimal-after_figure-requires c = omega (arith, counted_long c.args.value c.args.noun.now)
+pub put_decimal-requires : goal.put_decimal-requires
+put_decimal-requires c = omega (arith, counted_long c.args.value c.args.noun.now)
 
-pub put_words-after_noun-requires : goal.put_words-after_noun-requires
-put_words-after_noun-requires c = omega (arith, counted_long c.args.value c.args.noun.now)
-
-pub returns-then-value-eq1 : goal.returns-then-value-eq1
-returns-then-value-eq1 c =
-    wrote_as (sym (counted_one c.args.value c.args.noun.now c.if-value-eq1.true))
-    (wrote_then c.put_decimal-after_figure.ensures (wrote_last c.put_words-after_noun.ensures))
+pub put_bytes-requires : goal.put_bytes-requires
+put_bytes-requires c = omega (arith, counted_long c.args.value c.args.noun.now)
 
 pub put_byte-requires : goal.put_byte-requires
-put_byte-requires c = omega (arith, more_long c.args.value c.args.noun.now (ne_eqb _ _ c.if-value-eq1.false))
+put_byte-requires c =
+    omega (arith, more_long c.args.value c.args.noun.now (ne_eqb _ _ c.if-value-ne1.true))
 
-pub returns : goal.returns
-returns c =
-    wrote_as (sym (counted_more c.args.value c.args.noun.now (ne_eqb _ _ c.if-value-eq1.false)))
-    (wrote_then c.put_decimal-after_figure.ensures (wrote_then c.put_words-after_noun.ensures c.put_byte.ensures))
+pub returns-then-value-ne1 : goal.returns-then-value-ne1
+returns-then-value-ne1 c =
+    puts_as (sym (counted_more c.args.value c.args.noun.now (ne_eqb _ _ c.if-value-ne1.true)))
+    (puts_then c.put_decimal.ensures (puts_then c.put_bytes.ensures c.put_byte.ensures))
+
+pub returns-else-value-ne1 : goal.returns-else-value-ne1
+returns-else-value-ne1 c =
+    puts_as (sym (counted_one c.args.value c.args.noun.now c.if-value-ne1.false)) (puts_then c.put_decimal.ensures (puts_last c.put_bytes.ensures))

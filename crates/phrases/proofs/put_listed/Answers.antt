@@ -1,52 +1,61 @@
 -- Of no entries nothing is put; else the opening, the first, the others and the closing bracket, one after the other.
-use Rattle.std.proofs.Common.{ℕ, List, [], ◌∷◌, ◌≡◌, ◌+◌, ◌≤◌, length, get_or, take, drop, sym, ap, arith, rules}
+use Rattle.std.proofs.Common.{ℕ, List, [], ◌∷◌, ◌≡◌, ◌+◌, ◌≤◌, ◌<◌, length, get_or, take, sym, ap, arith, length-append, take_all}
 use Rattle.rules.specs.Lists.{joined}
 use Rattle.texts.specs.Decimals.{decimal}
-use Rattle.texts.specs.Quoted.{bytes}
+use Rattle.texts.specs.Quoted.{bytes, together}
 use Rattle.sentences.specs.Sentences.{item, listed}
-use Rattle.fields.specs.Wrote.{wrote_as, wrote_none, wrote_then}
-use Rattle.phrases.specs.Entries.{listed_some}
-use Rattle.phrases.specs.Together.{together_long}
+use Rattle.decimals.specs.Decimal.{entry_more, entries_within}
+use Rattle.fields.specs.Texts.{puts_as, puts_then, puts_piece}
+use Rattle.phrases.specs.Entries.{later, listed_whole, parts_long}
 use Rattle.phrases.proofs.put_listed.Goals as goal
 
--- how long the parts are together
-parts_long : (opening entries : List ℕ) (many : ℕ) → 1 ≤ many → many ≤ length entries
-    → length (listed opening (take many entries)) ≡ length opening + length (decimal (get_or entries 0 0)) + length (joined item (drop 1 (take many entries))) + 1
-parts_long opening entries many some within =
+-- the first i of the entries after the first, and entry i, are no longer than all of them
+one_within : (xs : List ℕ) (i : ℕ) → i < length xs
+    → length (joined item (take i xs)) + (2 + length (decimal (get_or xs i 0))) ≤ length (joined item xs)
+one_within xs i h =
     omega (
       arith,
-      ap length (listed_some opening entries many some within),
-      together_long (opening ∷ decimal (get_or entries 0 0) ∷ joined item (drop 1 (take many entries)) ∷ bytes ")" ∷ []),
+      ap length (entry_more item xs i h),
+      length-append (joined item (take i xs)) (item (get_or xs i 0)),
+      length-append (bytes ", ") (decimal (get_or xs i 0)),
+      entries_within item xs (i + 1),
     )
 
-pub returns-then-many-eq0 : goal.returns-then-many-eq0
-returns-then-many-eq0 c =
-    wrote_as (ap (λ (k : ℕ). listed c.args.opening.now (take k c.args.entries)) (sym c.if-many-eq0.true))
-    (wrote_none c.args.out.now c.args.at (omega (arith, c.requires.1)))
+pub put_bytes-requires-in-loop-entry : goal.put_bytes-requires-in-loop-entry
+put_bytes-requires-in-loop-entry c =
+    omega (
+      arith,
+      one_within (later c.args.entries.now) c.loop-entry.entry-index c.loop-entry-test.true,
+      parts_long c.args.opening.now c.args.entries.now c.in-len1-up.len_at_least,
+    )
 
-pub put_words-after_opening-requires : goal.put_words-after_opening-requires
-put_words-after_opening-requires c =
-    let n : length c.args.entries ≡ 64 = search rules in
-    omega (arith, c.requires.1, parts_long c.args.opening.now c.args.entries c.args.many (omega arith) (omega arith))
+pub put_decimal-requires-in-loop-entry : goal.put_decimal-requires-in-loop-entry
+put_decimal-requires-in-loop-entry c =
+    omega (
+      arith,
+      one_within (later c.args.entries.now) c.loop-entry.entry-index c.loop-entry-test.true,
+      parts_long c.args.opening.now c.args.entries.now c.in-len1-up.len_at_least,
+    )
 
-pub put_decimal-after_first-requires : goal.put_decimal-after_first-requires
-put_decimal-after_first-requires c =
-    let n : length c.args.entries ≡ 64 = search rules in
-    omega (arith, c.requires.1, parts_long c.args.opening.now c.args.entries c.args.many (omega arith) (omega arith))
-
-pub put_items-after_items-requires : goal.put_items-after_items-requires
-put_items-after_items-requires c =
-    let n : length c.args.entries ≡ 64 = search rules in
-    (omega arith, c.requires.0, omega (arith, c.requires.1, parts_long c.args.opening.now c.args.entries c.args.many (omega arith) (omega arith)))
+pub loop-entry-preserved : goal.loop-entry-preserved
+loop-entry-preserved c =
+    puts_piece item (later c.args.entries.now) c.loop-entry.entry-index c.loop-entry-test.true c.loop-entry.invariant
+    (puts_then c.put_bytes-in-loop-entry.ensures c.put_decimal-in-loop-entry.ensures)
 
 pub put_byte-requires : goal.put_byte-requires
 put_byte-requires c =
-    let n : length c.args.entries ≡ 64 = search rules in
-    omega (arith, c.requires.1, parts_long c.args.opening.now c.args.entries c.args.many (omega arith) (omega arith))
+    omega (
+      arith,
+      entries_within item (later c.args.entries.now) c.loop-entry.entry-index,
+      parts_long c.args.opening.now c.args.entries.now c.in-len1-up.len_at_least,
+    )
 
-pub returns : goal.returns
-returns c =
-    let n : length c.args.entries ≡ 64 = search rules in
-    wrote_as (sym (listed_some c.args.opening.now c.args.entries c.args.many (omega arith) (omega arith)))
-    (wrote_then c.put_words-after_opening.ensures
-    (wrote_then c.put_decimal-after_first.ensures (wrote_then c.put_items-after_items.ensures c.put_byte.ensures)))
+pub returns-after-loop-entry : goal.returns-after-loop-entry
+returns-after-loop-entry c =
+    let xs = c.args.entries.now in
+    let e : listed c.args.opening.now xs ≡ together (c.args.opening.now ∷ decimal (get_or xs 0 0) ∷ joined item (later xs) ∷ bytes ")" ∷ []) =
+    listed_whole c.args.opening.now xs c.in-len1-up.len_at_least in
+    puts_as (sym e)
+    (puts_then c.put_bytes.ensures
+    (puts_then c.put_decimal.ensures
+    (puts_then (puts_as (ap (joined item) (take_all c.loop-entry.entry-index (later xs) c.loop-entry-test.false)) c.loop-entry.invariant) c.put_byte.ensures)))

@@ -19,6 +19,6 @@ pub returns : goal.returns
 returns c =
     let t = c.args.t in
     let most = c.most_trials in
-    let within = c.plan_within-counted in
+    let within = c.plan_within in
     promised t within.result.planning
     (ap (λ (r : Counted). r.planning) within.ensures ∙ planned_within t most.result (λ a. omega (arith, enough t a, most.ensures)))

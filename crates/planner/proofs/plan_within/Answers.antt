@@ -3,10 +3,10 @@ use mathlib.Core.Path.{sym}
 use Rattle.ceiling.specs.Ceiling.{plan_within}
 use Rattle.planner.proofs.plan_within.Goals as goal
 
-pub returns-in-Refused : goal.returns-in-Refused
+pub returns-in-Err : goal.returns-in-Err
 unfolding plan_within
-returns-in-Refused c = rw (sym c.in-Refused.ensures) c.refused.ensures
+returns-in-Err c = rw (sym c.in-Err.ensures) c.refused.ensures
 
-pub returns-in-Passed : goal.returns-in-Passed
+pub returns-in-Ok : goal.returns-in-Ok
 unfolding plan_within
-returns-in-Passed c = rw (sym c.in-Passed.ensures) c.choose.ensures
+returns-in-Ok c = rw (sym c.in-Ok.ensures) c.choose.ensures

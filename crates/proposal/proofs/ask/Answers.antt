@@ -3,10 +3,10 @@ use Rattle.rules.specs.declared.Reading.{Reading}
 use Rattle.proposal.specs.Proposals.{ask_of}
 use Rattle.proposal.proofs.ask.Goals as goal
 
-pub returns-in-Refused : goal.returns-in-Refused
+pub returns-in-Err : goal.returns-in-Err
 unfolding ask_of
-returns-in-Refused c = rw (ap (λ (x : Reading). x.check) (sym c.read-reading.ensures) ∙ c.in-Refused.is) c.nothing.ensures
+returns-in-Err c = rw (ap (λ (x : Reading). x.check) (sym c.read-reading.ensures) ∙ c.in-Err.is) c.nothing.ensures
 
-pub returns-in-Passed : goal.returns-in-Passed
+pub returns-in-Ok : goal.returns-in-Ok
 unfolding ask_of
-returns-in-Passed c = rw (sym c.read-reading.ensures, c.in-Passed.is) c.planned.ensures
+returns-in-Ok c = rw (sym c.read-reading.ensures, c.in-Ok.is) c.planned.ensures

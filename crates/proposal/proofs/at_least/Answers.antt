@@ -1,33 +1,13 @@
-use Prim.Native.Nat.{ℕ}
-use mathlib.Core.Path.{◌≡◌, refl, sym, ap, ◌∙◌}
-use native.Mathlib.Omega.{arith}
-use borrow.Author.Rules.{rules}
-use Rattle.rules.specs.Lists.{all, rows_to}
-use Rattle.checks.specs.RowLists.{all_rows_fail}
-use Rattle.columns.specs.AllRows.{all_next}
-use Rattle.proposal.specs.Turning.{reaches, entry_below, entry_reaches}
+-- `proposal::at_least` meets its contract: the entries that it tests are those of the rows from 1 to n. Assumes nothing.
+use Rattle.std.proofs.Common.{sym, ◌∙◌, arith, rules, tests, leb}
+use Rattle.std.proofs.lemmas.Iterator.{YieldsList-from_slice, YieldsList-from_take}
+use Rattle.std.proofs.lemmas.Iterator.Search.{all_from_yields_List}
+use Rattle.proposal.specs.Turning.{first_rows}
 use Rattle.proposal.proofs.at_least.Goals as goal
-
-pub loop-k-init : goal.loop-k-init
-loop-k-init c = (search rules, search rules, refl)
-
-pub returns-then-column-k : goal.returns-then-column-k
-returns-then-column-k c =
-    let turn = c in
-    let a = turn.args in
-    let l = turn.loop-k in
-    sym (all_rows_fail (reaches a.column.now a.least) l.k a.n (omega arith) (entry_below a.column.now a.least l.k c.if-column-k.true))
-
-pub loop-k-preserved : goal.loop-k-preserved
-loop-k-preserved c =
-    let turn = c in
-    let a = turn.args in
-    let l = turn.loop-k in
-    (omega arith, omega arith, all_next (reaches a.column.now a.least) l.k l.invariant.2 (entry_reaches a.column.now a.least l.k c.if-column-k.false))
 
 pub returns : goal.returns
 returns c =
     let a = c.args in
-    let l = c.loop-k in
-    let e : l.k ≡ a.n = omega arith in
-    sym l.invariant.2 ∙ ap (λ (k : ℕ). all (reaches a.column.now a.least) (rows_to k)) e
+    all_from_yields_List (leb a.least) _ _ c.all.result c.all.ensures.ran
+    (YieldsList-from_take a.n (YieldsList-from_slice a.column.now cc) cc) (λ x b q k. search (rules, tests))
+    ∙ sym (first_rows (leb a.least) a.column.now a.n (omega arith))

@@ -1,4 +1,4 @@
-use mathlib.Core.Path.{sym, ◌∙◌}
+use Rattle.std.proofs.Common.{rules, sym, ◌∙◌}
 use Rattle.proposal.specs.Proposals.{check_proposal}
 use Rattle.record.specs.Checked.{limits}
 use Rattle.record.proofs.Sound.{speeds}
@@ -12,16 +12,16 @@ returns-then-not-is_sound c = simp (sym c.is_sound.ensures ∙ c.if-not-is_sound
 pub check_turn-requires : goal.check_turn-requires
 check_turn-requires c =
     let a = c.args in (
-      (speeds a.run (sym c.is_sound.ensures ∙ c.if-not-is_sound.false)).few,
-      (limits a.proposal.table a.proposal.order (sym c.check_both-check.ensures ∙ c.in-Passed.is)).few,
+      (speeds a.run.now (sym c.is_sound.ensures ∙ c.if-not-is_sound.false)).few,
+      (limits a.proposal.now.table a.proposal.now.order (sym c.check_both.ensures ∙ c.in_ok-check_both.was)).few,
     )
 
-pub returns-in-Refused : goal.returns-in-Refused
+pub returns-in_err-check_both : goal.returns-in_err-check_both
 unfolding check_commit check_proposal
-returns-in-Refused c =
-    simp (sym c.is_sound.ensures ∙ c.if-not-is_sound.false) (rw (sym c.check_both-check.ensures ∙ c.in-Refused.is))
+returns-in_err-check_both c =
+    simp (sym c.is_sound.ensures ∙ c.if-not-is_sound.false) (rw (sym c.check_both.ensures ∙ c.in_err-check_both.was) (search rules))
 
-pub returns-in-Passed : goal.returns-in-Passed
+pub returns : goal.returns
 unfolding check_commit check_proposal
-returns-in-Passed c =
-    simp (sym c.is_sound.ensures ∙ c.if-not-is_sound.false) (rw (sym c.check_both-check.ensures ∙ c.in-Passed.is) c.check_turn.ensures)
+returns c =
+    simp (sym c.is_sound.ensures ∙ c.if-not-is_sound.false) (rw (sym c.check_both.ensures ∙ c.in_ok-check_both.was) c.check_turn.ensures)

@@ -11,7 +11,7 @@ returns-then-not-is_correct c = simp (sym c.is_correct.ensures ∙ c.if-not-is_c
 pub returns-then-not-at_least : goal.returns-then-not-at_least
 unfolding check_turn
 returns-then-not-at_least c =
-    let r = c.args.run in
+    let r = c.args.run.now in
     simp (
       sym c.is_correct.ensures ∙ c.if-not-is_correct.false,
       sym (closed_least r.table (state_of r)) ∙ sym c.at_least.ensures ∙ c.if-not-at_least.true,
@@ -20,19 +20,19 @@ returns-then-not-at_least c =
 pub returns-then-not-at_least-2 : goal.returns-then-not-at_least-2
 unfolding check_turn
 returns-then-not-at_least-2 c =
-    let r = c.args.run in
+    let r = c.args.run.now in
     simp (
       sym c.is_correct.ensures ∙ c.if-not-is_correct.false,
       sym (closed_least r.table (state_of r)) ∙ sym c.at_least.ensures ∙ c.if-not-at_least.false,
-      sym (released_least c.args.table r.clock) ∙ sym c.at_least-2.ensures ∙ c.if-not-at_least-2.true,
+      sym (released_least c.args.proposal.now.table r.clock) ∙ sym c.at_least-2.ensures ∙ c.if-not-at_least-2.true,
     )
 
 pub returns : goal.returns
 unfolding check_turn
 returns c =
-    let r = c.args.run in
+    let r = c.args.run.now in
     simp (
       sym c.is_correct.ensures ∙ c.if-not-is_correct.false,
       sym (closed_least r.table (state_of r)) ∙ sym c.at_least.ensures ∙ c.if-not-at_least.false,
-      sym (released_least c.args.table r.clock) ∙ sym c.at_least-2.ensures ∙ c.if-not-at_least-2.false,
+      sym (released_least c.args.proposal.now.table r.clock) ∙ sym c.at_least-2.ensures ∙ c.if-not-at_least-2.false,
     )

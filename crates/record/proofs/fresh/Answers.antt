@@ -1,17 +1,12 @@
-use mathlib.Core.Path.{sym, ◌∙◌}
+use Rattle.std.proofs.Common.{sym, ◌∙◌}
 use Rattle.rules.specs.Slots.{fresh}
 use Rattle.record.specs.Records.{fresh_of}
 use Rattle.record.proofs.fresh.Goals as goal
 
-pub returns-in-Passed : goal.returns-in-Passed
+pub returns-in-Ok : goal.returns-in-Ok
 unfolding fresh_of fresh
-returns-in-Passed c = rw (sym c.check_both-check.ensures ∙ c.in-Passed.is, c.start-run.ensures)
+returns-in-Ok c = rw (sym c.check_both.ensures ∙ c.in-Ok.is, c.start.ensures)
 
-pub returns-in-Refused : goal.returns-in-Refused
+pub returns-in-Err : goal.returns-in-Err
 unfolding fresh_of fresh
-returns-in-Refused c =
-    rw (
-      sym c.check_both-check.ensures ∙ c.in-Refused.is,
-      c.start-run-in-Refused.ensures,
-      c.zero_table-none.ensures,
-    )
+returns-in-Err c = rw (sym c.check_both.ensures ∙ c.in-Err.is, c.start-in-Err.ensures, c.zero_table.ensures)

@@ -8,18 +8,18 @@ use mir.Syntax.{w32}
 use mir.Val.{SFits, to_z, of_z}
 use mir.Facts.{to_z-of_z}
 use Rattle.fields.specs.Figures.{figure_long}
-use Rattle.fields.specs.Wrote.{wrote_as, wrote_then}
+use Rattle.fields.specs.Texts.{puts_as, puts_then}
 use Rattle.texts.specs.Reports.{figure}
 use Rattle.report.specs.Lines.{pair_long, in_line}
 use Rattle.report.proofs.put_job.Goals as goal
 
-pub put_counts-after_finish-requires : goal.put_counts-after_finish-requires
-put_counts-after_finish-requires c =
+pub put_counts-requires-2 : goal.put_counts-requires-2
+put_counts-requires-2 c =
     let p = c.requires in
     (p.1, p.2, omega (arith, p.4, pair_long (pos c.args.job.place) (pos c.args.job.row)))
 
-pub put_figure-after_slack-requires : goal.put_figure-after_slack-requires
-put_figure-after_slack-requires c =
+pub put_figure-requires : goal.put_figure-requires
+put_figure-requires c =
     let p = c.requires in
     let j = c.args.job in
     let fits : SFits w32 j.slack = search rules in (
@@ -42,7 +42,7 @@ pub returns : goal.returns
 returns c =
     let j = c.args.job in
     let fits : SFits w32 j.slack = search rules in
-    wrote_as
+    puts_as
     (in_line (figure (pos j.place)) (figure (pos j.row)) (figure (pos j.need)) (figure (pos j.finish)) (figure j.slack ++ (10 ∷ [])))
-    (wrote_then c.put_counts-after_row.ensures (wrote_then c.put_counts-after_finish.ensures
-    (wrote_then (wrote_as (ap figure (to_z-of_z fits)) c.put_figure-after_slack.ensures) c.put_byte.ensures)))
+    (puts_then c.put_counts.ensures (puts_then c.put_counts-2.ensures
+    (puts_then (puts_as (ap figure (to_z-of_z fits)) c.put_figure.ensures) c.put_byte.ensures)))

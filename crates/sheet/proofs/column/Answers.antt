@@ -1,10 +1,10 @@
-use Rattle.std.proofs.Common.{◌+◌, ◌-◌, ◌*◌, rules, ◌≡◌, sym, arith}
+use Rattle.std.proofs.Common.{◌+◌, ◌-◌, ◌*◌, ◌≡◌, sym, arith}
 use Rattle.texts.specs.Sheets.{number_at}
 use Rattle.sheet.specs.Lines.{line_field, lines_line, column_start, column_more}
 use Rattle.sheet.proofs.column.Goals as goal
 
 pub loop-i-init : goal.loop-i-init
-loop-i-init c = (search rules, column_start c.args.bytes.now c.args.j)
+loop-i-init c = column_start c.args.bytes.now c.args.j
 
 pub number-requires : goal.number-requires
 number-requires c =
@@ -17,13 +17,11 @@ number-requires c =
 pub loop-i-preserved : goal.loop-i-preserved
 unfolding number_at
 loop-i-preserved c =
-    let l = c.loop-i in (
-      omega arith,
-      rw (l.invariant.1, c.number.ensures) (sym (column_more c.args.bytes.now l.i c.args.j (omega arith))),
-    )
+    let l = c.loop-i in
+    rw (l.invariant, c.number.ensures) (sym (column_more c.args.bytes.now l.i c.args.j (omega arith)))
 
 pub returns : goal.returns
 returns c =
     let l = c.loop-i in
     let e : l.i ≡ c.args.n = omega arith in
-    rw e at l.invariant.1
+    rw e at l.invariant

@@ -1,9 +1,6 @@
-use Rattle.std.proofs.Common.{rules, refl, sym, ◌∙◌, arith}
+use Rattle.std.proofs.Common.{sym, ◌∙◌, arith}
 use Rattle.sheet.specs.Lines.{fields_go, fields_stop, fields_end}
 use Rattle.sheet.proofs.line_ok.Goals as goal
-
-pub loop-j-init : goal.loop-j-init
-loop-j-init c = (search rules, refl)
 
 pub returns-then-not-field_ok : goal.returns-then-not-field_ok
 returns-then-not-field_ok c =
@@ -15,9 +12,9 @@ pub loop-j-preserved : goal.loop-j-preserved
 loop-j-preserved c =
     let l = c.loop-j in
     let e = sym c.field_ok.ensures ∙ c.if-not-field_ok.false in
-    (omega arith, fields_go c.args.bytes.now c.args.start l.j l.invariant.1 e)
+    fields_go c.args.bytes.now c.args.start l.j l.invariant e
 
 pub returns : goal.returns
 returns c =
     let l = c.loop-j in
-    sym (fields_end c.args.bytes.now c.args.start l.j c.args.k (omega arith) l.invariant.1)
+    sym (fields_end c.args.bytes.now c.args.start l.j c.args.k (omega arith) l.invariant)

@@ -1,9 +1,6 @@
-use Rattle.std.proofs.Common.{rules, ◌≡◌, refl, sym, ◌∙◌, arith}
+use Rattle.std.proofs.Common.{◌≡◌, sym, ◌∙◌, arith}
 use Rattle.sheet.specs.Lines.{lines_go, lines_stop}
 use Rattle.sheet.proofs.lines_ok.Goals as goal
-
-pub loop-i-init : goal.loop-i-init
-loop-i-init c = (search rules, refl)
 
 pub returns-then-not-line_ok : goal.returns-then-not-line_ok
 returns-then-not-line_ok c =
@@ -15,10 +12,10 @@ pub loop-i-preserved : goal.loop-i-preserved
 loop-i-preserved c =
     let l = c.loop-i in
     let e = sym c.line_ok.ensures ∙ c.if-not-line_ok.false in
-    (omega arith, lines_go c.args.bytes.now l.i l.invariant.1 e)
+    lines_go c.args.bytes.now l.i l.invariant e
 
 pub returns : goal.returns
 returns c =
     let l = c.loop-i in
     let e : l.i ≡ c.args.n = omega arith in
-    sym (rw e at l.invariant.1)
+    sym (rw e at l.invariant)

@@ -10,27 +10,27 @@ in_head : (b : List ℕ) (n : ℕ) → Lined b n → is_line b 0 4 ≡ true → 
     → (0 + 8 * j + 8 ≤ length b) × (is_field (field_at b (0 + 8 * j)) ≡ true)
 in_head b n lined line j h = (omega (arith, lined.long), line_field b 0 j 4 line h)
 
-pub number-normal-requires : goal.number-normal-requires
-number-normal-requires c = in_head _ _ c.requires.0 c.requires.1 1 (omega arith)
+pub number-requires : goal.number-requires
+number-requires c = in_head _ _ c.requires.0 c.requires.1 1 (omega arith)
 
-pub number-degraded-requires : goal.number-degraded-requires
-number-degraded-requires c = in_head _ _ c.requires.0 c.requires.1 2 (omega arith)
+pub number-requires-2 : goal.number-requires-2
+number-requires-2 c = in_head _ _ c.requires.0 c.requires.1 2 (omega arith)
 
-pub number-loading-requires : goal.number-loading-requires
-number-loading-requires c = in_head _ _ c.requires.0 c.requires.1 3 (omega arith)
+pub number-requires-3 : goal.number-requires-3
+number-requires-3 c = in_head _ _ c.requires.0 c.requires.1 3 (omega arith)
 
 pub returns : goal.returns
 unfolding table_in number_at
 returns c =
     rw (
-      c.number-normal.ensures,
-      c.number-degraded.ensures,
-      c.number-loading.ensures,
-      c.column-release.ensures,
-      c.column-work.ensures,
-      c.column-deadline.ensures,
-      c.column-level.ensures,
-      c.column-promised.ensures,
-      c.column-follows.ensures,
+      c.number.ensures,
+      c.number-2.ensures,
+      c.number-3.ensures,
+      c.column.ensures,
+      c.column-2.ensures,
+      c.column-3.ensures,
+      c.column-4.ensures,
+      c.column-5.ensures,
+      c.column-6.ensures,
       c.requires.2,
     )

@@ -22,7 +22,7 @@ module _ (c : After-is_ordered) where
   apart = by_eqb between.low between.high (λ _ e. absurd (c.if-low-high.false e)) (λ _ e. omega (arith, c.requires.1.ordered))
 
   planning_is : c.plan-planning.result ≡ plan_of (at_speed c.args.sought c.args.t (middle between))
-  planning_is = c.plan-planning.ensures.answer ∙ ap plan_of c.at_speed-tried.ensures
+  planning_is = c.plan-planning.ensures.answer ∙ ap plan_of c.at_speed.ensures
 
   works_is : c.is_ordered.result ≡ makes_order c.args.sought c.args.t (middle between)
   unfolding makes_order

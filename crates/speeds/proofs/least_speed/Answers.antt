@@ -4,10 +4,10 @@ use Rattle.searches.specs.Speeds.{search_of}
 use Rattle.speeds.specs.Promise.{promised_search}
 use Rattle.speeds.proofs.least_speed.Goals as goal
 
-pub returns-in-Refused : goal.returns-in-Refused
+pub returns-in-Err : goal.returns-in-Err
 unfolding search_of
-returns-in-Refused c = promised_search _ _ _ (c.refused.ensures ∙ rw (sym c.in-Refused.ensures))
+returns-in-Err c = promised_search _ _ _ (c.refused.ensures ∙ rw (sym c.in-Err.ensures))
 
-pub returns-in-Passed : goal.returns-in-Passed
+pub returns-in-Ok : goal.returns-in-Ok
 unfolding search_of
-returns-in-Passed c = promised_search _ _ _ (rw (sym c.in-Passed.ensures) c.search.ensures)
+returns-in-Ok c = promised_search _ _ _ (rw (sym c.in-Ok.ensures) c.search.ensures)

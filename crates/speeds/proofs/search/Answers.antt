@@ -42,8 +42,8 @@ returns-then-last-least c =
     halving_none c.args.sought c.args.t c.requires l.between l.invariant.1 (one_left (goal.at.returns-then-last-least c).At-loop-turn c.loop-turn-test.false)
     (omega (arith, c.fastest-last.ensures, c.if-last-least.true))
 
-pub returns : goal.returns
-returns c =
+pub returns-else-last-least : goal.returns-else-last-least
+returns-else-last-least c =
     let l = c.loop-turn in
-    halving_least c.args.sought c.args.t c.requires l.between l.invariant.1 (one_left (goal.at.returns c).At-loop-turn c.loop-turn-test.false)
+    halving_least c.args.sought c.args.t c.requires l.between l.invariant.1 (one_left (goal.at.returns-else-last-least c).At-loop-turn c.loop-turn-test.false)
     (omega (arith, c.fastest-last.ensures, c.if-last-least.false))

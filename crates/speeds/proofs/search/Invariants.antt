@@ -5,6 +5,3 @@ use Rattle.speeds.proofs.search.Given as goal
 
 abbrev pub invariant-loop-turn : goal.invariant-loop-turn
 invariant-loop-turn l = (l.turn ≤ 10) × Halving l.sought l.t l.between × (l.between.high - l.between.low < 2 ^ (10 - l.turn))
-
-abbrev pub decreases-loop-turn : goal.decreases-loop-turn
-decreases-loop-turn l = 10 - l.turn

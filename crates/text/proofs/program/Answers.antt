@@ -1,29 +1,27 @@
-use Prim.Native.Nat.{ℕ}
-use borrow.Author.Rules.{rules}
-use native.Mathlib.Omega.{arith}
-use mathlib.Core.List.{[], ◌∷◌}
-use mathlib.Core.Path.{◌≡◌, ap, ◌∙◌}
-use lib.ListN.{length, take}
-use Rattle.rules.specs.declared.Check.TheVariants.{Passed, Refused}
+-- The text of the reading stands from byte 0 on.
+use Rattle.std.proofs.Common.{ℕ, ◌≡◌, [], ◌∷◌, ap, ◌∙◌, arith, rules, length, take}
 use Rattle.texts.specs.Fields.{line}
-use Rattle.fields.specs.Wrote.{wrote_as}
+use Rattle.fields.specs.Texts.{puts_as}
 use Rattle.text.specs.Answers.{reading_accepted, reading_text, answered}
 use Rattle.text.proofs.program.Goals as goal
+use Rattle.text.proofs.program.Goals.{in-Ok, in-Err}
+use Rattle.rules.specs.Checks.{Passed, Refused}
 
 pub put_plan-requires : goal.put_plan-requires
 put_plan-requires c =
     let l : length c.args.out.now ≡ 1617 = search rules in
-    (reading_accepted (take 3170 c.args.input.now) c.read_kept-reading.result c.read_kept-reading.ensures c.in-Passed.is, omega arith)
+    (reading_accepted (take 3170 c.args.input.now) c.read_kept-reading.result c.read_kept-reading.ensures c.in-Ok.is, omega arith)
 
-pub returns-in-Passed : goal.returns-in-Passed
-returns-in-Passed c =
-    answered c.args.input.now _ _ _
-    (wrote_as (reading_text c.args.input.now c.read_kept-reading.result Passed c.read_kept-reading.ensures c.in-Passed.is) c.put_plan.ensures)
-
-pub returns-in-Refused : goal.returns-in-Refused
-returns-in-Refused c =
-    answered c.args.input.now _ _ _
-    (wrote_as
-    (ap (λ (n : ℕ). line (n ∷ 0 ∷ [])) c.refusal_number.ensures
-    ∙ reading_text c.args.input.now c.read_kept-reading.result (Refused c.in-Refused.why) c.read_kept-reading.ensures c.in-Refused.is)
-    c.put_pair.ensures)
+pub returns : goal.returns
+returns c =
+    let input = c.args.input.now in
+    let r = c.read_kept-reading in
+    elim c.match-reading.branch [
+      | in-Ok w ↦ rw w.text-is (answered input _ _ _ (puts_as (reading_text input r.result Passed r.ensures w.in-Ok.is) w.put_plan.ensures).wrote)
+      | in-Err w ↦
+          rw w.text-is
+          (answered input _ _ _
+          (puts_as
+          (ap (λ (n : ℕ). line (n ∷ 0 ∷ [])) w.refusal_number.ensures ∙ reading_text input r.result (Refused w.in-Err.why) r.ensures w.in-Err.is)
+          w.put_line.ensures).wrote)
+    ]

@@ -1,6 +1,6 @@
 use native.Mathlib.Omega.{arith}
 use Rattle.texts.specs.Fields.{written}
-use Rattle.fields.specs.Wrote.{wrote_then}
+use Rattle.fields.specs.Texts.{puts_then}
 use Rattle.theory.specs.Facts.{both_pass}
 use Rattle.text.specs.Slacks.{few}
 use Rattle.text.proofs.put_order.Goals as goal
@@ -14,4 +14,4 @@ put_places-requires c =
     (record { right = c.requires.0; counted = c.latest_clocks-clocks.ensures }, omega (arith, few c.args.t c.args.order c.requires.0))
 
 pub returns : goal.returns
-returns c = wrote_then c.put_pair-next.ensures c.put_places.ensures
+returns c = puts_then c.put_line.ensures c.put_places.ensures

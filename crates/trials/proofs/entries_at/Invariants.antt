@@ -1,5 +1,4 @@
 -- The loop's invariant: the word has the entries of this level among the first k.
-use Prim.Native.Nat.{◌≤◌, ◌-◌}
 use mathlib.Core.Path.{◌≡◌}
 use lib.Dec.{eqb}
 use lib.ListN.{take}
@@ -8,7 +7,4 @@ use Rattle.periods.specs.Marks.{marks}
 use Rattle.trials.proofs.entries_at.Given as goal
 
 abbrev pub invariant-loop-k : goal.invariant-loop-k
-invariant-loop-k l = (l.k ≤ l.n) × (l.word ≡ marks (λ i. eqb (at l.level i) l.wanted) (take l.k l.sequence))
-
-abbrev pub decreases-loop-k : goal.decreases-loop-k
-decreases-loop-k l = l.n - l.k
+invariant-loop-k l = l.word ≡ marks (λ i. eqb (at l.level i) l.wanted) (take l.k l.sequence)

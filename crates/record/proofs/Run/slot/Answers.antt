@@ -1,28 +1,29 @@
-use mathlib.Core.Path.{sym, ap, ◌∙◌}
+use Rattle.std.proofs.Common.{sym, ap, ◌∙◌}
 use Rattle.record.specs.declared.Run.{Run}
-use Rattle.record.specs.declared.SlotAnswer.TheVariants.{Worked}
+use Rattle.record.specs.SlotAnswers.{Worked}
 use Rattle.record.specs.Records.{worked_run, closed_run}
 use Rattle.record.specs.Coming.{coming_worked, slot_worked, slot_refused}
 use Rattle.record.proofs.Sound.{speeds}
 use Rattle.record.specs.Stepping.{next_looks}
 use Rattle.record.proofs.Run.slot.Goals as goal
 
-pub work-worked-requires : goal.work-worked-requires
-work-worked-requires c =
-    let w = coming_worked _ _ (sym c.coming-answer.ensures ∙ c.in-Worked.is) in
+pub work-requires : goal.work-requires
+work-requires c =
+    let w = coming_worked _ _ (sym c.coming-answer.ensures ∙ c.in-Ok.is) in
     (w.0, w.1)
 
-pub close_late-next-requires : goal.close_late-next-requires
+pub close_late-run-requires : goal.close_late-run-requires
 unfolding worked_run
-close_late-next-requires c =
-    let w = coming_worked _ _ (sym c.coming-answer.ensures ∙ c.in-Worked.is) in
-    rw c.work-worked.ensures (speeds _ w.0).few
+close_late-run-requires c =
+    let w = coming_worked _ _ (sym c.coming-answer.ensures ∙ c.in-Ok.is) in
+    rw c.work.ensures (speeds _ w.0).few
 
-pub returns-in-Worked : goal.returns-in-Worked
-returns-in-Worked c =
-    ap (λ (r : Run). record { answer = Worked c.in-Worked.row; run = r })
-    (c.close_late-next.ensures ∙ ap closed_run c.work-worked.ensures ∙ sym (next_looks c.args.self c.args.supply))
-    ∙ sym (slot_worked c.args.self c.args.supply c.in-Worked.row (sym c.coming-answer.ensures ∙ c.in-Worked.is))
+pub returns-in-Ok : goal.returns-in-Ok
+returns-in-Ok c =
+    rw c.in-Ok.is
+    (ap (λ (r : Run). record { answer = Worked c.in-Ok.field-0; run = r })
+    (c.close_late-run.ensures ∙ ap closed_run c.work.ensures ∙ sym (next_looks c.args.self c.args.supply))
+    ∙ sym (slot_worked c.args.self c.args.supply c.in-Ok.field-0 (sym c.coming-answer.ensures ∙ c.in-Ok.is)))
 
-pub returns-in-Refused : goal.returns-in-Refused
-returns-in-Refused c = sym (slot_refused _ _ _ (sym c.coming-answer.ensures ∙ c.in-Refused.is))
+pub returns-in-Err : goal.returns-in-Err
+returns-in-Err c = rw c.in-Err.is (sym (slot_refused _ _ _ (sym c.coming-answer.ensures ∙ c.in-Err.is)))
