@@ -8,28 +8,32 @@ that counts the words of a table, and from the whole planning and the whole coun
 
 Contracts, comments and texts are no code. A name leads to every function and constant that it may be: to all of that name in the crate and
 in what `use` brings, and that of a method to all in every crate. One that is not called leads nowhere if it is a field before its value, or a
-variable that a `let` of the block around it has made; one that is called leads nowhere if it is a closure that the function is handed, since what
-a closure does stands where it is made, and is looked through there. So more is looked through than is called, never less. What is handed to ROWS is
-done once for each row, as in a loop. It is a fault if
+variable that a `let` of the block around it has made; one that is called leads nowhere if it is the closure that ROWS is handed, since what a
+closure does stands where it is made, and is looked through there. So more is looked through than is called, never less. What ROWS or a method of
+EACH is handed is done in turns: it is looked through and counted as a loop is, though it is none where a call has to stand in a loop. It is a fault if
 
   - what a trial, the filling of a place or the loop of WORDS comes to divides, takes a remainder or names NEED;
   - a name that is called, or a path, there or in what PLAN or COUNT comes to, leads to nothing in these sources and is not among the operations
     built into the language, or leads to a function without a body;
+  - there a closure is made, or a function named and not called, that is not handed straight to ROWS or to a method of EACH, or one of these is handed
+    something else: how often that is done could not be seen;
   - one of NAMED is not one function, or TRIAL, LOW, PLACES, WORDS or STANDING has no loop;
-  - ROWS has not one loop, or does not call what it is handed just once, in that loop;
+  - ROWS has not one loop, or does not name what it is handed just once, to call it in that loop;
   - the loop of TRIAL calls nothing; LOW is called outside of the loops of PLACES, TRIAL outside of those of PLACES and LOW, PART outside of
     those of LOW and outside of STANDS, SWEEP outside of TRIAL and ALL, ALL or STANDING outside of the loops of WORDS, or STANDS outside of those of
     STANDING; or one of these is not called in each of the places named; or PART does not call MOMENT;
   - PLAN does not come to PLACES, or COUNT not to WORDS;
   - in PLACES the entries that are searched are not cut once for each place to the trials that the ceiling has left, a search there is handed
-    others; WITHIN hands PLACES, BOUNDARY WITHIN, or EXPORTED BOUNDARY, another ceiling than its own, or PLAN hands WITHIN another one than the most
-    trials of the table's rows; or not just one way of calls leads from each of the four to PLACES, so that more is planned than is answered;
+    others, or these or the ceiling are set anew by a statement, in a value taken apart or as what a closure takes; WITHIN hands PLACES, BOUNDARY WITHIN, or
+    EXPORTED BOUNDARY, another ceiling than its own, or PLAN hands WITHIN another one than the most trials of the table's rows; or not just one way of
+    calls leads from each of the four to PLACES, so that more is planned than is answered;
   - PLAN or COUNT comes to NEED in a function that is not among ASKING, or in one of these for another column than it is for; or for one of these
     columns by no way of calls or by more than one; or around the calls of such a way there is no loop, or another besides the one over the
     rows, as that over the words would be; or what PLAN or COUNT comes to calls itself: then ways have no end;
-  - a function's end or a contract is not understood.
+  - a function's end or a contract is not understood, a function stands in another, or one has a name of UNSEEN.
 
-That one loop takes each row once is not looked at here: contracts say what it leaves of each row.
+That one loop takes each row once is not looked at here: contracts say what it leaves of each row. Nor is it looked at whether a `for` or a case of a
+`match` gives the name of the entries or of the ceiling to another value: what is answered at a ceiling is in a contract too.
 
 One line is printed for each fault, and the exit status is 1 if there is any.
 """
@@ -66,7 +70,10 @@ BOUNDARY = "jasminebrace::jb_plan_within"
 EXPORTED = "jb_plan_within"
 CUT = re.compile(r"\blet allowed = trials::first_entries\(tries, ceiling - made\);")
 SEARCHED = re.compile(r"allowed & w\.\w+")
-SET = re.compile(r"\b(?:let\s+(?:mut\s+)?)?(?:allowed|ceiling)\s*(?:[-+*/%&|^]|<<|>>)?=(?!=)")
+SET = re.compile(r"\b(?:let\s+(?:mut\s+)?)?(?:allowed|ceiling)\s*(?:[-+*/%&|^]|<<|>>)?=(?!=)|\blet\b[^=;]*\b(?:allowed|ceiling)\b")
+# What there is of it goes by these names; and after brackets, what shows that a value is taken apart by them, in a case of a `match`.
+LIMIT = re.compile(r"\b(?:allowed|ceiling)\b")
+CASE = re.compile(r"\s*=>|(?<!\})\s*if\b")
 # The passes over the rows left that find finishes and a promised moment, and the need of a job.
 SWEEP = "AtSpeed::renew"
 MOMENT = "Workload::part_finish"
@@ -80,6 +87,10 @@ ASKING = (("sweep::needs", "&t.work", -2), ("sweep::needs", "&t.promised", -2), 
 
 # All that the language has besides functions of its crates; none of it divides.
 BUILT_IN = re.compile(r"[iu](8|16|32|64|size)::(MAX|MIN|leading_zeros|trailing_zeros|count_ones)|\.(all|and|count_ones|is_sorted|iter|len|max|min|rev|skip|trailing_zeros)|Err|Ok|Some")
+# Of these methods, those that do what they are handed in turns: for each of what they go over, until they know enough.
+EACH = re.compile(r"(?<!\.)\.\s*all\s*\(")
+# What these methods may call of a type of the sources' own, with no name in the code.
+UNSEEN = ("next", "cmp", "partial_cmp", "deref")
 KEYWORDS = {"as", "break", "else", "for", "if", "in", "let", "loop", "match", "mut", "return", "while"}
 
 DIVIDES = re.compile(r"[/%]=?")
@@ -93,8 +104,14 @@ LET = re.compile(r"[{};]\s*let\s+(?:mut\s+)?([a-z_]\w*)\s*[:=](?![:=])")
 # A call of something that has no name, or whose name goes on in a way that the language does not have.
 NAMELESS = re.compile(r"[)\]]\s*\(|::\s*<")
 LOOP = re.compile(r"\b(?:while|loop|for)\b")
+# Where a closure is made, and the bars around what it takes: a bar after a value is an operator. And a function that stands in another.
+MADE = re.compile(rf"(?:[(\[{{}},;:&]|#\[[^]]*\]|(?<![=!<>])=>?|\b(?:move|{'|'.join(sorted(KEYWORDS))})\b)\s*(\|[^|]*\|)")
+INNER = re.compile(r"\bfn\s+\w+")
 # In what stands before a function's body: the type of a closure that it is handed.
 CLOSURE = re.compile(r"\b(\w+)\s*:\s*(?:impl\s+)?Fn(?:Mut|Once)?\s*\(")
+OPENED = re.compile(r"[(\[{]")
+# What may stand before a value that is handed over.
+BEFORE_VALUE = re.compile(r"\s*(?:move\b\s*)?")
 GOES_ON = re.compile(r"\s*(?:(?:else\b|[-=<>!&|^+*/%.])[^{};]*)?(?=\{)")
 AFTER_ITEM = re.compile(r"\s*(?:$|[}#]|(?:pub|fn|const|struct|enum|type|impl|mod|use|ghost|extern)\b)")
 
@@ -142,11 +159,25 @@ class Part:
             loops.append(Part(self.name, self.path, self.code, head.start(), at))
         return loops
 
+    def last_value(self, opened):
+        """The last value that is handed over in the brackets from here on."""
+        closed, at = after_group(self.code, opened) - 1, opened + 1
+        while self.code[(more := before(self.code, at, ",") + 1) : closed].strip():
+            at = more
+        return Part(self.name, self.path, self.code, BEFORE_VALUE.match(self.code, at).end(), closed)
+
     def closures(self):
         """The closures that the function around this part is handed, by their names."""
         before_body = self.code[self.code.rfind("fn ", 0, self.start) : self.start].partition("{")[0]
         types = CLOSURE.findall(before_body)
         return {*types, *re.findall(rf"\b(\w+)\s*:\s*(?:&\s*)?(?:mut\s+)?(?:{'|'.join(types)})\b", before_body)} if types else set()
+
+    def limits(self):
+        """Where what there is of the ceiling is set here: by a statement, in a case, or as what a closure takes; each with how."""
+        groups = [(mark.start(), after_group(self.code, mark.start())) for mark in self.found(OPENED)]
+        taken = [(at, self.code[at:end]) for at, end in groups if CASE.match(self.code, end)]
+        taken += [(mark.start(1), mark.group(1)) for mark in self.found(MADE)]
+        return [(mark.start(), mark.group()) for mark in self.found(SET)] + [(at, said) for at, said in taken if LIMIT.search(said)]
 
     def variables(self):
         """The variables that statements make here, each with where it is made, where it is known from and where its block ends."""
@@ -189,7 +220,8 @@ class Crate:
             self.add(plain, Part(f"{name}::{plain}", path, code, 0, 0))
         for constant in CONSTANT.finditer(code):
             end = before(code, constant.end(), ";")
-            self.add(constant.group(1), Part(f"{name}::{constant.group(1)}", path, code, constant.end(), end))
+            # From the sign before the value on, so that a closure or a function is not all that the part has.
+            self.add(constant.group(1), Part(f"{name}::{constant.group(1)}", path, code, constant.end() - 1, end))
 
 
 def shown(way):
@@ -240,6 +272,10 @@ class Trials:
             self.crates[function.crate].add(function.plain, self.functions[-1])
             if not AFTER_ITEM.match(function.code, function.end):
                 self.fault(function.where(), f"where {function.name} ends is not understood")
+            for inner in self.functions[-1].found(INNER):
+                self.fault(self.functions[-1].where(inner.start()), f"{function.name} has a function in it, which is not read here: {inner.group()}")
+            if function.plain in UNSEEN:
+                self.fault(function.where(), f"{function.name} may be called with no name in the code, which is not read here")
 
     def fault(self, where, what):
         self.faults.append(f"{where}: {what}")
@@ -256,8 +292,8 @@ class Trials:
         if None not in named.values():
             self.check_starts(named)
             self.check_rows(named[ROWS])
-            self.check_dividing("a trial", [named[TRIAL], named[LOW], named[PART], *named[PLACES].loops()])
-            self.check_dividing("counting a word", named[WORDS].loops())
+            self.check_dividing("a trial", [named[TRIAL], named[LOW], named[PART], *self.turns(named[PLACES])])
+            self.check_dividing("counting a word", self.turns(named[WORDS]))
             self.check_whole("planning", named[PLAN], named[PLACES])
             self.check_whole("counting", named[COUNT], named[WORDS])
             self.check_stopping(named)
@@ -285,16 +321,41 @@ class Trials:
             self.fault(part.where(part.start), f"{MOMENT} is not called in {PART}")
 
     def check_rows(self, rows):
-        """What goes over the rows with a closure has one loop, and asks the closure once in each turn."""
-        loops = rows.loops()
-        asked = [[mark for mark in part.found(PATH) if mark.group() in rows.closures() and CALLED.match(part.code, mark.end())] for part in (rows, *loops)]
-        if len(loops) != 1 or [len(each) for each in asked] != [1, 1]:
+        """What goes over the rows with a closure has one loop, and asks the closure once in each turn, and does nothing else with it."""
+        loops = self.turns(rows)
+        marks = [[mark for mark in part.found(PATH) if mark.group() in rows.closures()] for part in (rows, *loops)]
+        asked = [CALLED.match(rows.code, mark.end()) is not None for part in marks for mark in part]
+        if len(loops) != 1 or [len(each) for each in marks] != [1, 1] or not all(asked):
             self.fault(rows.where(rows.start), f"{ROWS} does not ask what it is handed once for each row")
 
-    def over_rows(self, part):
-        """What this part hands to ROWS: it is done once for each row."""
-        handed_over = [(at, part.code.index("(", at)) for at in self.calls(part, self.named(ROWS))]
-        return [Part(part.name, part.path, part.code, at, after_group(part.code, opened)) for at, opened in handed_over]
+    def turns(self, part):
+        """What is done in turns in this part: its loops, and what it hands over to be done in turns."""
+        return [*part.loops(), *(value for value in self.handed_over(part) if self.is_seen(value, part))]
+
+    def handed_over(self, part):
+        """What this part hands to ROWS and to methods of EACH, to be done in turns: the last value in the brackets of each call."""
+        opened = [part.code.index("(", at) for at in self.calls(part, self.named(ROWS))] + [mark.end() - 1 for mark in part.found(EACH)]
+        return [part.last_value(at) for at in opened]
+
+    def is_seen(self, value, part):
+        """Whether a value that a part hands over is a closure that is made there, or a function by its name."""
+        return part.code[value.start] == "|" or any(at == value.start for at, _ in self.uncalled(part))
+
+    def uncalled(self, part):
+        """The functions that are named and not called here, each with where."""
+        names = [(at, name) for at, name, targets in self.names(part) if any(target in self.functions for target in targets)]
+        return [(at, name) for at, name in names if not CALLED.match(part.code, PATH.match(part.code, at).end())]
+
+    def unseen(self, part):
+        """What might be done any number of times, as names that lead to nothing: a closure, or a function named and not called, that is not handed over to be
+        done in turns, and anything else that is."""
+        handed = self.handed_over(part)
+        # The part itself may be what is handed over.
+        starts = {part.start, *(value.start for value in handed)}
+        made = [(mark.start(1), mark.group(1)) for mark in part.found(MADE)]
+        kept = [(at, name) for at, name in made + self.uncalled(part) if at not in starts]
+        others = [(value.start, part.code[value.start : value.end].strip()) for value in handed if not self.is_seen(value, part)]
+        return [(at, name, []) for at, name in kept + others]
 
     def check_callers(self, called, looping=(), anywhere=()):
         """A function is called in the loops of each of some functions, anywhere in each of others, and nowhere else."""
@@ -346,12 +407,12 @@ class Trials:
     def check_stopping(self, named):
         """No search of a place goes over more entries than the ceiling has trials left (rule 23.6)."""
         places, within = named[PLACES], named[WITHIN]
-        cuts = [cut for loop in places.loops() for cut in loop.found(CUT)]
+        cuts = [cut for loop in self.turns(places) for cut in loop.found(CUT)]
         if len(cuts) != 1:
             self.fault(places.where(places.start), f"{PLACES} cuts the entries of a place {len(cuts)} times, not once")
-        for mark in places.found(SET):
-            if not any(cut.start() <= mark.start() < cut.end() for cut in cuts):
-                self.fault(places.where(mark.start()), f"{PLACES} sets what it has of the ceiling: {mark.group()}")
+        for at, how in places.limits():
+            if not any(cut.start() <= at < cut.end() for cut in cuts):
+                self.fault(places.where(at), f"{PLACES} sets what it has of the ceiling: {how}")
         for called in (named[LOW], named[TRIAL]):
             for at in self.calls(places, called):
                 if not any(SEARCHED.fullmatch(value) for value in arguments(places, at)) or any(at < cut.start() for cut in cuts):
@@ -361,7 +422,7 @@ class Trials:
                    (named[PLAN], within, -1, "most_trials(t.n)"))
         for caller, called, place, ceiling in handing:
             handed_over = [arguments(caller, at)[place] for at in self.calls(caller, called)]
-            if handed_over != [ceiling] or any(caller.found(SET)):
+            if handed_over != [ceiling] or caller.limits():
                 self.fault(caller.where(caller.start), f"{caller.name} hands {called.name} another ceiling than {ceiling}")
             ways = [shown(way) for way in self.ways(caller, (caller,), (), PLACES)]
             if len(ways) != 1:
@@ -375,7 +436,7 @@ class Trials:
             if not asking(way):
                 known = ", ".join(said(each) for each in ASKING)
                 self.fault(part.where(at), f"{part.name} works out needs of a {what} besides {known}: {shown(way)}")
-            loops = sum(loop.start <= at < loop.end for part, at in way for loop in (*part.loops(), *self.over_rows(part)))
+            loops = sum(loop.start <= at < loop.end for part, at in way for loop in self.turns(part))
             if loops != 1:
                 self.fault(part.where(at), f"{loops} loops, not one, are around a need: {shown(way)}")
         for each in ASKING:
@@ -420,6 +481,7 @@ class Trials:
             self.known[part] = [(mark.start(), mark.group(), []) for mark in part.found(NAMELESS)]
             variables = part.variables()
             self.known[part] += filter(None, (self.name(part, found, variables) for found in part.found(PATH)))
+            self.known[part] += self.unseen(part)
         return self.known[part]
 
     def name(self, part, found, variables):
@@ -434,7 +496,7 @@ class Trials:
         else:
             # A field.
             return None
-        if len(path) == 1 and not targets and path[0] in part.closures():
+        if len(path) == 1 and not targets and part.name == ROWS and path[0] in part.closures():
             return None
         leads = called or len(path) > 1
         return (found.start(), written, targets) if targets or (leads and not BUILT_IN.fullmatch(written)) else None
@@ -510,6 +572,23 @@ def added(crate, code, file="lib.rt"):
     return put
 
 
+def again(code):
+    """Other code for the needs of works at N in a preparation; in it NEEDS stands for them."""
+    needs = "sweep::needs(t.n, t.loading, &t.work, t.normal)"
+    return instead(PREPARE, f"let normal = {needs};", f"let mut normal = [0; 64]; {code.replace('NEEDS', needs)}")
+
+
+def asked(code):
+    """Other code for the needs of all rows, in `a`; in it FIGURE stands for the closure that asks for the need of one."""
+    figure = "|i| checks::need(loading, work[i], speed)"
+    return becomes(ASKING[0][0], f"{{ let mut a = [0; 64]; {code.replace('FIGURE', figure)} a }}")
+
+
+def implemented(trait, head):
+    """A type that does what the language has a name for by a function of its own, which asks for a need."""
+    return f"struct A {{ a: u32 }}\nimpl {trait} for A {{ fn {head} {{ checks::need(0, 1, self.a) }} }}"
+
+
 def edits():
     """Name of a fault, what puts it into a copy, and the pieces of what must be said of it."""
     crate, sweep = TRYING, SWEEP.split("::")[1]
@@ -519,6 +598,10 @@ def edits():
     works, parts, highs = map(said, ASKING)
     hidden = "fn hidden(work: u32) -> u32\n    ensures { result ≡ result }\n{\n    checks::need(0, work, 1)\n}"
     halved = "impl Table { fn halved(self) -> u32 { self.n / 2 } }"
+    value = "const G: u32 = 7; static F: fn(u32) -> u32 = hidden;"
+    many = "fn many<F: Fn() -> [u32; 64]>(make: F) -> [u32; 64] { for k in 0..64 { make(); } make() }"
+    own = "fn own() -> [u32; 64] { sweep::needs(t.n, t.loading, &t.work, t.normal) }"
+    twice = "fn twice<F: Fn(usize) -> u32>(n: u32, figure: F) -> [u32; 64] { by_row(n, &figure); by_row(n, figure) }"
     return [
         ("a division in the trial", [looped(TRIAL, "let a = 7 / 2;")], f"a trial divides (/): {TRIAL}"),
         ("a division beside the trial", [looped(PLACES, "let mut a = 7; a /= 2;")], f"a trial divides (/=): {PLACES}"),
@@ -551,6 +634,17 @@ def edits():
         ("a macro", [first(SWEEP, "unknown!(left);")], "a trial uses unknown, which cannot be followed"),
         ("a call with types", [first(SWEEP, "unknown::<u8>(1);")], "a trial uses ::<, which cannot be followed"),
         ("a call of no name", [first(SWEEP, "(left)(1);")], "a trial uses )(, which cannot be followed"),
+        ("a function in a function", [again("fn Some(t: Table) -> [u32; 64] { NEEDS } normal = Some(t); normal = Some(t);")],
+         f"{PREPARE} has a function in it, which is not read here: fn Some"),
+        ("an iterator of its own", [first(PREPARE, "A { a: 1 }.all(|_| true);"), added("trials", implemented("Iterator", "next(&mut self) -> Option<u32>"))],
+         "A::next may be called with no name in the code"),
+        ("an order of its own", [first(PREPARE, "A { a: 1 }.max(A { a: 2 });"), added("trials", implemented("Ord", "cmp(&self, other: &A) -> Ordering"))],
+         "A::cmp may be called with no name in the code"),
+        ("a partial order of its own",
+         [first(PREPARE, "[A { a: 1 }].is_sorted();"), added("trials", implemented("PartialOrd", "partial_cmp(&self, other: &A) -> Option<Ordering>"))],
+         "A::partial_cmp may be called with no name in the code"),
+        ("a pointer of its own", [first(PREPARE, "A { a: 1 }.iter();"), added("trials", implemented("Deref", "deref(&self) -> &[u32]"))],
+         "A::deref may be called with no name in the code"),
         ("an unknown call in planning", [first(PLAN, "unknown(1);")], f"planning uses unknown, which cannot be followed: {PLAN}"),
         ("the trial under another name", [changed(TRIAL, lambda a, body, b: a.replace(f"fn {trial}", "fn other") + body + b)],
          f"there are 0 functions {TRIAL}, not one"),
@@ -601,9 +695,58 @@ def edits():
         ("a need beside the rows", [first(rows, "checks::need(loading, work[0], speed);")], f"0 loops, not one, are around a need: {PLAN} .. {rows}"),
         ("rows gone through twice", [instead(rows, "by_row(", "by_row(n, |j| by_row(n, |i| checks::need(0, 1, 1))[j]); by_row(")],
          f"2 loops, not one, are around a need: {PLAN} .. {rows}"),
+        ("needs of works in a method's turns", [again("(0..64).all(|_| { normal = NEEDS; true });")],
+         f"2 loops, not one, are around a need: {PLAN} .. {rows}"),
+        ("needs of works in the turns of a chain", [again("t.work.iter().rev().skip(1).all(|_| { normal = NEEDS; true });")],
+         f"2 loops, not one, are around a need: {PLAN} .. {rows}"),
+        ("rows gone through in a method's turns", [asked("(0..64).all(|_| { a = by_row(n, FIGURE); true });")],
+         f"2 loops, not one, are around a need: {PLAN} .. {rows}"),
+        ("a need in turns of turns", [asked("(0..64).all(|_| (0..64).all(|k| { a[k] = checks::need(loading, work[k], speed); true }));")],
+         f"2 loops, not one, are around a need: {PLAN} .. {rows}"),
+        ("places filled in a method's turns", [instead(WITHIN, "choose(t, ceiling)", "{ (0..64).all(|_| { choose(t, ceiling); true }); refused(0) }")],
+         f"2 loops, not one, are around a need: {PLAN} .. {rows}"),
+        ("a need for how many rows there are", [asked("a = by_row(n.min(checks::need(loading, work[0], speed)), |i| 7);")],
+         f"0 loops, not one, are around a need: {PLAN} .. {rows}"),
+        ("a closure that another function calls", [again("normal = many(|| NEEDS);"), added("trials", many)],
+         f"planning uses make, which cannot be followed: {PLAN} > .. > trials::many"),
+        ("a closure handed to another function", [again("normal = many(|| NEEDS);"), added("trials", many)],
+         f"planning uses ||, which cannot be followed: {PLAN} > .. > {PREPARE}"),
+        ("a function handed to another function", [again("normal = many(own);"), added("trials", many), added("trials", own)],
+         f"planning uses own, which cannot be followed: {PLAN} > .. > {PREPARE}"),
+        ("a closure handed on to the rows twice", [asked("for k in 0..1 { a = twice(n, FIGURE); }"), added("sweep", twice)],
+         f"planning uses |i|, which cannot be followed: {PLAN} > .. > {rows}"),
+        ("a closure that is kept", [asked("for k in 0..1 { let f = FIGURE; a = by_row(n, f); a = by_row(n, f); }")],
+         f"planning uses |i|, which cannot be followed: {PLAN} > .. > {rows}"),
+        ("a closure that is kept and called", [asked("for k in 0..1 { let entry = FIGURE; entry(1); entry(2); }")],
+         f"planning uses |i|, which cannot be followed: {PLAN} > .. > {rows}"),
+        ("a closure in a value", [asked("while let Some(f) = Some(FIGURE) { a = by_row(n, f); a = by_row(n, f); }")],
+         f"planning uses |i|, which cannot be followed: {PLAN} > .. > {rows}"),
+        ("a closure in a field", [asked("for k in 0..1 { let f = F { f: FIGURE }; a = by_row(n, f.f); a = by_row(n, f.f); }")],
+         f"planning uses |i|, which cannot be followed: {PLAN} > .. > {rows}"),
+        ("a closure in an array", [asked("for k in 0..1 { let f = [FIGURE]; a = by_row(n, f[0]); a = by_row(n, f[0]); }")],
+         f"planning uses |i|, which cannot be followed: {PLAN} > .. > {rows}"),
+        ("a closure after a block", [asked("for k in 0..1 { let f = { if n == 0 { return a; } FIGURE }; a = by_row(n, f); a = by_row(n, f); }")],
+         f"planning uses |i|, which cannot be followed: {PLAN} > .. > {rows}"),
+        ("a value that rows are asked by", [first(PREPARE, "let a = sweep::by_row(t.n, F);"), added("trials", f"{value} {hidden}")],
+         f"planning uses F, which cannot be followed: {PLAN} > .. > {PREPARE}"),
+        ("a value that a method asks", [first(PREPARE, "(0..64).all(F);"), added("trials", f"{value} {hidden}")],
+         f"planning uses F, which cannot be followed: {PLAN} > .. > {PREPARE}"),
+        ("a closure in a constant", [first(PREPARE, "let f = F;"), added("trials", "const F: fn(usize) -> u32=|i| 7;")],
+         f"planning uses |i|, which cannot be followed: {PLAN} > .. > trials::F"),
+        ("a function that is kept", [asked("for k in 0..1 { let f = checks::need; a = by_row(n, f); a = by_row(n, f); }")],
+         f"planning uses checks::need, which cannot be followed: {PLAN} > .. > {rows}"),
+        ("a function in a constant", [first(PREPARE, "let f = F;"), added("trials", "const F: fn(u32) -> u32=hidden;"), added("trials", hidden)],
+         f"planning uses hidden, which cannot be followed: {PLAN} > .. > trials::F"),
+        ("a function kept in the rows' turns", [asked("a = by_row(n, |i| { let f = checks::need; by_row(n, f)[i] + by_row(n, f)[i] });")],
+         f"planning uses checks::need, which cannot be followed: {PLAN} > .. > {rows}"),
+        ("what goes over rows, named before another call", [asked("let f = by_row; a = twice(n, FIGURE);"), added("sweep", twice)],
+         f"planning uses by_row, which cannot be followed: {PLAN} > .. > {rows}"),
         ("a row asked twice", [instead(ROWS, "figure(i)", "figure(i) + figure(i)")], f"{ROWS} does not ask what it is handed once for each row"),
         ("one row asked", [becomes(ROWS, "{ [figure(0); 64] }")], f"{ROWS} does not ask what it is handed once for each row"),
         ("a row asked beside the loop", [first(ROWS, "figure(0);")], f"{ROWS} does not ask what it is handed once for each row"),
+        ("a row asked in a method's turns", [instead(ROWS, "column[i] = figure(i);", "(0..64).all(|_| { column[i] = figure(i); true });")],
+         f"{ROWS} does not ask what it is handed once for each row"),
+        ("what rows are asked by, handed on", [first(ROWS, "(0..64).all(&figure);")], f"{ROWS} does not ask what it is handed once for each row"),
         ("a closure that divides", [first(SWEEP, "let a = sweep::by_row(n, |i| 7 / i);")], f"a trial divides (/): .. > {SWEEP}"),
         ("a function handed on that divides", [first(SWEEP, "let a = sweep::by_row(n, half);"), added(crate, "fn half(a: usize) -> u32 { 7 / 2 }")],
          f"a trial divides (/): .. > {SWEEP} > {crate}::half"),
@@ -618,6 +761,17 @@ def edits():
         ("a ceiling for each place", [instead(PLACES, "ceiling - made", "ceiling - 0")], f"{PLACES} cuts the entries of a place 0 times"),
         ("entries allowed again", [instead(PLACES, "let found =", "let allowed = tries; let found =")], f"{PLACES} sets what it has of the ceiling"),
         ("a ceiling that grows", [looped(PLACES, "ceiling += 1;")], f"{PLACES} sets what it has of the ceiling"),
+        ("entries allowed again out of a value", [instead(PLACES, "let found =", "let Some(allowed) = Some(tries) else { return a; }; let found =")],
+         f"{PLACES} sets what it has of the ceiling: let Some(allowed"),
+        ("entries allowed again out of two", [instead(PLACES, "let found =", "let (Ok(a), allowed) = (Ok(0), tries) else { return b; }; let found =")],
+         f"{PLACES} sets what it has of the ceiling: let (Ok(a), allowed"),
+        ("entries allowed again in a case", [instead(PLACES, "let found =", "match Ok((0, tries)) { Ok((a, allowed)) => b, Err(why) => c } let found =")],
+         f"{PLACES} sets what it has of the ceiling: ((a, allowed))"),
+        ("entries allowed again by a closure", [instead(PLACES, "let found =", "(tries..tries + 1).all(|allowed| a.has(allowed & w.low)); let found =")],
+         f"{PLACES} sets what it has of the ceiling: |allowed|"),
+        ("entries cut in a method's turns", [instead(PLACES, "let allowed = trials::first_entries(tries, ceiling - made);",
+                                                     "(0..2).all(|_| { let allowed = trials::first_entries(tries, ceiling - made); true });")],
+         f"{PLACES} cuts the entries of a place 2 times"),
         ("all trials made first", [instead(WITHIN, "choose(t, ceiling)", "choose(t, most_trials(t.n))")], f"{WITHIN} hands {PLACES} another ceiling"),
         ("a whole planning before", [first(EXPORTED, "let whole = planner::plan(t);")], f"2 ways, not one, lead from {EXPORTED} to {PLACES}"),
         ("a whole planning before, over words", [first(BOUNDARY, "let whole = planner::plan(t);")], f"2 ways, not one, lead from {BOUNDARY} to {PLACES}"),
@@ -625,6 +779,12 @@ def edits():
         ("all trials for C made first", [instead(EXPORTED, "(table, ceiling,", "(table, 2080,")], f"{EXPORTED} hands {BOUNDARY} another ceiling"),
         ("another ceiling that is enough", [instead(PLAN, "most_trials(t.n)", "2080")], f"{PLAN} hands {WITHIN} another ceiling"),
         ("a ceiling raised before", [first(WITHIN, "let ceiling = ceiling | 4095;")], f"{WITHIN} hands {PLACES} another ceiling"),
+        ("a ceiling out of a value", [instead(WITHIN, "choose(t, ceiling)", "match Some(4095) { Some(ceiling) => choose(t, ceiling), None => a }")],
+         f"{WITHIN} hands {PLACES} another ceiling"),
+        ("a ceiling out of two", [instead(WITHIN, "choose(t, ceiling)", "match (4095, Ok(1)) { (ceiling, Ok(a)) if a > 0 => choose(t, ceiling), b => c }")],
+         f"{WITHIN} hands {PLACES} another ceiling"),
+        ("a ceiling that a closure takes", [instead(WITHIN, "choose(t, ceiling)", "(4095..4096).all(|ceiling| choose(t, ceiling))")],
+         f"{WITHIN} hands {PLACES} another ceiling"),
         ("a preparation without a body", [becomes(PREPARE, ";")], f"{PREPARE} has no body: {PLAN}"),
         ("the need for a variable", [first(SWEEP, "let need = need;"), added(crate, "use checks::*;")], f"a trial works out a need (need): .. > {SWEEP}"),
         ("the need after a variable's block", [first(SWEEP, "{ let need = 7; } let a = need;"), added(crate, "use checks::*;")],
@@ -633,6 +793,11 @@ def edits():
          f"a trial works out a need (need): .. > {SWEEP}"),
         ("a division in the loop of counting", [looped(WORDS, "let a = 7 / 2;")], f"counting a word divides (/): {WORDS}"),
         ("a division in the head of that loop", [instead(WORDS, "1..all + 1", "1..all / 1")], f"counting a word divides (/): {WORDS}"),
+        ("a division in a method's turns before that loop", [first(WORDS, "(1..64).all(|a| 7 / a == 1);")], f"counting a word divides (/): {WORDS}"),
+        ("a division in a method's turns before the places", [first(PLACES, "(1..64).all(|a| 7 / a == 1);")], f"a trial divides (/): {PLACES}"),
+        ("a division in the rows' turns before that loop",
+         [first(WORDS, "let a = sweep::by_row(t.n, half);"), added(counts, "fn half(a: usize) -> u32 { 7 / 2 }")],
+         f"counting a word divides (/): {WORDS} > {counts}::half"),
         ("a division in a word's sum", [first(TOTAL, "let a = 7 / 2;")], f"counting a word divides (/): {WORDS} > {TOTAL}"),
         ("a remainder in the question for standing", [first(STANDS, "let mut a = 7; a %= 2;")], f"counting a word divides (%=): .. > {STANDS}"),
         ("a remainder beside the shared sweep", [first(ALL, "let a = 7 % 2;")], f"counting a word divides (%): {WORDS} > {ALL}"),
@@ -686,6 +851,12 @@ def no_faults():
         ("comments and texts", [first(SWEEP, "/* 7 / 2 { */ let a = b\"checks::need(7 % 2) }\"; // unknown(7 / 2)\n let b = b'/';")]),
         ("contracts", [with_clause(SWEEP, clauses)]),
         ("built-in operations", [first(SWEEP, "let a = u64::trailing_zeros(left) >> u32::MIN; let b = queue.len();")]),
+        ("turns of a method", [first(SWEEP, "let a = period.iter().rev().skip(1).all(|row| *row == 0);")]),
+        ("a closure and a function that rows are asked by",
+         [first(PREPARE, "let a = sweep::by_row(t.n, move |i| t.level[i]); let b = sweep::by_row(t.n, seven,);"),
+          added("trials", "fn seven(a: usize) -> u32 { 7 }")]),
+        ("bars around no closure",
+         [first(SWEEP, "let a = (left | 1) | 2 | n as u64; if n == 1 || n == 2 || !(n > 3) { match n { 1 | 2 | 3 => {} _ => {} } }")]),
         ("brackets after words of the language", [first(SWEEP, "if (n > 0) & !(n > 64) { return (n); }")]),
         ("a value of an enum", [first(SWEEP, "let a = C::NoOrder(left);"), added(crate, "use rules::Plan as C;")]),
         ("fields and variables named as a function",

@@ -26,7 +26,7 @@ struct RowState {
 
 // Whether a row has used the need of this work at this speed, in slots (rules 1.8, 1.10): it has loaded, and at that speed the slots after
 // that bring the work. The product is at most 2,000,000 slots times 1,000 work units per slot, so it fits.
-#[tactic(auto, using(crate::specs::Products::need_loading, crate::specs::Products::need_product))]
+#[tactic(auto, using(crate::specs::Products::need_loading, crate::specs::Products::need_product, crate::specs::Products::product_fits))]
 fn need_used(work: u32, speed: u32, loading: u32, used: u32) -> bool
     requires { (1 ≤ speed) × (speed ≤ 1000) × (used ≤ 2000000) }
     ensures { result ≡ leb (need loading work speed) used }
@@ -35,6 +35,7 @@ fn need_used(work: u32, speed: u32, loading: u32, used: u32) -> bool
 }
 
 // Whether the row at index k has used up its allowance if it is LO: the need of its work at N and that of its promised part at G, both (rule 1.9).
+#[tactic(auto, using(crate::specs::Products::first_used, crate::specs::Products::first_unused))]
 fn allowance_used(table: &Table, k: usize, used: u32) -> bool
     requires { (k < 64) × SpeedsFit table.now × (used ≤ 2000000) }
     ensures { result ≡ spent_in table.now k used }

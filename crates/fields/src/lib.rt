@@ -80,7 +80,7 @@ pub fn number(bytes: &[u8], start: usize) -> u32
     requires { (start + 8 ≤ length bytes.now) × (is_field (field_at bytes.now start) ≡ true) }
     ensures { result ≡ value_of (field_at bytes.now start) }
 {
-    read_field(bytes, start).unwrap()
+    read_field(bytes, start).unwrap_or(0)
 }
 
 // The digit of a number at a weight, as its byte (48 is "0").
@@ -143,8 +143,9 @@ impl Text<'_> {
         requires { self.old.at < length self.old.out.now }
         ensures { Puts self.old self.new (byte ∷ []) }
     {
-        self.out[self.at] = byte;
-        self.at += 1;
+        let at = self.at;
+        self.out[at] = byte;
+        self.at = at + 1;
     }
 
     // Bytes, one after the other.
@@ -152,10 +153,14 @@ impl Text<'_> {
         requires { self.old.at + length bytes.now ≤ length self.old.out.now }
         ensures { Puts self.old self.new bytes.now }
     {
-        // One by one: a copy of the whole calls memmove, which the C header does not say that the archive needs.
-        for byte in bytes {
-            self.put_byte(*byte);
+        // One by one: a copy of the whole calls memmove, which the C header does not say that the archive needs. By `out` and `at`, here and below,
+        // and not by `put_byte`: for all that the compiler knows, each of its writes changes the text's own fields, which it then reads again.
+        let at = self.at;
+        let out = &mut *self.out;
+        for (i, byte) in bytes.iter().enumerate() {
+            out[at + i] = *byte;
         }
+        self.at = at + bytes.len();
     }
 
     // A number as a field.
@@ -184,9 +189,12 @@ impl Text<'_> {
         requires { (size < 100000000) × (self.old.at + 8 ≤ length self.old.out.now) }
         ensures { Puts self.old self.new (signed_columns below size) }
     {
-        for weight in &WEIGHTS {
-            self.put_byte(figure_byte(below, size, *weight));
+        let at = self.at;
+        let out = &mut *self.out;
+        for (i, weight) in WEIGHTS.iter().enumerate() {
+            out[at + i] = figure_byte(below, size, *weight);
         }
+        self.at = at + 8;
     }
 
     // A whole number of at most eight digits as a figure: a space, a space or the minus, and eight bytes by the weights.

@@ -1,7 +1,7 @@
--- The first bytes are written.
-use Rattle.std.proofs.Common.{take}
-use Rattle.fields.specs.Texts.{Puts}
+-- The first i bytes are copied.
+use Rattle.std.proofs.Common.{◌≡◌}
+use Rattle.std.proofs.Math.Seq.{paste}
 use Rattle.fields.proofs.Text.put_bytes.Given as goal
 
-abbrev pub invariant-loop-byte : goal.invariant-loop-byte
-invariant-loop-byte l = Puts l.initial.self l.self (take l.byte-index l.bytes)
+abbrev pub invariant-loop-i : goal.invariant-loop-i
+invariant-loop-i l = l.out ≡ paste l.initial.out l.at l.bytes l.i
